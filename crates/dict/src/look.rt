@@ -1,0 +1,27 @@
+// A look at the live bucket table (paper 01: look).
+use lookup::state::is_sound;
+use model::State;
+ghost use mathlib.Core.Path.{_≡_};
+ghost use Rattle.model.specs.Calls as calls;
+
+fn buckets_in<'a>(current: &'a [u32], other: &'a [u32], entries: &[u32], s: State) -> &'a [u32]
+    ensures { λ r. ⌜ now r ≡ calls.bucketsIn s (now (entries .entry)) (now (current .entry)) (now (other .entry)) ⌝ }
+{
+    let size = s.old_size as usize;
+    if is_sound(current.len(), other.len(), entries.len(), s) {
+        &current[..size]
+    } else {
+        &current[..0]
+    }
+}
+
+// The current table as a part of the buffer that it lies in; empty where the state is not sound.
+pub fn buckets<'a>(first: &'a [u32], second: &'a [u32], entries: &[u32], s: State) -> &'a [u32]
+    ensures { λ r. ⌜ now r ≡ calls.buckets s (now (first .entry)) (now (second .entry)) (now (entries .entry)) ⌝ }
+{
+    if s.second_is_current {
+        buckets_in(second, first, entries, s)
+    } else {
+        buckets_in(first, second, entries, s)
+    }
+}

@@ -1,0 +1,41 @@
+// The size that a resize should take (paper 01: suggested size).
+use lookup::state::is_sound;
+use model::{Error, LARGEST_SIZE, SizeAnswer, State};
+ghost use mathlib.Core.Path.{_≡_};
+ghost use Rattle.model.specs.Calls as calls;
+
+// The smallest power of two that is not below n, and never above the largest size.
+fn size_for(n: u32) -> u32
+    ensures { λ r. ⌜ r ≡ calls.sizeFor n ⌝ }
+{
+    let mut size: u32 = 1;
+    while (size < n) & (size < LARGEST_SIZE) {
+        size *= 2;
+    }
+    size
+}
+
+fn suggest_in(current: &[u32], other: &[u32], entries: &[u32], s: State, growing: bool) -> SizeAnswer
+    ensures { λ r. ⌜ r ≡ calls.suggestedSizeIn s (now (entries .entry)) growing (now (current .entry)) (now (other .entry)) ⌝ }
+{
+    if is_sound(current.len(), other.len(), entries.len(), s) {
+        let keys = s.old_used + s.new_used;
+        if growing {
+            SizeAnswer::Suggested(size_for(keys * 2))
+        } else {
+            SizeAnswer::Suggested(size_for(keys))
+        }
+    } else {
+        SizeAnswer::Refused(Error::BadState)
+    }
+}
+
+pub fn suggested_size(first: &[u32], second: &[u32], entries: &[u32], s: State, growing: bool) -> SizeAnswer
+    ensures { λ r. ⌜ r ≡ calls.suggestedSize s (now (first .entry)) (now (second .entry)) (now (entries .entry)) growing ⌝ }
+{
+    if s.second_is_current {
+        suggest_in(second, first, entries, s, growing)
+    } else {
+        suggest_in(first, second, entries, s, growing)
+    }
+}

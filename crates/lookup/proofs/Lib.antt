@@ -1,0 +1,4 @@
+-- What the loops keep, what each turn gives, and what the parts of a lookup come to.
+mod Counting
+mod Searching
+mod Lookups

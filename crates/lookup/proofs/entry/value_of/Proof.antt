@@ -1,0 +1,26 @@
+use borrow.Author.Needs.{needs}
+use Rattle.model.proofs.Fields.{value-at}
+use Rattle.lookup.proofs.entry.value_of.Statement.{statement}
+use Rattle.lookup.proofs.entry.value_of.Tie as tie
+
+sub-at : tie.Need-sub-at
+sub-at c = search needs
+
+mul-at : tie.Need-mul-at
+mul-at c = search needs
+
+add-result : tie.Need-add-result
+add-result c = search needs
+
+mul-result : tie.Need-mul-result
+mul-result c = search needs
+
+shared-slice-read-result : tie.Need-shared-slice-read-result
+shared-slice-read-result c = search needs
+
+returns : tie.Need-returns
+returns c = search value-at
+
+pub value-of-spec : {M : Type 1} → statement M
+value-of-spec =
+    tie.close (tie.spec sub-at mul-at add-result mul-result shared-slice-read-result returns)

@@ -1,0 +1,5 @@
+-- Laws about the definitions of specs/.
+pub mod Power
+pub mod Fields
+pub mod Chains
+pub mod Soundness

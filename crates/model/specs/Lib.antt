@@ -1,0 +1,5 @@
+pub mod Keys
+pub mod Limits
+pub mod Memory
+pub mod Answers
+pub mod Calls

@@ -1,0 +1,21 @@
+-- The limits (paper 01, "The memory").
+use Prim.Native.Nat.{ℕ, zero, suc, _^_}
+use mathlib.Core.Bool.{Bool, _||_}
+use lib.Dec.{eqb}
+
+-- the largest capacity
+unfoldable pub largestCapacity : ℕ
+largestCapacity = 4096
+
+-- the largest table has 2 to this power buckets
+unfoldable pub largestExponent : ℕ
+largestExponent = 12
+
+-- whether n is a power of two, from 2^0 to 2^b
+unfoldable pub powerUpTo : ℕ → ℕ → Bool
+powerUpTo zero n = eqb n 1
+powerUpTo (suc b) n = powerUpTo b n || eqb n (2 ^ suc b)
+
+-- a table size: a power of two, 1 to the largest size
+unfoldable pub legalSize : ℕ → Bool
+legalSize n = powerUpTo largestExponent n

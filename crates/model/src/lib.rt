@@ -1,0 +1,101 @@
+// The types of the store: the state that its caller holds, and what each call answers. What the calls mean is in specs/.
+
+// The most entries that a store can have.
+pub const LARGEST_CAPACITY: u32 = 4096;
+
+// The most buckets that a table can have.
+pub const LARGEST_SIZE: u32 = 4096;
+
+// What the caller holds between calls (paper 01: the state), in the paper's order.
+pub struct State {
+    // Which bucket buffer is the current one: the second, or else the first.
+    pub second_is_current: bool,
+    // The sizes of the live tables. The old table lies in the current buffer. The new one lies in the other buffer
+    // during a rehash; at any other time its size is 0.
+    pub old_size: u32,
+    pub new_size: u32,
+    // The keys held in each table.
+    pub old_used: u32,
+    pub new_used: u32,
+    // Whether a rehash (paper 01: a move) is under way, and the next bucket of the old table to move.
+    pub rehashing: bool,
+    pub rehash_index: u32,
+    // The first entry of the free list, 0 where there is none.
+    pub free_head: u32,
+    pub capacity: u32,
+}
+
+// Why a call refused (paper 01, "Answers"). A walk that is short of room says so in its own answer.
+pub enum Error {
+    BadState,
+    Damaged,
+    Absent,
+    Present,
+    Full,
+    BadSize,
+    Rehashing,
+    NotRehashing,
+}
+
+// Where a key is, after its chains were read.
+pub enum Lookup {
+    // A chain is not sound.
+    Damaged,
+    // The chains are sound, and the key is on none.
+    Absent,
+    // The first entry with the key: in which table, and the entry before it on its chain, 0 at the head.
+    At {
+        in_new: bool,
+        before: u32,
+        entry: u32,
+    },
+}
+
+// A refused start hands back a state of zeros.
+pub enum InitAnswer {
+    Ready(State),
+    Refused(Error, State),
+}
+
+pub enum FindAnswer {
+    Found(u32),
+    Refused(Error),
+}
+
+pub enum UpdateAnswer {
+    Updated,
+    Refused(Error),
+}
+
+pub enum AddAnswer {
+    Added(State),
+    Refused(Error),
+}
+
+pub enum DeleteAnswer {
+    Deleted(State),
+    Refused(Error),
+}
+
+pub enum ResizeAnswer {
+    Resized(State),
+    Refused(Error),
+}
+
+// A step answers how many entries it moved; the state says whether the rehash goes on.
+pub enum StepAnswer {
+    Stepped(u32, State),
+    Refused(Error),
+}
+
+pub enum SizeAnswer {
+    Suggested(u32),
+    Refused(Error),
+}
+
+// A walk call answers the next cursor and how many keys it handed out; a short one, how many it would have.
+pub enum ScanAnswer {
+    Scanned(u32, u32),
+    Short(u32),
+    Refused(Error),
+}

@@ -12,7 +12,7 @@ use lib.Pow.{pow-pos}
 use Rattle.cursor.specs.Reverse.{reverse, rev}
 use Rattle.cursor.specs.Next.{next}
 use Rattle.cursor.specs.Group.{betweenZero, sweep, twoTables}
-use Rattle.cursor.proofs.Member.{In, Distinct}
+use Rattle.cursor.specs.Member.{In, Distinct}
 use Rattle.cursor.proofs.Reversal.{reverse-lt, reverse-split, reverse-mod, reverse-twice}
 use Rattle.cursor.proofs.Interval.{Interval, interval, start-reversed, start-order}
 use Rattle.cursor.proofs.Sweep.{upFrom, remaining, sweep-whole, fuel}

@@ -5,7 +5,6 @@ pub mod NextCursor
 pub mod Loop
 pub mod HighBits
 pub mod Interval
-pub mod Member
 pub mod Sweep
 pub mod LargeBuckets
 pub mod Walks

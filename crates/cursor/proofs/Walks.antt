@@ -9,7 +9,7 @@ use lib.ListN.{length}
 use Rattle.cursor.specs.Reverse.{reverse, rev}
 use Rattle.cursor.specs.Next.{next}
 use Rattle.cursor.specs.Group.{Group, oneTable, twoTables}
-use Rattle.cursor.proofs.Member.{In}
+use Rattle.cursor.specs.Member.{In}
 use Rattle.cursor.proofs.Reversal.{reverse-lt, reverse-zero}
 use Rattle.cursor.proofs.Interval.{Interval, interval}
 use Rattle.cursor.proofs.LargeBuckets.{two-answers, two-large}

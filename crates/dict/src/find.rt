@@ -2,7 +2,10 @@
 use lookup::entry::value_of;
 use lookup::search::look_up;
 use lookup::state::is_sound;
-use model::{Error, FindAnswer, Lookup, State};
+use model::Error;
+use model::FindAnswer;
+use model::Lookup;
+use model::State;
 ghost use mathlib.Core.Path.{_≡_};
 ghost use Rattle.model.specs.Calls as calls;
 
@@ -14,7 +17,14 @@ fn find_in(current: &[u32], other: &[u32], entries: &[u32], s: State, key: u32) 
         match at {
             Lookup::Damaged => FindAnswer::Refused(Error::Damaged),
             Lookup::Absent => FindAnswer::Refused(Error::Absent),
-            Lookup::At { in_new: _, before: _, entry } => FindAnswer::Found(value_of(entries, entry)),
+            Lookup::At {
+                in_new: _,
+                before: _,
+                entry,
+            } => {
+                let value = value_of(entries, entry);
+                FindAnswer::Found(value)
+            }
         }
     } else {
         FindAnswer::Refused(Error::BadState)

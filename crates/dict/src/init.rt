@@ -1,31 +1,31 @@
 // A new store (paper 01: start).
 use crate::clear::clear;
+use lookup::entry::set_entry;
 use lookup::state::is_legal_size;
-use model::{Error, InitAnswer, LARGEST_CAPACITY, State};
+use model::Error;
+use model::InitAnswer;
+use model::LARGEST_CAPACITY;
+use model::State;
 ghost use mathlib.Core.Path.{_≡_};
 ghost use mathlib.Core.List.{_++_};
-ghost use Prim.Native.Nat.{_*_, _≤_, _<_};
+ghost use Prim.Native.Nat.{_*_, _≤_};
 ghost use lib.ListN.{length, drop};
 ghost use Rattle.model.specs.Calls as calls;
 ghost use Rattle.model.specs.Calls.After.{after};
 
-// Entries 1 to the capacity as the free list, each linked to the next, keys and values 0.
+// Entries 1 to the capacity as the free list, each linked to the next, keys and values 0. From the last one down, so
+// that the link to write is the entry written before.
 fn link_free(entries: &mut [u32], capacity: u32)
-    requires { ⌜ (0 < capacity) × (capacity * 3 ≤ length (now entries)) ⌝ }
+    requires { ⌜ capacity * 3 ≤ length (now entries) ⌝ }
     ensures { λ _. ⌜ now (entries .exit) ≡ calls.freeEntries 1 capacity ++ drop (capacity * 3) (now (entries .entry)) ⌝ }
 {
-    let mut n: u32 = 1;
-    let mut at = 0;
-    while n < capacity {
-        entries[at] = n + 1;
-        entries[at + 1] = 0;
-        entries[at + 2] = 0;
-        at += 3;
-        n += 1;
+    let mut n = capacity;
+    let mut link = 0;
+    while 0 < n {
+        set_entry(entries, n, link, 0, 0);
+        link = n;
+        n -= 1;
     }
-    entries[at] = 0;
-    entries[at + 1] = 0;
-    entries[at + 2] = 0;
 }
 
 // The state that a refused start hands back.
@@ -62,12 +62,20 @@ fn new_state(capacity: u32, size: u32) -> State
     }
 }
 
-pub fn init(first: &mut [u32], second: &mut [u32], entries: &mut [u32], capacity: u32, size: u32) -> InitAnswer
+pub fn init(
+    first: &mut [u32],
+    second: &mut [u32],
+    entries: &mut [u32],
+    capacity: u32,
+    size: u32,
+) -> InitAnswer
     ensures { λ r. ⌜ after r (now (first .exit)) (now (second .exit)) (now (entries .exit))
         ≡ calls.init (now (first .entry)) (now (second .entry)) (now (entries .entry)) capacity size ⌝ }
 {
-    if (1 <= capacity) & (capacity <= LARGEST_CAPACITY) & is_legal_size(size) {
-        if (size as usize <= first.len()) & (capacity as usize * 3 <= entries.len()) {
+    let within_limits = (1 <= capacity) & (capacity <= LARGEST_CAPACITY) & is_legal_size(size);
+    let long_enough = (size as usize <= first.len()) & (capacity as usize * 3 <= entries.len());
+    if within_limits {
+        if long_enough {
             clear(first, size);
             link_free(entries, capacity);
             InitAnswer::Ready(new_state(capacity, size))

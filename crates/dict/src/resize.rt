@@ -1,7 +1,10 @@
 // Begin a rehash into a table of another size (paper 01: resize).
 use crate::clear::clear;
-use lookup::state::{is_legal_size, is_sound};
-use model::{Error, ResizeAnswer, State};
+use lookup::state::is_legal_size;
+use lookup::state::is_sound;
+use model::Error;
+use model::ResizeAnswer;
+use model::State;
 ghost use mathlib.Core.Path.{_≡_};
 ghost use Rattle.model.specs.Calls as calls;
 ghost use Rattle.model.specs.Calls.After.{after};
@@ -32,7 +35,13 @@ fn start_in(current: &[u32], other: &mut [u32], entries: &[u32], s: State, size:
     }
 }
 
-fn start_oriented(first: &mut [u32], second: &mut [u32], entries: &[u32], s: State, size: u32) -> Begin
+fn start_oriented(
+    first: &mut [u32],
+    second: &mut [u32],
+    entries: &[u32],
+    s: State,
+    size: u32,
+) -> Begin
     ensures { λ r. ⌜ after (beginAnswer s size r) (now (first .exit)) (now (second .exit)) (now (entries .entry))
         ≡ calls.resize s (now (first .entry)) (now (second .entry)) (now (entries .entry)) size ⌝ }
 {
@@ -43,7 +52,13 @@ fn start_oriented(first: &mut [u32], second: &mut [u32], entries: &[u32], s: Sta
     }
 }
 
-pub fn resize(first: &mut [u32], second: &mut [u32], entries: &[u32], s: State, size: u32) -> ResizeAnswer
+pub fn resize(
+    first: &mut [u32],
+    second: &mut [u32],
+    entries: &[u32],
+    s: State,
+    size: u32,
+) -> ResizeAnswer
     ensures { λ r. ⌜ after r (now (first .exit)) (now (second .exit)) (now (entries .entry))
         ≡ calls.resize s (now (first .entry)) (now (second .entry)) (now (entries .entry)) size ⌝ }
 {

@@ -1,8 +1,12 @@
 // The size that a resize should take (paper 01: suggested size).
 use lookup::state::is_sound;
-use model::{Error, LARGEST_SIZE, SizeAnswer, State};
+use model::Error;
+use model::LARGEST_SIZE;
+use model::SizeAnswer;
+use model::State;
 ghost use mathlib.Core.Path.{_≡_};
 ghost use Rattle.model.specs.Calls as calls;
+ghost use Rattle.model.proofs.Soundness.{Counted};
 
 // The smallest power of two that is not below n, and never above the largest size.
 fn size_for(n: u32) -> u32
@@ -15,22 +19,42 @@ fn size_for(n: u32) -> u32
     size
 }
 
-fn suggest_in(current: &[u32], other: &[u32], entries: &[u32], s: State, growing: bool) -> SizeAnswer
+// For the keys that both tables hold, which the capacity bounds.
+fn suggest_for(s: State, growing: bool) -> u32
+    requires { ⌜ Counted s ⌝ }
+    ensures { λ r. ⌜ r ≡ calls.suggested growing (calls.keysHeld s) ⌝ }
+{
+    let keys = s.old_used + s.new_used;
+    if growing {
+        size_for(keys * 2)
+    } else {
+        size_for(keys)
+    }
+}
+
+fn suggest_in(
+    current: &[u32],
+    other: &[u32],
+    entries: &[u32],
+    s: State,
+    growing: bool,
+) -> SizeAnswer
     ensures { λ r. ⌜ r ≡ calls.suggestedSizeIn s (now (entries .entry)) growing (now (current .entry)) (now (other .entry)) ⌝ }
 {
     if is_sound(current.len(), other.len(), entries.len(), s) {
-        let keys = s.old_used + s.new_used;
-        if growing {
-            SizeAnswer::Suggested(size_for(keys * 2))
-        } else {
-            SizeAnswer::Suggested(size_for(keys))
-        }
+        SizeAnswer::Suggested(suggest_for(s, growing))
     } else {
         SizeAnswer::Refused(Error::BadState)
     }
 }
 
-pub fn suggested_size(first: &[u32], second: &[u32], entries: &[u32], s: State, growing: bool) -> SizeAnswer
+pub fn suggested_size(
+    first: &[u32],
+    second: &[u32],
+    entries: &[u32],
+    s: State,
+    growing: bool,
+) -> SizeAnswer
     ensures { λ r. ⌜ r ≡ calls.suggestedSize s (now (first .entry)) (now (second .entry)) (now (entries .entry)) growing ⌝ }
 {
     if s.second_is_current {

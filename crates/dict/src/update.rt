@@ -2,12 +2,22 @@
 use lookup::entry::set_value;
 use lookup::search::look_up;
 use lookup::state::is_sound;
-use model::{Error, Lookup, State, UpdateAnswer};
+use model::Error;
+use model::Lookup;
+use model::State;
+use model::UpdateAnswer;
 ghost use mathlib.Core.Path.{_≡_};
 ghost use Rattle.model.specs.Calls as calls;
 ghost use Rattle.model.specs.Calls.After.{after};
 
-fn update_in(current: &[u32], other: &[u32], entries: &mut [u32], s: State, key: u32, value: u32) -> UpdateAnswer
+fn update_in(
+    current: &[u32],
+    other: &[u32],
+    entries: &mut [u32],
+    s: State,
+    key: u32,
+    value: u32,
+) -> UpdateAnswer
     ensures { λ r. ⌜ after r (now (current .entry)) (now (other .entry)) (now (entries .exit))
         ≡ calls.updateIn s (now (entries .entry)) key value (now (current .entry)) (now (other .entry)) ⌝ }
 {
@@ -16,7 +26,11 @@ fn update_in(current: &[u32], other: &[u32], entries: &mut [u32], s: State, key:
         match at {
             Lookup::Damaged => UpdateAnswer::Refused(Error::Damaged),
             Lookup::Absent => UpdateAnswer::Refused(Error::Absent),
-            Lookup::At { in_new: _, before: _, entry } => {
+            Lookup::At {
+                in_new: _,
+                before: _,
+                entry,
+            } => {
                 set_value(entries, entry, value);
                 UpdateAnswer::Updated
             }
@@ -26,7 +40,14 @@ fn update_in(current: &[u32], other: &[u32], entries: &mut [u32], s: State, key:
     }
 }
 
-pub fn update(first: &[u32], second: &[u32], entries: &mut [u32], s: State, key: u32, value: u32) -> UpdateAnswer
+pub fn update(
+    first: &[u32],
+    second: &[u32],
+    entries: &mut [u32],
+    s: State,
+    key: u32,
+    value: u32,
+) -> UpdateAnswer
     ensures { λ r. ⌜ after r (now (first .entry)) (now (second .entry)) (now (entries .exit))
         ≡ calls.update s (now (first .entry)) (now (second .entry)) (now (entries .entry)) key value ⌝ }
 {

@@ -40,22 +40,23 @@ module _ (entries : List ℕ) (capacity budget head : ℕ) where
 
   module _ (at left : ℕ) (h : Counting entries capacity budget head at left) where
     pub counting-out : (at ≡ 0 → ⊥) → (eqb left 0 || ltb capacity at) ≡ true
-      → ChainLength.Unsound ≡ lengthOf (chain entries capacity budget head)
+        → ChainLength.Unsound ≡ lengthOf (chain entries capacity budget head)
     unfolding grown lengthOf
     counting-out f t = rw (chain-bad entries capacity left at f t) at (h .same)
 
     pub counting-next : (next : ℕ) → (at ≡ 0 → ⊥) → (eqb left 0 || ltb capacity at) ≡ false → next ≡ linkOf entries at
-      → Counting entries capacity budget head next (left - 1)
+        → Counting entries capacity budget head next (left - 1)
     counting-next next f t e =
         let l = budget-left capacity left at t in
         let w = h .within in
-        record
-          { within = omega arith
-          ; same =
+        record {
+          within = omega arith;
+          same =
               rw e
               (grown-one (budget - left) (budget - (left - 1)) at (chain entries capacity (left - 1) (linkOf entries at)) (omega arith)
               ∙ ap (λ (o : Option (List ℕ)). grown (budget - left) (lengthOf o)) (sym (chain-good entries capacity left at f t))
-              ∙ h .same) }
+              ∙ h .same);
+        }
 
     pub counting-end : at ≡ 0 → ChainLength.Sound (budget - left) ≡ lengthOf (chain entries capacity budget head)
     unfolding grown lengthOf

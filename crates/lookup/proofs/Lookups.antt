@@ -21,9 +21,9 @@ looked-in entries capacity used buckets size key b inNew r e h = rw e at h
 -- the definition once it is known whether a rehash is under way
 at-flag : (s : State) (current other entries : List ℕ) (key : ℕ) (t : Bool) → s .rehashing ≡ t
     → cond t
-      (both (lookupIn false entries (s .capacity) (s .«old_used») current (s .«old_size») key)
-      (lookupIn true entries (s .capacity) (s .«new_used») other (s .«new_size») key))
-      (lookupIn false entries (s .capacity) (s .«old_used») current (s .«old_size») key)
+    (both (lookupIn false entries (s .capacity) (s .«old_used») current (s .«old_size») key)
+    (lookupIn true entries (s .capacity) (s .«new_used») other (s .«new_size») key))
+    (lookupIn false entries (s .capacity) (s .«old_used») current (s .«old_size») key)
     ≡ lookup s current other entries key
 unfolding lookup
 at-flag s current other entries key t e =
@@ -40,6 +40,6 @@ module _ (s : State) (current other entries : List ℕ) (key : ℕ) (old : Looku
   looked-up-resting e = o ∙ at-flag s current other entries key false e
 
   pub looked-up-rehashing : (new r : Lookup) → s .rehashing ≡ true
-    → new ≡ lookupIn true entries (s .capacity) (s .«new_used») other (s .«new_size») key → r ≡ both old new
-    → r ≡ lookup s current other entries key
+      → new ≡ lookupIn true entries (s .capacity) (s .«new_used») other (s .«new_size») key → r ≡ both old new
+      → r ≡ lookup s current other entries key
   looked-up-rehashing new r e n h = (rw (o, n) at h) ∙ at-flag s current other entries key true e

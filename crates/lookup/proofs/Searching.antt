@@ -22,19 +22,19 @@ pub record Searching (entries : List ℕ) (capacity budget head key : ℕ) (inNe
 
 module _ (entries : List ℕ) (key : ℕ) (inNew : Bool) (before at : ℕ) where
   hit-sound : (o : Option (List ℕ)) (n : ℕ) → keyOf entries at ≡ key → ChainLength.Sound n ≡ lengthOf o
-    → Lookup.At inNew before at ≡ searched entries key inNew before (Option·map (λ ns. at ∷ ns) o)
+      → Lookup.At inNew before at ≡ searched entries key inNew before (Option·map (λ ns. at ∷ ns) o)
   unfolding searched firstWith lengthOf
   hit-sound none n k e = let z : _≡_ {A = ℕ} 0 1 = cc in absurd (omega arith)
   hit-sound (some ns) n k e = rw (eq-eqb (keyOf entries at) key k)
 
   hit-bad : (o : Option (List ℕ)) → ChainLength.Unsound ≡ lengthOf o
-    → Lookup.Damaged ≡ searched entries key inNew before (Option·map (λ ns. at ∷ ns) o)
+      → Lookup.Damaged ≡ searched entries key inNew before (Option·map (λ ns. at ∷ ns) o)
   unfolding searched lengthOf
   hit-bad none e = refl
   hit-bad (some ns) e = let z : _≡_ {A = ℕ} 0 1 = cc in absurd (omega arith)
 
   passed : (o : Option (List ℕ)) → (keyOf entries at ≡ key → ⊥)
-    → searched entries key inNew at o ≡ searched entries key inNew before (Option·map (λ ns. at ∷ ns) o)
+      → searched entries key inNew at o ≡ searched entries key inNew before (Option·map (λ ns. at ∷ ns) o)
   unfolding searched firstWith
   passed none f = refl
   passed (some ns) f = rw (ne-eqb (keyOf entries at) key f)
@@ -49,7 +49,7 @@ module _ (entries : List ℕ) (capacity budget head key : ℕ) (inNew : Bool) wh
     searching-end e = rw (chain-end entries capacity left at e) at (h .same)
 
     pub searching-out : (at ≡ 0 → ⊥) → (eqb left 0 || ltb capacity at) ≡ true
-      → Lookup.Damaged ≡ searched entries key inNew 0 (chain entries capacity budget head)
+        → Lookup.Damaged ≡ searched entries key inNew 0 (chain entries capacity budget head)
     unfolding searched
     searching-out f t = rw (chain-bad entries capacity left at f t) at (h .same)
 
@@ -63,16 +63,16 @@ module _ (entries : List ℕ) (capacity budget head key : ℕ) (inNew : Bool) wh
 
       module _ (rest : ChainLength) (r : rest ≡ lengthOf (chain entries capacity (left - 1) next)) where
         pub searching-hit : (k n : ℕ) → k ≡ keyOf entries at → k ≡ key → rest ≡ ChainLength.Sound n
-          → Lookup.At inNew before at ≡ searched entries key inNew 0 (chain entries capacity budget head)
+            → Lookup.At inNew before at ≡ searched entries key inNew 0 (chain entries capacity budget head)
         searching-hit k n e p s =
             hit-sound entries key inNew before at (chain entries capacity (left - 1) next) n (sym e ∙ p) (sym s ∙ r) ∙ reached
 
         pub searching-hit-bad : rest ≡ ChainLength.Unsound
-          → Lookup.Damaged ≡ searched entries key inNew 0 (chain entries capacity budget head)
+            → Lookup.Damaged ≡ searched entries key inNew 0 (chain entries capacity budget head)
         searching-hit-bad s =
             hit-bad entries key inNew before at (chain entries capacity (left - 1) next) (sym s ∙ r) ∙ reached
 
       pub searching-next : (k : ℕ) → k ≡ keyOf entries at → (k ≡ key → ⊥)
-        → Searching entries capacity budget head key inNew next at (left - 1)
+          → Searching entries capacity budget head key inNew next at (left - 1)
       searching-next k e g =
           record { same = passed entries key inNew before at (chain entries capacity (left - 1) next) (λ p. g (e ∙ p)) ∙ reached }

@@ -1,8 +1,11 @@
 // Where a key is: one lookup serves find, update, add and delete.
-use crate::chain::{ChainLength, chain_length};
-use crate::entry::{key_of, link_of};
+use crate::chain::ChainLength;
+use crate::chain::chain_length;
+use crate::entry::key_of;
+use crate::entry::link_of;
 use crate::state::bucket_index;
-use model::{Lookup, State};
+use model::Lookup;
+use model::State;
 ghost use mathlib.Core.Path.{_≡_};
 ghost use mathlib.Core.Bool.{true};
 ghost use Prim.Native.Nat.{_*_, _≤_};
@@ -13,7 +16,14 @@ ghost use Rattle.model.specs.Calls.{searched, lookupIn, both, lookup};
 ghost use Rattle.model.proofs.Soundness.{Sound};
 
 // The first entry of a chain with the key. The rest of the chain is read too: it must be sound to its end.
-pub fn search_chain(entries: &[u32], capacity: u32, budget: u32, head: u32, key: u32, in_new: bool) -> Lookup
+pub fn search_chain(
+    entries: &[u32],
+    capacity: u32,
+    budget: u32,
+    head: u32,
+    key: u32,
+    in_new: bool,
+) -> Lookup
     requires { ⌜ capacity * 3 ≤ length (now entries) ⌝ }
     ensures { λ r. ⌜ r ≡ searched (now (entries .entry)) key «in_new» 0 (chain (now (entries .entry)) capacity budget head) ⌝ }
 {
@@ -30,7 +40,11 @@ pub fn search_chain(entries: &[u32], capacity: u32, budget: u32, head: u32, key:
             let rest = chain_length(entries, capacity, left, next);
             return match rest {
                 ChainLength::Unsound => Lookup::Damaged,
-                ChainLength::Sound(_) => Lookup::At { in_new, before, entry: at },
+                ChainLength::Sound(_) => Lookup::At {
+                    in_new,
+                    before,
+                    entry: at,
+                },
             };
         }
         before = at;
@@ -63,10 +77,18 @@ fn both_tables(old: Lookup, new: Lookup) -> Lookup
     match old {
         Lookup::Damaged => Lookup::Damaged,
         Lookup::Absent => new,
-        Lookup::At { in_new: _, before: _, entry: _ } => match new {
+        Lookup::At {
+            in_new: _,
+            before: _,
+            entry: _,
+        } => match new {
             Lookup::Damaged => Lookup::Damaged,
             Lookup::Absent => old,
-            Lookup::At { in_new: _, before: _, entry: _ } => old,
+            Lookup::At {
+                in_new: _,
+                before: _,
+                entry: _,
+            } => old,
         },
     }
 }
@@ -76,9 +98,25 @@ pub fn look_up(current: &[u32], other: &[u32], entries: &[u32], s: State, key: u
     requires { ⌜ Sound s (now current) (now other) (now entries) ⌝ }
     ensures { λ r. ⌜ r ≡ lookup s (now (current .entry)) (now (other .entry)) (now (entries .entry)) key ⌝ }
 {
-    let old = lookup_in(false, entries, s.capacity, s.old_used, current, s.old_size, key);
+    let old = lookup_in(
+        false,
+        entries,
+        s.capacity,
+        s.old_used,
+        current,
+        s.old_size,
+        key,
+    );
     if s.rehashing {
-        let new = lookup_in(true, entries, s.capacity, s.new_used, other, s.new_size, key);
+        let new = lookup_in(
+            true,
+            entries,
+            s.capacity,
+            s.new_used,
+            other,
+            s.new_size,
+            key,
+        );
         both_tables(old, new)
     } else {
         old

@@ -1,5 +1,7 @@
 // Whether a state is sound, and a key's bucket.
-use model::{LARGEST_CAPACITY, LARGEST_SIZE, State};
+use model::LARGEST_CAPACITY;
+use model::LARGEST_SIZE;
+use model::State;
 ghost use mathlib.Core.Path.{_≡_};
 ghost use mathlib.Core.Bool.{true};
 ghost use Prim.Native.Nat.{_<_};

@@ -23,7 +23,7 @@ module _ (entries : List ℕ) (capacity : ℕ) where
 
   -- the code's test that ends a chain that is not sound
   pub chain-bad : (budget at : ℕ) → (at ≡ 0 → ⊥) → (eqb budget 0 || ltb capacity at) ≡ true
-    → chain entries capacity budget at ≡ none
+      → chain entries capacity budget at ≡ none
   unfolding chain met
   chain-bad budget zero f t = absurd (f refl)
   chain-bad zero (suc at) f t = refl
@@ -31,7 +31,7 @@ module _ (entries : List ℕ) (capacity : ℕ) where
 
   -- where that test fails, the entry is met and its link followed
   pub chain-good : (budget at : ℕ) → (at ≡ 0 → ⊥) → (eqb budget 0 || ltb capacity at) ≡ false
-    → chain entries capacity budget at ≡ Option·map (λ ns. at ∷ ns) (chain entries capacity (budget - 1) (linkOf entries at))
+      → chain entries capacity budget at ≡ Option·map (λ ns. at ∷ ns) (chain entries capacity (budget - 1) (linkOf entries at))
   unfolding chain met
   chain-good budget zero f t = absurd (f refl)
   chain-good zero (suc at) f t = let z : _≡_ {A = ℕ} 0 1 = cc in absurd (omega arith)

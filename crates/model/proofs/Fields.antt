@@ -57,7 +57,7 @@ module _ (entries : List ℕ) where
 -- the three writes of a whole entry
 pub set-entry-at : (entries : List ℕ) (n link key value : ℕ) → 0 < n
     → set (set (set entries ((n - 1) * 3) link) ((n - 1) * 3 + 1) key) ((n - 1) * 3 + 2) value
-      ≡ setEntry entries n link key value
+    ≡ setEntry entries n link key value
 unfolding setEntry
 set-entry-at entries n link key value h = simp (set-link-at, set-key-at, set-value-at, h)
 

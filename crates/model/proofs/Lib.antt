@@ -3,3 +3,5 @@ pub mod Power
 pub mod Fields
 pub mod Chains
 pub mod Soundness
+pub mod Cases
+pub mod Lookups

@@ -60,26 +60,43 @@ freeEntries n (suc behind) = freeLink n behind ∷ 0 ∷ 0 ∷ freeEntries (suc 
 
 unfoldable pub noState : State
 noState =
-    record
-      { «second_is_current» = false; «old_size» = 0; «new_size» = 0; «old_used» = 0; «new_used» = 0
-      ; rehashing = false; «rehash_index» = 0; «free_head» = 0; capacity = 0 }
+    record {
+      «second_is_current» = false;
+      «old_size» = 0;
+      «new_size» = 0;
+      «old_used» = 0;
+      «new_used» = 0;
+      rehashing = false;
+      «rehash_index» = 0;
+      «free_head» = 0;
+      capacity = 0;
+    }
 
 unfoldable pub newState : ℕ → ℕ → State
 newState capacity size =
-    record
-      { «second_is_current» = false; «old_size» = size; «new_size» = 0; «old_used» = 0; «new_used» = 0
-      ; rehashing = false; «rehash_index» = 0; «free_head» = 1; capacity = capacity }
+    record {
+      «second_is_current» = false;
+      «old_size» = size;
+      «new_size» = 0;
+      «old_used» = 0;
+      «new_used» = 0;
+      rehashing = false;
+      «rehash_index» = 0;
+      «free_head» = 1;
+      capacity = capacity;
+    }
 
 unfoldable pub withinLimits : ℕ → ℕ → Bool
 withinLimits capacity size = leb 1 capacity && leb capacity largestCapacity && legalSize size
 
-unfoldable pub longEnough : ℕ → ℕ → List ℕ → List ℕ → Bool
-longEnough capacity size first entries = leb size (length first) && leb (capacity * 3) (length entries)
+-- the first bucket buffer and the entry buffer, by their lengths
+unfoldable pub longEnough : ℕ → ℕ → ℕ → ℕ → Bool
+longEnough capacity size first entries = leb size first && leb (capacity * 3) entries
 
 unfoldable pub init : List ℕ → List ℕ → List ℕ → ℕ → ℕ → After InitAnswer
 init first second entries capacity size =
     cond (withinLimits capacity size)
-    (cond (longEnough capacity size first entries)
+    (cond (longEnough capacity size (length first) (length entries))
     (After.after (InitAnswer.Ready (newState capacity size)) (cleared size first) second
     (freeEntries 1 capacity ++ drop (capacity * 3) entries))
     (After.after (InitAnswer.Refused Error.BadState noState) first second entries))
@@ -158,17 +175,31 @@ update s first second entries key value =
 -- the state once the first free entry, with that link, is in the old or the new table
 unfoldable pub addedOld : State → ℕ → State
 addedOld s link =
-    record
-      { «second_is_current» = s .«second_is_current»; «old_size» = s .«old_size»; «new_size» = s .«new_size»
-      ; «old_used» = s .«old_used» + 1; «new_used» = s .«new_used»; rehashing = s .rehashing
-      ; «rehash_index» = s .«rehash_index»; «free_head» = link; capacity = s .capacity }
+    record {
+      «second_is_current» = s .«second_is_current»;
+      «old_size» = s .«old_size»;
+      «new_size» = s .«new_size»;
+      «old_used» = s .«old_used» + 1;
+      «new_used» = s .«new_used»;
+      rehashing = s .rehashing;
+      «rehash_index» = s .«rehash_index»;
+      «free_head» = link;
+      capacity = s .capacity;
+    }
 
 unfoldable pub addedNew : State → ℕ → State
 addedNew s link =
-    record
-      { «second_is_current» = s .«second_is_current»; «old_size» = s .«old_size»; «new_size» = s .«new_size»
-      ; «old_used» = s .«old_used»; «new_used» = s .«new_used» + 1; rehashing = s .rehashing
-      ; «rehash_index» = s .«rehash_index»; «free_head» = link; capacity = s .capacity }
+    record {
+      «second_is_current» = s .«second_is_current»;
+      «old_size» = s .«old_size»;
+      «new_size» = s .«new_size»;
+      «old_used» = s .«old_used»;
+      «new_used» = s .«new_used» + 1;
+      rehashing = s .rehashing;
+      «rehash_index» = s .«rehash_index»;
+      «free_head» = link;
+      capacity = s .capacity;
+    }
 
 -- the entry at the head of bucket b: the table, and the entries
 unfoldable pub pushBucket : List ℕ → ℕ → ℕ → List ℕ
@@ -218,17 +249,31 @@ add s first second entries key value = orientedBack (s .«second_is_current») (
 
 unfoldable pub deletedOld : State → ℕ → State
 deletedOld s n =
-    record
-      { «second_is_current» = s .«second_is_current»; «old_size» = s .«old_size»; «new_size» = s .«new_size»
-      ; «old_used» = s .«old_used» - 1; «new_used» = s .«new_used»; rehashing = s .rehashing
-      ; «rehash_index» = s .«rehash_index»; «free_head» = n; capacity = s .capacity }
+    record {
+      «second_is_current» = s .«second_is_current»;
+      «old_size» = s .«old_size»;
+      «new_size» = s .«new_size»;
+      «old_used» = s .«old_used» - 1;
+      «new_used» = s .«new_used»;
+      rehashing = s .rehashing;
+      «rehash_index» = s .«rehash_index»;
+      «free_head» = n;
+      capacity = s .capacity;
+    }
 
 unfoldable pub deletedNew : State → ℕ → State
 deletedNew s n =
-    record
-      { «second_is_current» = s .«second_is_current»; «old_size» = s .«old_size»; «new_size» = s .«new_size»
-      ; «old_used» = s .«old_used»; «new_used» = s .«new_used» - 1; rehashing = s .rehashing
-      ; «rehash_index» = s .«rehash_index»; «free_head» = n; capacity = s .capacity }
+    record {
+      «second_is_current» = s .«second_is_current»;
+      «old_size» = s .«old_size»;
+      «new_size» = s .«new_size»;
+      «old_used» = s .«old_used»;
+      «new_used» = s .«new_used» - 1;
+      rehashing = s .rehashing;
+      «rehash_index» = s .«rehash_index»;
+      «free_head» = n;
+      capacity = s .capacity;
+    }
 
 -- entry n off its chain, where it stands behind another entry or at the head of bucket b: the table, and the entries
 unfoldable pub unlinkBucket : List ℕ → List ℕ → ℕ → ℕ → ℕ → List ℕ
@@ -273,10 +318,17 @@ acceptable s other size = legalSize size && not (eqb size (s .«old_size»)) && 
 
 unfoldable pub resizing : State → ℕ → State
 resizing s size =
-    record
-      { «second_is_current» = s .«second_is_current»; «old_size» = s .«old_size»; «new_size» = size
-      ; «old_used» = s .«old_used»; «new_used» = 0; rehashing = true
-      ; «rehash_index» = 0; «free_head» = s .«free_head»; capacity = s .capacity }
+    record {
+      «second_is_current» = s .«second_is_current»;
+      «old_size» = s .«old_size»;
+      «new_size» = size;
+      «old_used» = s .«old_used»;
+      «new_used» = 0;
+      rehashing = true;
+      «rehash_index» = 0;
+      «free_head» = s .«free_head»;
+      capacity = s .capacity;
+    }
 
 unfoldable pub resized : State → List ℕ → List ℕ → List ℕ → ℕ → Bool → After ResizeAnswer
 resized s current other entries size true = After.after (ResizeAnswer.Refused Error.Rehashing) current other entries
@@ -319,18 +371,32 @@ movedEntries size buckets entries (n ∷ ns) =
 -- once the chain of bucket b, of that many entries, has moved
 unfoldable pub steppedPast : State → ℕ → ℕ → State
 steppedPast s b count =
-    record
-      { «second_is_current» = s .«second_is_current»; «old_size» = s .«old_size»; «new_size» = s .«new_size»
-      ; «old_used» = s .«old_used» - count; «new_used» = s .«new_used» + count; rehashing = true
-      ; «rehash_index» = suc b; «free_head» = s .«free_head»; capacity = s .capacity }
+    record {
+      «second_is_current» = s .«second_is_current»;
+      «old_size» = s .«old_size»;
+      «new_size» = s .«new_size»;
+      «old_used» = s .«old_used» - count;
+      «new_used» = s .«new_used» + count;
+      rehashing = true;
+      «rehash_index» = suc b;
+      «free_head» = s .«free_head»;
+      capacity = s .capacity;
+    }
 
 -- the new table becomes the only one
 unfoldable pub finished : State → State
 finished s =
-    record
-      { «second_is_current» = not (s .«second_is_current»); «old_size» = s .«new_size»; «new_size» = 0
-      ; «old_used» = s .«new_used»; «new_used» = 0; rehashing = false
-      ; «rehash_index» = 0; «free_head» = s .«free_head»; capacity = s .capacity }
+    record {
+      «second_is_current» = not (s .«second_is_current»);
+      «old_size» = s .«new_size»;
+      «new_size» = 0;
+      «old_used» = s .«new_used»;
+      «new_used» = 0;
+      rehashing = false;
+      «rehash_index» = 0;
+      «free_head» = s .«free_head»;
+      capacity = s .capacity;
+    }
 
 unfoldable pub movedChain : State → List ℕ → List ℕ → List ℕ → ℕ → Option (List ℕ) → After StepAnswer
 movedChain s current other entries b none = After.after (StepAnswer.Refused Error.Damaged) current other entries

@@ -1,3 +1,5 @@
+-- `lookup::state::is_sound` meets its contract: either half of the definition, by the flag.
+-- Assumes nothing.
 use borrow.Author.Needs.{needs}
 use Rattle.model.proofs.Soundness.{sound-rehashing, sound-resting}
 use Rattle.model.specs.Memory.{soundState, soundMove}

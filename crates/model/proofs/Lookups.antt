@@ -1,0 +1,121 @@
+-- What a lookup's answer names: entries in range, in a table that is live and not empty.
+-- Assumes nothing.
+use Prim.Native.Nat.{ℕ, zero, suc, _*_, _≤_, _<_}
+use mathlib.Core.Path.{_≡_, refl, sym, subst, _∙_}
+use mathlib.Core.Bool.{Bool, true, false, cond}
+use mathlib.Core.List.{List, [], _∷_}
+use mathlib.Core.Option.{Option, none, some}
+use native.Mathlib.Omega.{arith}
+use lib.ListN.{length}
+use lib.Dec.{leb, eqb}
+use borrow.Author.Tests.{leb-true}
+use Rattle.model.specs.declared.State.{State}
+use Rattle.model.specs.declared.Lookup.{Lookup}
+use Rattle.model.specs.Memory.{linkOf, keyOf, met, chain, bucketChain}
+use Rattle.model.specs.Calls.{firstWith, searched, both, lookupIn, lookup}
+use Rattle.model.proofs.Soundness.{Sound}
+
+-- the keys held in the new or the old table
+unfoldable pub usedIn : State → Bool → ℕ
+usedIn s true = s .«new_used»
+usedIn s false = s .«old_used»
+
+-- an entry that a lookup found, and the one before it
+pub record Located (s : State) (inNew : Bool) (before n : ℕ) : Type 0 where
+  pub before-fits : before ≤ s .capacity
+  pub entry-some : 0 < n
+  pub entry-fits : n ≤ s .capacity
+  pub used-some : 0 < usedIn s inNew
+  pub rehashing-new : inNew ≡ true → s .rehashing ≡ true
+
+-- nothing is said where a lookup found no entry
+Found : State → Lookup → Type 0
+Found s Lookup.Damaged = Unit {0}
+Found s Lookup.Absent = Unit {0}
+Found s (Lookup.At inNew before n) = Located s inNew before n
+
+-- the entries of a chain are in range, and one that has entries had a budget
+InRange : ℕ → ℕ → List ℕ → Type 0
+InRange capacity budget [] = Unit {0}
+InRange capacity budget (n ∷ ns) = (0 < budget) × (0 < n) × (n ≤ capacity) × InRange capacity budget ns
+
+InRangeIf : ℕ → ℕ → Option (List ℕ) → Type 0
+InRangeIf capacity budget none = Unit {0}
+InRangeIf capacity budget (some ns) = InRange capacity budget ns
+
+more-budget : (capacity budget : ℕ) (ns : List ℕ) → InRange capacity budget ns → InRange capacity (suc budget) ns
+unfolding InRange
+more-budget capacity budget [] h = tt
+more-budget capacity budget (n ∷ ns) h = (omega arith, h .1, h .2, more-budget capacity budget ns (h .3))
+
+met-in-range : (capacity budget n : ℕ) (t : Bool) (rest : Option (List ℕ)) → (t ≡ true → suc n ≤ capacity)
+    → InRangeIf capacity budget rest → InRangeIf capacity (suc budget) (met t (suc n) rest)
+unfolding InRange InRangeIf met
+met-in-range capacity budget n false rest f h = tt
+met-in-range capacity budget n true none f h = tt
+met-in-range capacity budget n true (some ns) f h = (omega arith, omega arith, f refl, more-budget capacity budget ns h)
+
+chain-in-range : (entries : List ℕ) (capacity budget at : ℕ) → InRangeIf capacity budget (chain entries capacity budget at)
+unfolding InRange InRangeIf chain
+chain-in-range entries capacity zero zero = tt
+chain-in-range entries capacity zero (suc n) = tt
+chain-in-range entries capacity (suc budget) zero = tt
+chain-in-range entries capacity (suc budget) (suc n) =
+    met-in-range capacity budget n (leb (suc n) capacity) (chain entries capacity budget (linkOf entries (suc n)))
+    (leb-true (suc n) capacity) (chain-in-range entries capacity budget (linkOf entries (suc n)))
+
+found-both : (s : State) (old new : Lookup) → Found s old → Found s new → Found s (both old new)
+unfolding Found both
+found-both s Lookup.Damaged new o h = tt
+found-both s Lookup.Absent new o h = h
+found-both s (Lookup.At inNew before n) Lookup.Damaged o h = tt
+found-both s (Lookup.At inNew before n) Lookup.Absent o h = o
+found-both s (Lookup.At inNew before n) (Lookup.At inNew′ before′ n′) o h = o
+
+found-cond : (s : State) (t : Bool) (a b : Lookup) → (t ≡ true → Found s a) → Found s b → Found s (cond t a b)
+found-cond s true a b f g = f refl
+found-cond s false a b f g = g
+
+-- in one table
+module _ (s : State) (entries : List ℕ) (key : ℕ) (inNew : Bool) (live : inNew ≡ true → s .rehashing ≡ true) where
+  found-first : (before : ℕ) (ns : List ℕ) → before ≤ s .capacity → InRange (s .capacity) (usedIn s inNew) ns
+      → Found s (firstWith entries key inNew before ns)
+  unfolding Found InRange firstWith
+  found-first before [] b h = tt
+  found-first before (n ∷ ns) b h =
+      found-cond s (eqb (keyOf entries n) key) (Lookup.At inNew before n) (firstWith entries key inNew n ns)
+      (λ e. record { before-fits = b; entry-some = h .1; entry-fits = h .2; used-some = h .0; rehashing-new = live })
+      (found-first n ns (h .2) (h .3))
+
+  found-searched : (o : Option (List ℕ)) → InRangeIf (s .capacity) (usedIn s inNew) o
+      → Found s (searched entries key inNew 0 o)
+  unfolding Found InRangeIf searched
+  found-searched none h = tt
+  found-searched (some ns) h = found-first 0 ns (omega arith) h
+
+  found-in : (buckets : List ℕ) (size : ℕ)
+      → Found s (lookupIn inNew entries (s .capacity) (usedIn s inNew) buckets size key)
+  unfolding lookupIn bucketChain
+  found-in buckets size = found-searched _ (chain-in-range entries (s .capacity) (usedIn s inNew) _)
+
+module _ (s : State) (current other entries : List ℕ) (key : ℕ) where
+  found-lookup : Found s (lookup s current other entries key)
+  unfolding lookup usedIn
+  found-lookup =
+      let old = found-in s entries key false (λ e. (cc)) current (s .«old_size») in
+      found-cond s (s .rehashing) _ _
+      (λ t. found-both s _ _ old (found-in s entries key true (λ e. t) other (s .«new_size»)))
+      old
+
+  module _ (r : Lookup) (inNew : Bool) (before n : ℕ) (e : r ≡ lookup s current other entries key)
+      (a : r ≡ Lookup.At inNew before n) where
+    pub located : Located s inNew before n
+    unfolding Found
+    located = subst (Found s) (sym e ∙ a) found-lookup
+
+    -- what reading or writing the entry asks
+    pub found-some : 0 < n
+    found-some = located .entry-some
+
+    pub found-fits : Sound s current other entries → n * 3 ≤ length entries
+    found-fits h = let l = located in let b = h .base in omega arith

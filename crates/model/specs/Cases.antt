@@ -1,0 +1,53 @@
+-- Paper 01, "Cases": those that are marked to be proved, as one table. The statement over it is in proofs/Cases.antt.
+use Prim.Native.Nat.{ℕ}
+use mathlib.Core.Path.{_≡_}
+use mathlib.Core.Bool.{Bool, true, false}
+use mathlib.Core.List.{List, [], _∷_}
+use Rattle.cursor.specs.Group.{Group, oneTable, twoTables}
+use Rattle.model.specs.Calls.{suggested}
+
+-- A walk's cursor at one live table, or at two; any cursor at one table; the suggested size for some keys.
+pub data Row : Type 0 where
+  at-one : (size cursor bucket next : ℕ) → Row
+  at-two : (small large cursor bucket : ℕ) (buckets : List ℕ) (next : ℕ) → Row
+  at-any : (size next : ℕ) → Row
+  suggests : (growing : Bool) (keys size : ℕ) → Row
+
+-- the group is that bucket of the smaller table and those of the larger, and that cursor is answered
+unfoldable pub Gives : Group → ℕ → List ℕ → ℕ → Type 0
+Gives g bucket buckets next = (g .small ≡ bucket) × (g .large ≡ buckets) × (g .answered ≡ next)
+
+unfoldable pub Holds : Row → Type 0
+Holds (Row.at-one size cursor bucket next) = Gives (oneTable size cursor) bucket [] next
+Holds (Row.at-two small large cursor bucket buckets next) = Gives (twoTables small large cursor) bucket buckets next
+Holds (Row.at-any size next) = (cursor : ℕ) → oneTable size cursor .answered ≡ next
+Holds (Row.suggests growing keys size) = suggested growing keys ≡ size
+
+unfoldable pub AllHold : List Row → Type 0
+AllHold [] = Unit {0}
+AllHold (row ∷ rows) = Holds row × AllHold rows
+
+unfoldable pub cases : List Row
+cases =
+    Row.at-one 4 0 0 2
+    ∷ Row.at-one 4 2 2 1
+    ∷ Row.at-one 4 1 1 3
+    ∷ Row.at-one 4 3 3 0
+    ∷ Row.at-one 8 0 0 4
+    ∷ Row.at-one 8 4 4 2
+    ∷ Row.at-one 8 2 2 6
+    ∷ Row.at-one 8 6 6 1
+    ∷ Row.at-one 8 1 1 5
+    ∷ Row.at-one 8 5 5 3
+    ∷ Row.at-one 8 3 3 7
+    ∷ Row.at-one 8 7 7 0
+    ∷ Row.at-any 1 0
+    ∷ Row.at-one 4 5 1 3
+    ∷ Row.at-one 4 4294967295 3 0
+    ∷ Row.at-two 4 8 2 2 (2 ∷ 6 ∷ []) 1
+    ∷ Row.at-two 4 16 0 0 (0 ∷ 8 ∷ 4 ∷ 12 ∷ []) 2
+    ∷ Row.at-two 4 16 8 0 (8 ∷ 4 ∷ 12 ∷ []) 2
+    ∷ Row.at-one 4 7 3 0
+    ∷ Row.suggests true 5 16
+    ∷ Row.suggests false 5 8
+    ∷ []

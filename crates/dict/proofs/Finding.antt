@@ -11,7 +11,7 @@ use Rattle.model.specs.declared.Lookup.{Lookup}
 use Rattle.model.specs.declared.FindAnswer.{FindAnswer}
 use Rattle.model.specs.Memory.{soundState, valueOf}
 use Rattle.model.specs.Calls.{lookup, found, findIn, find, oriented}
-use Rattle.dict.proofs.Tested.{tested}
+use Rattle.lookup.proofs.Tested.{tested}
 
 module _ (s : State) (current other entries : List ℕ) (key : ℕ) (t : Bool)
     (e : t ≡ soundState (length current) (length other) (length entries) s) where

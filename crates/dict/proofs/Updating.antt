@@ -11,7 +11,7 @@ use Rattle.model.specs.declared.Lookup.{Lookup}
 use Rattle.model.specs.declared.UpdateAnswer.{UpdateAnswer}
 use Rattle.model.specs.Memory.{soundState, setValue}
 use Rattle.model.specs.Calls.{After, lookup, updated, updateIn}
-use Rattle.dict.proofs.Tested.{tested}
+use Rattle.lookup.proofs.Tested.{tested}
 
 module _ (s : State) (current other entries : List ℕ) (key value : ℕ) (t : Bool)
     (e : t ≡ soundState (length current) (length other) (length entries) s) where

@@ -1,1 +1,3 @@
-pub mod Begin
+-- What the functions below a public call hand up: the public call makes its answer of it.
+pub mod Push
+pub mod Removal

@@ -1,7 +1,7 @@
 -- `dict::find::find` meets its contract: the current buffer is chosen once.
 -- Assumes nothing.
 use Rattle.model.specs.Calls as calls
-use Rattle.dict.proofs.Orientation.{read-first, read-second}
+use Rattle.lookup.proofs.Orientation.{read-first, read-second}
 use borrow.Author.Needs.{needs}
 use Rattle.dict.proofs.find.find.Statement.{statement}
 use Rattle.dict.proofs.find.find.Tie as tie

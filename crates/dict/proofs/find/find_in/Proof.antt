@@ -1,7 +1,7 @@
 -- `dict::find::find_in` meets its contract: each way out is a case of the definition.
 -- Assumes nothing.
 use Rattle.model.proofs.Lookups.{found-some}
-use Rattle.dict.proofs.Tested.{tested-entry}
+use Rattle.lookup.proofs.Tested.{tested-entry}
 use Rattle.model.proofs.Soundness.{tested-sound}
 use Rattle.dict.proofs.Finding.{find-bad-state, find-damaged, find-absent, find-value}
 use borrow.Author.Needs.{needs}

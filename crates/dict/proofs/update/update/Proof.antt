@@ -1,7 +1,7 @@
 -- `dict::update::update` meets its contract: the current buffer is chosen once.
 -- Assumes nothing.
 use Rattle.model.specs.Calls as calls
-use Rattle.dict.proofs.Orientation.{oriented-first, oriented-second}
+use Rattle.lookup.proofs.Orientation.{oriented-first, oriented-second}
 use borrow.Author.Needs.{needs}
 use Rattle.dict.proofs.update.update.Statement.{statement}
 use Rattle.dict.proofs.update.update.Tie as tie

@@ -6,3 +6,6 @@ mod NewStore
 mod Resizing
 mod Suggesting
 mod Looking
+mod Linking
+mod Moving
+mod Stepping

@@ -4,5 +4,6 @@
 pub mod clear;
 pub mod init;
 pub mod look;
+pub mod rehash;
 pub mod resize;
 pub mod suggest;

@@ -1,5 +1,0 @@
--- What the parts of a call come to.
-mod Finding
-mod Updating
-mod Pushing
-mod Removing

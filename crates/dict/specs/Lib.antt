@@ -1,3 +1,0 @@
--- What the functions below a public call hand up: the public call makes its answer of it.
-pub mod Push
-pub mod Removal

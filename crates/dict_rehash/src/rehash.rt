@@ -1,0 +1,164 @@
+// One step of a rehash (paper 01: step).
+use lookup::chain::ChainLength;
+use lookup::chain::chain_length;
+use lookup::entry::key_of;
+use lookup::entry::link_of;
+use lookup::entry::set_link;
+use lookup::state::bucket_index;
+use lookup::state::is_sound;
+use model::Error;
+use model::State;
+use model::StepAnswer;
+ghost use mathlib.Core.Path.{_≡_};
+ghost use mathlib.Core.Bool.{true};
+ghost use Prim.Native.Nat.{_-_, _*_, _≤_, _<_};
+ghost use lib.ListN.{length};
+ghost use Rattle.model.specs.Limits.{legalSize};
+ghost use Rattle.model.specs.Calls as calls;
+ghost use Rattle.model.specs.Calls.After.{after};
+ghost use Rattle.model.proofs.Soundness.{SoundBase, SoundMove};
+ghost use Rattle.dict_rehash.specs.Move.{MoveDone, filledAt, ChainOf, ChainMoved, EntryMoved};
+
+// What happened to the buffers, in numbers: the public call makes the answer of it.
+pub enum Move {
+    Refused(Error),
+    // The old table holds no keys.
+    Finished,
+    // The chain of this bucket of the old table has moved, of that many entries.
+    Past(u32, u32),
+}
+
+// The first filled bucket from that one on, or the size where there is none.
+fn first_filled(buckets: &[u32], from: u32, size: u32) -> u32
+    requires { ⌜ (from ≤ size) × (size ≤ length (now buckets)) ⌝ }
+    ensures { λ r. ⌜ filledAt size r ≡ calls.firstFilled (now (buckets .entry)) from (size - from) ⌝ }
+{
+    let mut b = from;
+    while b < size {
+        if buckets[b as usize] != 0 {
+            return b;
+        }
+        b += 1;
+    }
+    b
+}
+
+// An entry to the head of its bucket in a table of that size; the answer is the next entry of the chain that it leaves.
+// The link is read before the entry is linked anew.
+fn move_entry(buckets: &mut [u32], entries: &mut [u32], size: u32, n: u32) -> u32
+    requires { ⌜ (legalSize size ≡ true) × (size ≤ length (now buckets)) ⌝ }
+    requires { ⌜ (0 < n) × (n * 3 ≤ length (now entries)) ⌝ }
+    ensures { λ r. ⌜ EntryMoved size (now (buckets .entry)) (now (entries .entry)) n r (now (buckets .exit)) (now (entries .exit)) ⌝ }
+{
+    let rest = link_of(entries, n);
+    let b = bucket_index(key_of(entries, n), size);
+    let head = buckets[b];
+    set_link(entries, n, head);
+    buckets[b] = n;
+    rest
+}
+
+// The chain of that many entries from its head, in turn, to a table of that size.
+fn move_chain(buckets: &mut [u32], entries: &mut [u32], size: u32, head: u32, count: u32)
+    requires { ⌜ (legalSize size ≡ true) × (size ≤ length (now buckets)) ⌝ }
+    requires { ⌜ ChainOf (now entries) head count ⌝ }
+    ensures { λ _. ⌜ ChainMoved size (now (buckets .entry)) (now (entries .entry)) head (now (buckets .exit)) (now (entries .exit)) ⌝ }
+{
+    let mut at = head;
+    for _ in 0..count {
+        at = move_entry(buckets, entries, size, at);
+    }
+}
+
+// The chain of the first filled bucket from the next one to move. It is read once to test it, so that a refusal leaves
+// the buffers as they were, and once to move it.
+fn move_bucket(current: &mut [u32], other: &mut [u32], entries: &mut [u32], s: State) -> Move
+    requires { ⌜ SoundBase s (length (now current)) (length (now entries)) ⌝ }
+    requires { ⌜ SoundMove s (length (now other)) ⌝ }
+    ensures { λ r. ⌜ MoveDone s r (now (current .exit)) (now (other .exit)) (now (entries .exit))
+        (calls.movedFrom s (now (current .entry)) (now (other .entry)) (now (entries .entry))
+        (calls.firstFilled (now (current .entry)) (s .«rehash_index») (s .«old_size» - s .«rehash_index»))) ⌝ }
+{
+    let b = first_filled(current, s.rehash_index, s.old_size);
+    if b < s.old_size {
+        let head = current[b as usize];
+        let length = chain_length(entries, s.capacity, s.old_used, head);
+        match length {
+            ChainLength::Unsound => Move::Refused(Error::Damaged),
+            ChainLength::Sound(count) => {
+                move_chain(other, entries, s.new_size, head, count);
+                current[b as usize] = 0;
+                Move::Past(b, count)
+            }
+        }
+    } else {
+        Move::Refused(Error::Damaged)
+    }
+}
+
+// On the current and the other bucket buffer: the tests in the order of the answers.
+fn move_in(current: &mut [u32], other: &mut [u32], entries: &mut [u32], s: State) -> Move
+    ensures { λ r. ⌜ MoveDone s r (now (current .exit)) (now (other .exit)) (now (entries .exit))
+        (calls.rehashStepIn s (now (entries .entry)) (now (current .entry)) (now (other .entry))) ⌝ }
+{
+    if is_sound(current.len(), other.len(), entries.len(), s) {
+        if s.rehashing {
+            if s.old_used == 0 {
+                Move::Finished
+            } else {
+                move_bucket(current, other, entries, s)
+            }
+        } else {
+            Move::Refused(Error::NotRehashing)
+        }
+    } else {
+        Move::Refused(Error::BadState)
+    }
+}
+
+// The state says which of the lent buffers is the current one.
+fn move_oriented(first: &mut [u32], second: &mut [u32], entries: &mut [u32], s: State) -> Move
+    ensures { λ r. ⌜ MoveDone s r (now (first .exit)) (now (second .exit)) (now (entries .exit))
+        (calls.rehashStep s (now (first .entry)) (now (second .entry)) (now (entries .entry))) ⌝ }
+{
+    if s.second_is_current {
+        move_in(second, first, entries, s)
+    } else {
+        move_in(first, second, entries, s)
+    }
+}
+
+// Moves the chain of one bucket of the old table, or ends the rehash once that table holds no keys.
+pub fn rehash_step(
+    first: &mut [u32],
+    second: &mut [u32],
+    entries: &mut [u32],
+    s: State,
+) -> StepAnswer
+    ensures { λ r. ⌜ after r (now (first .exit)) (now (second .exit)) (now (entries .exit))
+        ≡ calls.rehashStep s (now (first .entry)) (now (second .entry)) (now (entries .entry)) ⌝ }
+{
+    let moved = move_oriented(first, second, entries, s);
+    match moved {
+        Move::Refused(e) => StepAnswer::Refused(e),
+        Move::Finished => {
+            let mut n = s;
+            n.second_is_current = !s.second_is_current;
+            n.old_size = s.new_size;
+            n.new_size = 0;
+            n.old_used = s.new_used;
+            n.new_used = 0;
+            n.rehashing = false;
+            n.rehash_index = 0;
+            StepAnswer::Stepped(0, n)
+        }
+        Move::Past(b, count) => {
+            let mut n = s;
+            n.old_used = s.old_used - count;
+            n.new_used = s.new_used + count;
+            n.rehashing = true;
+            n.rehash_index = b + 1;
+            StepAnswer::Stepped(count, n)
+        }
+    }
+}

@@ -1,0 +1,8 @@
+-- What the loops keep and what each turn gives, and what the parts of a call come to.
+mod Clearing
+mod Fitting
+mod FreeList
+mod NewStore
+mod Resizing
+mod Suggesting
+mod Looking

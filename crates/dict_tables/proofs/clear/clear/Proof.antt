@@ -1,0 +1,52 @@
+-- `dict_tables::clear::clear` meets its contract: the buckets passed are clear, and the rest is as it was.
+-- Assumes nothing.
+use Prim.Native.Nat.{_-_}
+use native.Mathlib.Omega.{arith}
+use Rattle.dict_tables.proofs.Clearing.{Clearing, clearing-start, clearing-next, clearing-end}
+use Rattle.dict_tables.proofs.clear.clear.Statement.{statement}
+use Rattle.dict_tables.proofs.clear.clear.Tie as tie
+
+abbrev Inv-loop : tie.InvT-loop
+Inv-loop buckets₀ size end i₀ buckets i = Clearing buckets₀ size i buckets
+
+abbrev μ-loop : tie.MeasureT-loop
+μ-loop buckets₀ size end i₀ buckets i = size - i
+
+loop-holds : tie.Need-loop-holds Inv-loop μ-loop
+loop-holds c = search clearing-start
+
+mul-buckets : tie.Need-mul-buckets Inv-loop μ-loop
+mul-buckets c = omega arith
+
+slice-write-buckets : tie.Need-slice-write-buckets Inv-loop μ-loop
+slice-write-buckets c = omega arith
+
+add-i : tie.Need-add-i Inv-loop μ-loop
+add-i c = omega arith
+
+loop-less : tie.Need-loop-less Inv-loop μ-loop
+loop-less c = omega arith
+
+loop-again : tie.Need-loop-again Inv-loop μ-loop
+loop-again c = search clearing-next
+
+same-length : tie.Need-same-length Inv-loop μ-loop
+same-length c = omega arith
+
+returns : tie.Need-returns Inv-loop μ-loop
+returns c = search clearing-end
+
+pub clear-spec : {M : Type 1} → statement M
+clear-spec =
+    tie.close
+    (tie.spec
+    Inv-loop
+    μ-loop
+    loop-holds
+    mul-buckets
+    slice-write-buckets
+    add-i
+    loop-less
+    loop-again
+    same-length
+    returns)

@@ -1,0 +1,36 @@
+-- `dict_tables::suggest::size_for` meets its contract: the size so far is a power of two, and the search from it is the search
+-- from 1.
+-- Assumes nothing.
+use Prim.Native.Nat.{_-_}
+use native.Mathlib.Omega.{arith}
+use Rattle.model.specs.Limits.{largestExponent}
+use Rattle.model.specs.Calls.{sizeFor}
+use Rattle.dict_tables.proofs.Suggesting.{Doubling, below-first, below-second, doubling-start, doubling-some, doubling-next, doubling-done}
+use Rattle.dict_tables.proofs.suggest.size_for.Statement.{statement}
+use Rattle.dict_tables.proofs.suggest.size_for.Tie as tie
+
+abbrev Inv-loop : tie.InvT-loop
+Inv-loop n size₀ size = Doubling largestExponent n size
+
+abbrev μ-loop : tie.MeasureT-loop
+μ-loop n size₀ size = n - size
+
+loop-holds : tie.Need-loop-holds Inv-loop μ-loop
+loop-holds c = search doubling-start
+
+mul-size : tie.Need-mul-size Inv-loop μ-loop
+mul-size c = omega (arith, below-second)
+
+loop-less : tie.Need-loop-less Inv-loop μ-loop
+loop-less c = omega (arith, below-first, doubling-some)
+
+loop-again : tie.Need-loop-again Inv-loop μ-loop
+unfolding largestExponent
+loop-again c = doubling-next largestExponent _ _ (c .before .loop .inv) (c .loop-test .taken)
+
+returns : tie.Need-returns Inv-loop μ-loop
+unfolding largestExponent sizeFor
+returns c = doubling-done largestExponent _ _ (c .before .loop .inv) (c .loop-test .left)
+
+pub size-for-spec : {M : Type 1} → statement M
+size-for-spec = tie.close (tie.spec Inv-loop μ-loop loop-holds mul-size loop-less loop-again returns)

@@ -1,0 +1,9 @@
+-- Demand 2 holds of the calls as model defines them.
+-- Assumes nothing.
+use Rattle.model.specs.Sequences.{perform}
+use Rattle.refinement.specs.Demand2.{Demand2}
+use Rattle.refinement.proofs.KeyedCalls.{as-the-map}
+use Rattle.refinement.proofs.HandingOut.{hands-out}
+
+pub demand2 : Demand2 perform
+demand2 = record { as-the-map = as-the-map; hands-out = hands-out }

@@ -1,0 +1,261 @@
+-- The places of a walk call's group: live buckets, none twice; an entry whose key the group covers is in one of them, and
+-- a key that calls for one of them is of the group.
+-- Assumes nothing.
+use Prim.Native.Nat.{ℕ, _%_, _<_, min, max}
+use mathlib.Core.Path.{_≡_, refl, sym, ap, subst, subst₂, subst₃, _∙_}
+use mathlib.Core.Logic.{_⊎_, inl, inr}
+use mathlib.Core.Bool.{Bool, true, false, not, cond}
+use mathlib.Core.List.{List, [], _∷_, map}
+use native.Mathlib.Nat.{mod-lt, min-eq-left, min-eq-right, max-eq-left, max-eq-right}
+use native.Mathlib.Omega.{arith}
+use lib.Dec.{ltb}
+use lib.Pow.{pow-pos}
+use borrow.Author.Tests.{ltb-true, ltb-false}
+use Rattle.cursor.specs.Member.{In, Distinct}
+use Rattle.cursor.specs.Group.{Group, oneTable, twoTables}
+use Rattle.cursor.proofs.LargeBuckets.{LargeBuckets, two-large}
+use Rattle.model.specs.declared.State.{State}
+use Rattle.model.specs.Keys.{hash, bucketOf}
+use Rattle.model.specs.Memory.{Place, Live, Home, IsBucket}
+use Rattle.model.specs.Sequences.{Tables}
+use Rattle.model.proofs.Soundness.{Sound}
+use Rattle.refinement.specs.Demand2.{placesOf, groupPlaces}
+use Rattle.refinement.specs.Demand3.{groupAt, InGroup}
+use Rattle.refinement.proofs.Members.{in-map, of-map, distinct-map}
+use Rattle.refinement.proofs.LiveTables.{exponent, legal-power, Ordered, ordered, CoversKey, tablesBy, tablesOf, group-tables}
+
+-- ---- the buckets of the new or the old table
+
+unfoldable pub bucketIn : Bool → ℕ → Place
+bucketIn true b = Place.new b
+bucketIn false b = Place.old b
+
+unfoldable pub sizeIn : State → Bool → ℕ
+sizeIn s true = s .«new_size»
+sizeIn s false = s .«old_size»
+
+module _ (s : State) where
+  bucket-live : (t : Bool) (b : ℕ) → b < sizeIn s t → Live s (bucketIn t b)
+  unfolding bucketIn sizeIn Live
+  bucket-live true b l = l
+  bucket-live false b l = l
+
+  bucket-is : (t : Bool) (b : ℕ) → IsBucket (bucketIn t b)
+  unfolding bucketIn IsBucket
+  bucket-is true b = tt
+  bucket-is false b = tt
+
+  bucket-home : (t : Bool) (b key : ℕ) → Home s key (bucketIn t b) → key % sizeIn s t ≡ b
+  unfolding bucketIn sizeIn Home bucketOf hash
+  bucket-home true b key h = h
+  bucket-home false b key h = h
+
+bucket-number : (t : Bool) (b c : ℕ) → bucketIn t b ≡ bucketIn t c → b ≡ c
+unfolding bucketIn
+bucket-number true b c e = cc
+bucket-number false b c e = cc
+
+bucket-apart : (t : Bool) (b c : ℕ) → bucketIn t b ≡ bucketIn (not t) c → ⊥
+unfolding bucketIn
+bucket-apart true b c e = let z : _≡_ {A = ℕ} 0 1 = cc in absurd (omega arith)
+bucket-apart false b c e = let z : _≡_ {A = ℕ} 0 1 = cc in absurd (omega arith)
+
+-- every bucket is one of the table's or of the other's
+bucket-cases : (t : Bool) (p : Place) → IsBucket p → ((b : ℕ) × (p ≡ bucketIn t b)) ⊎ ((b : ℕ) × (p ≡ bucketIn (not t) b))
+unfolding bucketIn IsBucket
+bucket-cases t Place.free i = absurd i
+bucket-cases true (Place.old b) i = inr (b, refl)
+bucket-cases false (Place.old b) i = inl (b, refl)
+bucket-cases true (Place.new b) i = inl (b, refl)
+bucket-cases false (Place.new b) i = inr (b, refl)
+
+-- ---- the places
+
+-- Live buckets, none twice. A key that is covered has its buckets among them, and a key that calls for one is of the group.
+pub record PlacesOf (s : State) (Covers OfGroup : ℕ → Type 0) (ps : List Place) : Type 0 where
+  pub live : (p : Place) → In p ps → Live s p
+  pub buckets : (p : Place) → In p ps → IsBucket p
+  pub distinct : Distinct ps
+  pub holds : (key : ℕ) (p : Place) → Covers key → Live s p → IsBucket p → Home s key p → In p ps
+  pub only : (key : ℕ) (p : Place) → In p ps → Home s key p → OfGroup key
+
+-- the group of two tables, by whether the old one is the smaller
+abbrev groupBy : ℕ → ℕ → ℕ → Bool → Group
+groupBy old new cursor oldSmaller = cond oldSmaller (twoTables old new cursor) (twoTables new old cursor)
+
+-- the new or the old table is the smaller
+record SmallerFirst (s : State) (cursor : ℕ) (t : Bool) : Type 0 where
+  pub by-exponents : Ordered (sizeIn s t) (sizeIn s (not t))
+  pub least : min (s .«old_size») (s .«new_size») ≡ sizeIn s t
+  pub most : max (s .«old_size») (s .«new_size») ≡ sizeIn s (not t)
+  pub its-group : groupAt (Tables.two (s .«old_size») (s .«new_size»)) cursor
+      ≡ twoTables (sizeIn s t) (sizeIn s (not t)) cursor
+
+-- its bucket comes first, then those of the other
+places-in-order : (t : Bool) (g : Group) → placesOf true (not t) g ≡ bucketIn t (g .small) ∷ map (bucketIn (not t)) (g .large)
+unfolding placesOf bucketIn
+places-in-order false g = refl
+places-in-order true g = refl
+
+module _ (s : State) (cursor : ℕ) (t : Bool) (o : SmallerFirst s cursor t) where
+  small : ℕ
+  small = cursor % sizeIn s t
+
+  large : List ℕ
+  large = twoTables (sizeIn s t) (sizeIn s (not t)) cursor .large
+
+  swept : LargeBuckets (exponent (sizeIn s t)) (exponent (sizeIn s (not t))) cursor large
+  unfolding large
+  swept =
+      subst₂ (λ (n m : ℕ). LargeBuckets (exponent (sizeIn s t)) (exponent (sizeIn s (not t))) cursor (twoTables n m cursor .large))
+      (sym (o .by-exponents .small-power)) (sym (o .by-exponents .large-power))
+      (two-large (exponent (sizeIn s t)) (exponent (sizeIn s (not t))) cursor (o .by-exponents .less) (o .by-exponents .fits))
+
+  places : List Place
+  places = bucketIn t small ∷ map (bucketIn (not t)) large
+
+  places-live : (p : Place) → In p places → Live s p
+  unfolding places small
+  places-live p (inl e) =
+      rw e (bucket-live s t small (mod-lt cursor (omega (arith, pow-pos (exponent (sizeIn s t)), o .by-exponents .small-power))))
+  places-live p (inr i) =
+      let (b, j, e) = of-map (bucketIn (not t)) p large i in
+      rw e (bucket-live s (not t) b (rw (o .by-exponents .large-power) (swept .below b j)))
+
+  places-buckets : (p : Place) → In p places → IsBucket p
+  unfolding places
+  places-buckets p (inl e) = rw e (bucket-is s t small)
+  places-buckets p (inr i) = let (b, j, e) = of-map (bucketIn (not t)) p large i in rw e (bucket-is s (not t) b)
+
+  places-distinct : Distinct places
+  unfolding places
+  places-distinct = (
+    λ i. let (b, j, e) = of-map (bucketIn (not t)) (bucketIn t small) large i in bucket-apart t small b e,
+    distinct-map (bucketIn (not t)) large (λ b c i j e. bucket-number (not t) b c e) (swept .distinct),
+  )
+
+  places-hold : (key : ℕ) (p : Place) → (key % sizeIn s t ≡ small) × In (key % sizeIn s (not t)) large → IsBucket p
+      → Home s key p → In p places
+  unfolding places
+  places-hold key p c i h = pick (bucket-cases t p i)
+    where
+      pick : ((b : ℕ) × (p ≡ bucketIn t b)) ⊎ ((b : ℕ) × (p ≡ bucketIn (not t) b)) → In p places
+      pick (inl (b, e)) =
+          let at : key % sizeIn s t ≡ b = bucket-home s t b key (subst (λ (q : Place). Home s key q) e h) in
+          inl (e ∙ ap (bucketIn t) (sym at ∙ c .0))
+      pick (inr (b, e)) =
+          let at : key % sizeIn s (not t) ≡ b = bucket-home s (not t) b key (subst (λ (q : Place). Home s key q) e h) in
+          inr
+          (subst (λ (q : Place). In q (map (bucketIn (not t)) large)) (ap (bucketIn (not t)) at ∙ sym e)
+          (in-map (bucketIn (not t)) (key % sizeIn s (not t)) large (c .1)))
+
+  places-only : (key : ℕ) (p : Place) → In p places → Home s key p
+      → (key % sizeIn s t ≡ small) ⊎ In (key % sizeIn s (not t)) large
+  unfolding places
+  places-only key p (inl e) h = inl (bucket-home s t small key (subst (λ (q : Place). Home s key q) e h))
+  places-only key p (inr i) h =
+      let (b, j, e) = of-map (bucketIn (not t)) p large i in
+      let at : key % sizeIn s (not t) ≡ b =
+      bucket-home s (not t) b key (subst (λ (q : Place). Home s key q) e h) in
+      inr (subst (λ (c : ℕ). In c large) (sym at) j)
+
+  two-places :
+      PlacesOf s (CoversKey (Tables.two (s .«old_size») (s .«new_size»)) cursor)
+      (InGroup (Tables.two (s .«old_size») (s .«new_size»)) cursor)
+      (placesOf true (not t) (groupAt (Tables.two (s .«old_size») (s .«new_size»)) cursor))
+  unfolding CoversKey InGroup bucketOf hash twoTables small large places
+  two-places =
+      subst
+      (PlacesOf s (CoversKey (Tables.two (s .«old_size») (s .«new_size»)) cursor)
+      (InGroup (Tables.two (s .«old_size») (s .«new_size»)) cursor))
+      (sym (ap (placesOf true (not t)) (o .its-group) ∙ places-in-order t (twoTables (sizeIn s t) (sizeIn s (not t)) cursor)))
+      (record {
+        live = places-live;
+        buckets = places-buckets;
+        distinct = places-distinct;
+        holds =
+            λ key p c l i h.
+            places-hold key p
+            (subst₃ (λ (n m : ℕ) (g : Group). (key % n ≡ g .small) × In (key % m) (g .large)) (o .least) (o .most) (o .its-group) c)
+            i h;
+        only =
+            λ key p i h.
+            subst₃ (λ (n m : ℕ) (g : Group). (key % n ≡ g .small) ⊎ In (key % m) (g .large)) (sym (o .least)) (sym (o .most))
+            (sym (o .its-group)) (places-only key p i h);
+      })
+
+module _ (s : State) (current other entries : List ℕ) (h : Sound s current other entries) (cursor : ℕ) where
+  old-positive : 0 < s .«old_size»
+  old-positive = let (e, l) = legal-power (s .«old_size») (h .base .old-legal) in omega (arith, pow-pos (exponent (s .«old_size»)))
+
+  one-places : s .rehashing ≡ false
+      → PlacesOf s (CoversKey (Tables.one (s .«old_size»)) cursor) (InGroup (Tables.one (s .«old_size»)) cursor)
+      (Place.old (cursor % s .«old_size») ∷ [])
+  unfolding CoversKey InGroup bucketOf hash groupAt oneTable Live IsBucket Home
+  one-places e =
+      record {
+        live = live-one;
+        buckets = is-one;
+        distinct = (λ i. i, tt);
+        holds = holds-one;
+        only = only-one;
+      }
+    where
+      live-one : (p : Place) → In p (Place.old (cursor % s .«old_size») ∷ []) → Live s p
+      live-one p (inl q) = rw q (mod-lt cursor old-positive)
+      live-one p (inr i) = absurd i
+
+      is-one : (p : Place) → In p (Place.old (cursor % s .«old_size») ∷ []) → IsBucket p
+      is-one p (inl q) = rw q tt
+      is-one p (inr i) = absurd i
+
+      holds-one : (key : ℕ) (p : Place) → CoversKey (Tables.one (s .«old_size»)) cursor key → Live s p → IsBucket p
+          → Home s key p → In p (Place.old (cursor % s .«old_size») ∷ [])
+      holds-one key Place.free c l i at = absurd i
+      holds-one key (Place.old b) c l i at = inl (ap Place.old (sym at ∙ c))
+      holds-one key (Place.new b) c l i at = absurd (omega (arith, h .still e .no-new))
+
+      only-one : (key : ℕ) (p : Place) → In p (Place.old (cursor % s .«old_size») ∷ []) → Home s key p
+          → InGroup (Tables.one (s .«old_size»)) cursor key
+      only-one key p (inl q) at = subst (λ (r : Place). Home s key r) q at
+      only-one key p (inr i) at = absurd i
+
+  -- during a rehash, which of the two tables is the smaller
+  smaller-first : (t : Bool) → s .rehashing ≡ true → ltb (s .«old_size») (s .«new_size») ≡ not t → SmallerFirst s cursor t
+  unfolding groupAt sizeIn
+  smaller-first false e f =
+      let l : s .«old_size» < s .«new_size» = ltb-true (s .«old_size») (s .«new_size») f in
+      record {
+        by-exponents = ordered (s .«old_size») (s .«new_size») (h .base .old-legal) (h .move e .new-legal) l;
+        least = min-eq-left (omega arith);
+        most = max-eq-right (omega arith);
+        its-group = ap (groupBy (s .«old_size») (s .«new_size») cursor) f;
+      }
+  smaller-first true e f =
+      let l : s .«new_size» < s .«old_size» =
+      omega (arith, ltb-false (s .«old_size») (s .«new_size») f, h .move e .sizes-differ) in
+      record {
+        by-exponents = ordered (s .«new_size») (s .«old_size») (h .move e .new-legal) (h .base .old-legal) l;
+        least = min-eq-right (omega arith);
+        most = max-eq-left (omega arith);
+        its-group = ap (groupBy (s .«old_size») (s .«new_size») cursor) f;
+      }
+
+  -- the places of a call's group, in a sound state
+  pub group-places : PlacesOf s (CoversKey (tablesOf s) cursor) (InGroup (tablesOf s) cursor) (groupPlaces s cursor)
+  unfolding tablesOf tablesBy groupPlaces placesOf groupAt oneTable
+  group-places =
+      subst
+      (λ (g : Group).
+      PlacesOf s (CoversKey (tablesOf s) cursor) (InGroup (tablesOf s) cursor)
+      (placesOf (s .rehashing) (ltb (s .«old_size») (s .«new_size»)) g))
+      (sym (group-tables s cursor))
+      (pick (s .rehashing) (ltb (s .«old_size») (s .«new_size»)) refl refl)
+    where
+      pick : (m t : Bool) → s .rehashing ≡ m → ltb (s .«old_size») (s .«new_size») ≡ t
+          → PlacesOf s (CoversKey (tablesBy m (s .«old_size») (s .«new_size»)) cursor)
+          (InGroup (tablesBy m (s .«old_size») (s .«new_size»)) cursor)
+          (placesOf m t (groupAt (tablesBy m (s .«old_size») (s .«new_size»)) cursor))
+      pick false t e f = one-places e
+      pick true true e f = two-places s cursor false (smaller-first false e f)
+      pick true false e f = two-places s cursor true (smaller-first true e f)

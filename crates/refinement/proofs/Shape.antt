@@ -1,0 +1,36 @@
+-- The shape of an undamaged store: for each place the entries of its chain, for each entry the place that owns it. It is
+-- what the calls' proofs keep; the statements do not name it.
+use Prim.Native.Nat.{ℕ, zero, suc, _+_, _<_, _≤_}
+use mathlib.Core.Path.{_≡_}
+use mathlib.Core.Bool.{true}
+use mathlib.Core.List.{List, [], _∷_}
+use lib.ListN.{length, getD}
+use Rattle.cursor.specs.Member.{In}
+use Rattle.model.specs.declared.State.{State}
+use Rattle.model.specs.Memory.{Place, Live, Home, IsBucket, keyOf, linkOf, soundState, sum}
+
+-- the first entry at a place
+unfoldable pub headAt : State → List ℕ → List ℕ → Place → ℕ
+headAt s current other Place.free = s .«free_head»
+headAt s current other (Place.old b) = getD current b 0
+headAt s current other (Place.new b) = getD other b 0
+
+-- the entries from a head, link by link, to 0
+unfoldable pub Linked : List ℕ → ℕ → ℕ → List ℕ → Type 0
+Linked entries capacity at [] = at ≡ 0
+Linked entries capacity at (n ∷ ns) = (at ≡ n) × (0 < n) × (n ≤ capacity) × Linked entries capacity (linkOf entries n) ns
+
+pub record Shape (s : State) (current other entries : List ℕ) : Type 0 where
+  pub state-sound : soundState (length current) (length other) (length entries) s ≡ true
+  pub at : Place → List ℕ
+  pub linked : (p : Place) → Live s p → Linked entries (s .capacity) (headAt s current other p) (at p)
+  pub owner : ℕ → Place
+  pub owned : (n : ℕ) → 0 < n → n ≤ s .capacity → Live s (owner n) × In n (at (owner n))
+  pub owns : (n : ℕ) (p : Place) → Live s p → In n (at p) → owner n ≡ p
+  pub home : (n : ℕ) (p : Place) → Live s p → In n (at p) → Home s (keyOf entries n) p
+  pub keys-distinct : (n m : ℕ) (p q : Place) → Live s p → Live s q → IsBucket p → IsBucket q
+      → In n (at p) → In m (at q) → keyOf entries n ≡ keyOf entries m → n ≡ m
+  pub passed-empty : (b : ℕ) → b < s .«rehash_index» → getD current b 0 ≡ 0
+  pub old-count : s .«old_used» ≡ sum (λ b. length (at (Place.old b))) (s .«old_size»)
+  pub new-count : s .«new_used» ≡ sum (λ b. length (at (Place.new b))) (s .«new_size»)
+  pub free-count : length (at Place.free) + (s .«old_used» + s .«new_used») ≡ s .capacity

@@ -1,0 +1,5 @@
+-- What is proved of the store, as statements about any meaning of the ten calls.
+pub mod Worlds
+pub mod Demand1
+pub mod Demand2
+pub mod Demand3

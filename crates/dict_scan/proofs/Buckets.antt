@@ -1,0 +1,135 @@
+-- The larger table's buckets of a walk call, one after the other: the bucket of the cursor, then those from the next cursor
+-- on, unless that is below the smaller size.
+-- Assumes nothing.
+use Prim.Native.Nat.{ℕ, zero, suc, _+_, _*_, _/_, _%_, _^_, _≤_, _<_}
+use mathlib.Core.Path.{_≡_, refl, sym, ap, _∙_}
+use mathlib.Core.Bool.{Bool, true, false, cond}
+use mathlib.Core.List.{List, [], _∷_}
+use native.Mathlib.Nat.{mod-eq-of-lt, div-le-self, mul-le-mul}
+use native.Mathlib.Omega.{arith}
+use lib.Dec.{ltb}
+use lib.ListN.{length}
+use borrow.Author.Tests.{lt-ltb, le-ltb}
+use Rattle.cursor.specs.Next.{next}
+use Rattle.cursor.specs.Group.{betweenZero, sweep, oneTable, twoTables}
+use Rattle.cursor.proofs.NextCursor.{next-lt}
+use Rattle.cursor.proofs.Sweep.{sweep-stop, sweep-on}
+use Rattle.cursor.proofs.LargeBuckets.{sweep-unbounded, two-answers}
+use Rattle.model.specs.Limits.{legalSize, largestExponent, largestCapacity}
+use Rattle.model.proofs.Power.{power-of, exponent-lt, legal-le}
+use Rattle.dict_scan.specs.Tables.{Sizes}
+
+-- the buckets from the cursor on
+abbrev pub bucketsFrom : ℕ → ℕ → ℕ → List ℕ
+bucketsFrom small large at = twoTables small large at .large
+
+-- those behind the first
+pub behind : ℕ → ℕ → ℕ → List ℕ
+behind small large at = cond (ltb (next large at) small) [] (bucketsFrom small large (next large at))
+
+-- two sizes as powers of two
+record Exponents (small large : ℕ) : Type 0 where
+  pub b : ℕ
+  pub c : ℕ
+  pub less : b < c
+  pub short : c ≤ 32
+  pub small-is : small ≡ 2 ^ b
+  pub large-is : large ≡ 2 ^ c
+
+-- the bound on the sweep may be one more
+one-more : (small large at : ℕ) → Exponents small large
+    → sweep (large / small) small large at ≡ sweep (suc (large / small)) small large at
+one-more small large at e = go (e .b) (e .c) (e .less) (e .short) (e .small-is) (e .large-is)
+  where
+    go : (b c : ℕ) → b < c → c ≤ 32 → small ≡ 2 ^ b → large ≡ 2 ^ c
+        → sweep (large / small) small large at ≡ sweep (suc (large / small)) small large at
+    go b c l s p q = rw (p, q) (sweep-unbounded b c at l s)
+
+between : (small large at : ℕ) → Exponents small large → betweenZero small large (next large at) ≡ ltb (next large at) small
+unfolding betweenZero
+between small large at e =
+    rw (mod-eq-of-lt (go (e .c) (e .short) (e .large-is)))
+  where
+    go : (c : ℕ) → c ≤ 32 → large ≡ 2 ^ c → next large at < large
+    go c s q = rw q (next-lt c at s)
+
+module _ (buckets : List ℕ) (small large : ℕ) (h : Sizes buckets small large) where
+  exponents : Exponents small large
+  unfolding legalSize largestExponent
+  exponents =
+      let p = power-of largestExponent small (h .small-legal) in
+      let q = power-of largestExponent large (h .large-legal) in
+      record {
+        b = p .0;
+        c = q .0;
+        less = exponent-lt (p .0) (q .0) (p .2) (q .2) (h .smaller);
+        short = omega (arith, q .1);
+        small-is = p .2;
+        large-is = q .2;
+      }
+
+  module _ (at : ℕ) where
+    split-at : (t : Bool) → ltb (next large at) small ≡ t
+        → bucketsFrom small large at ≡ at % large ∷ cond t [] (bucketsFrom small large (next large at))
+    unfolding twoTables
+    split-at true e = ap (λ s. s .buckets) (one-more small large at exponents ∙ sweep-stop (large / small) small large at (between small large at exponents ∙ e))
+    split-at false e = ap (λ s. s .buckets) (one-more small large at exponents ∙ sweep-on (large / small) small large at (between small large at exponents ∙ e))
+
+    -- the bucket of the cursor comes first
+    pub split : bucketsFrom small large at ≡ at % large ∷ behind small large at
+    unfolding behind
+    split = split-at (ltb (next large at) small) refl
+
+    module _ (turned : ℕ) (n : (c : ℕ) → large ≡ 2 ^ c → turned ≡ next large at) where
+      turned-is : turned ≡ next large at
+      turned-is = let e = exponents in n (e .c) (e .large-is)
+
+      pub behind-last : turned < small → behind small large at ≡ []
+      unfolding behind
+      behind-last l = rw (← turned-is, lt-ltb turned small l)
+
+      pub behind-more : small ≤ turned → behind small large at ≡ bucketsFrom small large turned
+      unfolding behind
+      behind-more l = rw (← turned-is, le-ltb turned small l)
+
+      -- one fewer are left
+      pub fewer : small ≤ turned → length (bucketsFrom small large turned) < length (bucketsFrom small large at)
+      fewer l = rw (split, behind-more l) (omega arith)
+
+-- there are no more of them than the largest table has buckets
+few-swept : (f small large at : ℕ) → length (sweep f small large at .buckets) ≤ f
+unfolding sweep
+few-swept zero small large at = omega arith
+few-swept (suc f) small large at =
+    pick (betweenZero small large (next large at)) refl (few-swept f small large (next large at))
+  where
+    pick : (t : Bool) → betweenZero small large (next large at) ≡ t → length (sweep f small large (next large at) .buckets) ≤ f
+        → length (sweep (suc f) small large at .buckets) ≤ suc f
+    pick true e h = rw (sweep-stop f small large at e) (omega arith)
+    pick false e h = rw (sweep-on f small large at e) (omega arith)
+
+-- so their entries can be counted, as long as a chain has no more of them than the largest capacity
+pub counts-fit : 2 ^ largestExponent * largestCapacity < 2 ^ 32
+unfolding largestExponent largestCapacity
+counts-fit = omega arith
+
+pub few-large : (buckets : List ℕ) (small large at : ℕ) → Sizes buckets small large
+    → length (bucketsFrom small large at) ≤ 2 ^ largestExponent
+unfolding twoTables legalSize
+few-large buckets small large at h =
+    omega (arith, few-swept (large / small) small large at, div-le-self large small, legal-le largestExponent large (h .large-legal))
+
+-- a call answers the next cursor, with two live tables that of the smaller size
+pub one-answered : (size cursor turned : ℕ) → legalSize size ≡ true → ((c : ℕ) → size ≡ 2 ^ c → turned ≡ next size cursor)
+    → turned ≡ oneTable size cursor .answered
+unfolding legalSize oneTable
+one-answered size cursor turned h t = let p = power-of largestExponent size h in t (p .0) (p .2)
+
+pub two-answered : (buckets : List ℕ) (small large cursor turned : ℕ) → Sizes buckets small large
+    → ((c : ℕ) → small ≡ 2 ^ c → turned ≡ next small cursor) → turned ≡ twoTables small large cursor .answered
+two-answered buckets small large cursor turned h t =
+    let e = exponents buckets small large h in
+    t (e .b) (e .small-is) ∙ sym (go (e .b) (e .c) (e .less) (e .short) (e .small-is) (e .large-is))
+  where
+    go : (b c : ℕ) → b < c → c ≤ 32 → small ≡ 2 ^ b → large ≡ 2 ^ c → twoTables small large cursor .answered ≡ next small cursor
+    go b c l s p q = rw (p, q) (two-answers b c cursor l s)

@@ -1,0 +1,156 @@
+-- Chains read one after the other: what their count says of them, how long they are, and that a chain that is sound is read
+-- the same where more is allowed.
+-- Assumes nothing.
+use Prim.Native.Nat.{ℕ, zero, suc, _+_, _*_, _≤_, _<_}
+use mathlib.Core.Path.{_≡_, refl, sym, ap, _∙_}
+use mathlib.Core.Bool.{Bool, true, false}
+use mathlib.Core.List.{List, [], _∷_, _++_, append-nil, append-assoc}
+use mathlib.Core.Option.{Option, none, some, Option·map}
+use native.Mathlib.Omega.{arith}
+use native.Mathlib.Nat.{suc-mul}
+use lib.ListN.{length, getD, length-append}
+use lib.Dec.{leb}
+use borrow.Author.Tests.{leb-true, le-leb}
+use Rattle.model.specs.Memory.{linkOf, chain, met, bucketChain, listed}
+use Rattle.model.specs.Walk.{joined, chains}
+use Rattle.model.proofs.Chains.{chain-end}
+use Rattle.lookup.specs.declared.chain.ChainLength.{ChainLength}
+use Rattle.lookup.specs.Length.{lengthOf}
+use Rattle.dict_scan.specs.Written.{room, linked, allLinked}
+
+-- a count says that what is read has an end, and how long it is
+pub count-sound : (o : Option (List ℕ)) (r : ChainLength) (n : ℕ) → r ≡ lengthOf o → r ≡ ChainLength.Sound n → o ≡ some (listed o)
+unfolding listed lengthOf
+count-sound none r n e s = let z : _≡_ {A = ℕ} 0 1 = cc in absurd (omega arith)
+count-sound (some ns) r n e s = refl
+
+pub count-length : (o : Option (List ℕ)) (r : ChainLength) (n : ℕ) → r ≡ lengthOf o → r ≡ ChainLength.Sound n → n ≡ length (listed o)
+unfolding listed lengthOf
+count-length none r n e s = let z : _≡_ {A = ℕ} 0 1 = cc in absurd (omega arith)
+count-length (some ns) r n e s = cc
+
+pub count-none : (o : Option (List ℕ)) (r : ChainLength) → r ≡ lengthOf o → r ≡ ChainLength.Unsound → o ≡ none
+unfolding lengthOf
+count-none none r e s = refl
+count-none (some ns) r e s = let z : _≡_ {A = ℕ} 0 1 = cc in absurd (omega arith)
+
+-- nothing before, and nothing behind
+pub joined-nothing : (o : Option (List ℕ)) → joined (some []) o ≡ o
+unfolding joined
+joined-nothing none = refl
+joined-nothing (some ns) = refl
+
+pub joined-end : (o : Option (List ℕ)) → joined o (some []) ≡ o
+unfolding joined
+joined-end none = refl
+joined-end (some ns) = ap some (append-nil ns)
+
+pub joined-none : (o : Option (List ℕ)) → joined o none ≡ none
+unfolding joined
+joined-none none = refl
+joined-none (some ns) = refl
+
+pub joined-more : (ns ms : List ℕ) (o : Option (List ℕ)) → joined (some (ns ++ ms)) o ≡ joined (some ns) (joined (some ms) o)
+unfolding joined
+joined-more ns ms none = refl
+joined-more ns ms (some ks) = ap some (append-assoc ns ms ks)
+
+-- a chain is no longer than its budget
+met-short : (t : Bool) (n budget : ℕ) (o : Option (List ℕ)) → length (listed o) ≤ budget → length (listed (met t n o)) ≤ suc budget
+unfolding met listed
+met-short false n budget o h = omega arith
+met-short true n budget none h = omega arith
+met-short true n budget (some ns) h = omega arith
+
+pub chain-short : (entries : List ℕ) (capacity budget head : ℕ) → length (listed (chain entries capacity budget head)) ≤ budget
+unfolding chain listed
+chain-short entries capacity zero zero = omega arith
+chain-short entries capacity zero (suc n) = omega arith
+chain-short entries capacity (suc budget) zero = omega arith
+chain-short entries capacity (suc budget) (suc n) =
+    met-short (leb (suc n) capacity) (suc n) budget (chain entries capacity budget (linkOf entries (suc n)))
+    (chain-short entries capacity budget (linkOf entries (suc n)))
+
+joined-short : (a b : Option (List ℕ)) → length (listed (joined a b)) ≤ length (listed a) + length (listed b)
+unfolding joined listed
+joined-short none b = omega arith
+joined-short (some ns) none = omega arith
+joined-short (some ns) (some ms) = omega (arith, length-append ns ms)
+
+pub chains-short : (entries : List ℕ) (capacity used : ℕ) (buckets bs : List ℕ)
+    → length (listed (chains entries capacity used buckets bs)) ≤ length bs * used
+unfolding chains bucketChain listed
+chains-short entries capacity used buckets [] = omega arith
+chains-short entries capacity used buckets (b ∷ bs) =
+    rw suc-mul
+    (omega
+    (arith, joined-short (chain entries capacity used (getD buckets b 0)) (chains entries capacity used buckets bs), chain-short entries capacity used (getD buckets b 0), chains-short entries capacity used buckets bs))
+
+-- two parts that are sound are read one after the other
+pub joined-sound : (a b : Option (List ℕ)) → a ≡ some (listed a) → b ≡ some (listed b) → joined a b ≡ some (listed a ++ listed b)
+unfolding joined
+joined-sound a b e f = cc
+
+pub joined-length : (a b : Option (List ℕ)) → a ≡ some (listed a) → b ≡ some (listed b)
+    → lengthOf (joined a b) ≡ ChainLength.Sound (length (listed a) + length (listed b))
+unfolding lengthOf
+joined-length a b e f = rw (joined-sound a b e f, length-append)
+
+-- and where all is sound, so is each part
+pub record Parts (a b : Option (List ℕ)) : Type 0 where
+  pub left : a ≡ some (listed a)
+  pub right : b ≡ some (listed b)
+  pub both : listed (joined a b) ≡ listed a ++ listed b
+  pub length : length (listed a ++ listed b) ≡ length (listed a) + length (listed b)
+
+pub joined-parts : (a b : Option (List ℕ)) → joined a b ≡ some (listed (joined a b)) → Parts a b
+unfolding joined listed
+joined-parts none b e = let z : _≡_ {A = ℕ} 0 1 = cc in absurd (omega arith)
+joined-parts (some ns) none e = let z : _≡_ {A = ℕ} 0 1 = cc in absurd (omega arith)
+joined-parts (some ns) (some ms) e = record { left = refl; right = refl; both = refl; length = length-append ns ms }
+
+-- Where more is allowed, a chain that is sound is the same.
+
+met-wider : (t t′ : Bool) (n : ℕ) (o o′ : Option (List ℕ)) (ns : List ℕ) → (t ≡ true → t′ ≡ true)
+    → ((ms : List ℕ) → o ≡ some ms → o′ ≡ some ms) → met t n o ≡ some ns → met t′ n o′ ≡ some ns
+unfolding met
+met-wider false t′ n o o′ ns f g e = let z : _≡_ {A = ℕ} 0 1 = cc in absurd (omega arith)
+met-wider true false n o o′ ns f g e = let w = f refl in let z : _≡_ {A = ℕ} 0 1 = cc in absurd (omega arith)
+met-wider true true n none o′ ns f g e = let z : _≡_ {A = ℕ} 0 1 = cc in absurd (omega arith)
+met-wider true true n (some ms) o′ ns f g e = rw (g ms refl) e
+
+chain-wider : (entries : List ℕ) (capacity capacity′ budget budget′ head : ℕ) (ns : List ℕ) → capacity ≤ capacity′
+    → budget ≤ budget′ → chain entries capacity budget head ≡ some ns → chain entries capacity′ budget′ head ≡ some ns
+unfolding chain
+chain-wider entries capacity capacity′ zero budget′ zero ns c b e = chain-end entries capacity′ budget′ zero refl ∙ e
+chain-wider entries capacity capacity′ (suc budget) budget′ zero ns c b e = chain-end entries capacity′ budget′ zero refl ∙ e
+chain-wider entries capacity capacity′ zero budget′ (suc n) ns c b e = let z : _≡_ {A = ℕ} 0 1 = cc in absurd (omega arith)
+chain-wider entries capacity capacity′ (suc budget) zero (suc n) ns c b e = absurd (omega arith)
+chain-wider entries capacity capacity′ (suc budget) (suc budget′) (suc n) ns c b e =
+    met-wider (leb (suc n) capacity) (leb (suc n) capacity′) (suc n)
+    (chain entries capacity budget (linkOf entries (suc n)))
+    (chain entries capacity′ budget′ (linkOf entries (suc n)))
+    ns
+    (λ t. le-leb (suc n) capacity′ (omega (arith, leb-true (suc n) capacity t)))
+    (λ ms p. chain-wider entries capacity capacity′ budget budget′ (linkOf entries (suc n)) ms c (omega arith) p)
+    e
+
+module _ (entries : List ℕ) (capacity used : ℕ) (fits : capacity * 3 ≤ length entries) (few : used ≤ capacity) where
+  pub linked-same : (head : ℕ)
+      → chain entries capacity used head ≡ some (listed (chain entries capacity used head))
+      → linked entries head ≡ chain entries capacity used head
+  unfolding linked room
+  linked-same head e =
+      chain-wider entries capacity (room entries) used (room entries) head _ (omega arith) (omega arith) e ∙ sym e
+
+  pub all-linked-same : (buckets bs : List ℕ)
+      → chains entries capacity used buckets bs ≡ some (listed (chains entries capacity used buckets bs))
+      → allLinked entries buckets bs ≡ chains entries capacity used buckets bs
+  unfolding allLinked chains bucketChain linked
+  all-linked-same buckets [] e = refl
+  all-linked-same buckets (b ∷ bs) e =
+      let p = joined-parts (chain entries capacity used (getD buckets b 0)) (chains entries capacity used buckets bs) e in
+      ap
+      (λ o. joined o (allLinked entries buckets bs))
+      (linked-same (getD buckets b 0) (p .left))
+      ∙ ap (joined (chain entries capacity used (getD buckets b 0))) (all-linked-same buckets bs (p .right))

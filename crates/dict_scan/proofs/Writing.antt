@@ -1,0 +1,214 @@
+-- Writing the pairs of a chain to the lent list, one entry a turn, and those of the larger table's buckets, one chain a turn.
+-- Assumes nothing.
+use Prim.Native.Nat.{ℕ, zero, suc, _+_, _*_, _-_, _/_, _^_, _≤_, _<_, min}
+use mathlib.Core.Path.{_≡_, refl, sym, ap, _∙_}
+use mathlib.Core.Bool.{Bool, true, false, _||_}
+use mathlib.Core.List.{List, [], _∷_, _++_}
+use mathlib.Core.Option.{Option, none, some, Option·map}
+use native.Mathlib.Omega.{arith}
+use lib.ListN.{length, getD, set, length-set}
+use lib.Dec.{ltb, eqb}
+use Rattle.cursor.specs.Next.{next}
+use Rattle.model.specs.Keys.{bucketOf, hash}
+use Rattle.model.specs.Memory.{linkOf, keyOf, valueOf, chain, bucketChain, listed}
+use Rattle.model.specs.Walk.{joined, chains}
+use Rattle.model.proofs.Chains.{chain-end, chain-bad, chain-good, in-range}
+use Rattle.dict_scan.specs.Tables.{Sizes}
+use Rattle.dict_scan.specs.Written.{room, linked, allLinked, written, Writable}
+use Rattle.dict_scan.proofs.Buckets.{bucketsFrom, behind, split, behind-last, behind-more}
+use Rattle.dict_scan.proofs.Chains.{Parts, joined-parts}
+
+-- entries written behind others
+pub written-more : (entries list : List ℕ) (to : ℕ) (ns ms : List ℕ)
+    → written entries (written entries list to ns) (to + length ns * 2) ms ≡ written entries list to (ns ++ ms)
+unfolding written
+written-more entries list to [] ms = ap (λ k. written entries list k ms) (omega arith)
+written-more entries list to (n ∷ ns) ms =
+    let on = set (set list to (keyOf entries n)) (to + 1) (valueOf entries n) in
+    let place : to + suc (length ns) * 2 ≡ to + 2 + length ns * 2 = omega arith in
+    ap (λ k. written entries (written entries on (to + 2) ns) k ms) place ∙ written-more entries on (to + 2) ns ms
+
+pub length-written : (entries list : List ℕ) (to : ℕ) (ns : List ℕ) → length (written entries list to ns) ≡ length list
+unfolding written
+length-written entries list to [] = refl
+length-written entries list to (n ∷ ns) =
+    length-written entries (set (set list to (keyOf entries n)) (to + 1) (valueOf entries n)) (to + 2) ns
+    ∙ simp length-set
+
+-- what is read in two parts is written in two parts
+module _ (entries list : List ℕ) (from : ℕ) (a b : Option (List ℕ)) (h : Writable list from (joined a b)) where
+  parts : Parts a b
+  parts = joined-parts a b (h .sound)
+
+  both-fit : from + (length (listed a) + length (listed b)) * 2 ≤ length list
+  both-fit = let p = parts in omega (arith, rw (p .both) at (h .fits), p .length)
+
+  pub first-writable : Writable list from a
+  first-writable = record { sound = parts .left; fits = omega (arith, both-fit) }
+
+  module _ (to : ℕ) (list′ : List ℕ) (w : list′ ≡ written entries list from (listed a))
+      (p : to ≡ from + length (listed a) * 2) where
+    pub rest-writable : Writable list′ to b
+    rest-writable =
+        let long : length list′ ≡ length list = ap length w ∙ length-written entries list from (listed a) in
+        record { sound = parts .right; fits = omega (arith, both-fit) }
+
+    pub both-written : written entries list′ to (listed b) ≡ written entries list from (listed (joined a b))
+    both-written = rw (w, p, parts .both) (written-more entries list from (listed a) (listed b))
+
+    pub rest-written : (list″ : List ℕ) → list″ ≡ written entries list′ to (listed b)
+        → list″ ≡ written entries list from (listed (joined a b))
+    rest-written list″ v = v ∙ both-written
+
+-- an entry met on a chain that has an end
+record Met (entries : List ℕ) (capacity left at : ℕ) (rest : List ℕ) : Type 0 where
+  pub more : List ℕ
+  pub first : rest ≡ at ∷ more
+  pub in-reach : at ≤ capacity
+  pub reads : chain entries capacity (left - 1) (linkOf entries at) ≡ some more
+
+entry-met : (entries : List ℕ) (capacity left at : ℕ) (rest : List ℕ) → (at ≡ 0 → ⊥)
+    → chain entries capacity left at ≡ some rest → Met entries capacity left at rest
+entry-met entries capacity left at rest f e =
+    go (eqb left 0 || ltb capacity at) refl (chain entries capacity (left - 1) (linkOf entries at)) refl
+  where
+    go : (t : Bool) → (eqb left 0 || ltb capacity at) ≡ t → (o : Option (List ℕ))
+        → chain entries capacity (left - 1) (linkOf entries at) ≡ o → Met entries capacity left at rest
+    go true p o q =
+        let bad = chain-bad entries capacity left at f p in
+        let z : _≡_ {A = ℕ} 0 1 = cc in absurd (omega arith)
+    go false p none q =
+        let good = rw q at (chain-good entries capacity left at f p) in
+        let z : _≡_ {A = ℕ} 0 1 = cc in absurd (omega arith)
+    go false p (some more) q =
+        let good = rw q at (chain-good entries capacity left at f p) in
+        record { more = more; first = cc; in-reach = in-range capacity left at p; reads = q }
+
+-- Its fields are in the buffer, and it is one of the entries that are left. Both hold too where the chain is at its end.
+pub record Reach (entries : List ℕ) (at : ℕ) (rest : List ℕ) : Type 0 where
+  pub entry-fits : at * 3 ≤ length entries
+  pub some-left : min at 1 ≤ length rest
+
+reach-of : (entries : List ℕ) (left at : ℕ) (rest : List ℕ) → chain entries (room entries) left at ≡ some rest
+    → Reach entries at rest
+unfolding room
+reach-of entries left zero rest e = record { entry-fits = omega arith; some-left = omega arith }
+reach-of entries left (suc n) rest e =
+    let m = entry-met entries (room entries) left (suc n) rest (λ z. omega arith) e in
+    record { entry-fits = omega arith; some-left = rw (m .first) (omega arith) }
+
+-- the pairs written, and those of the entries from here on, are those of the whole chain
+pub record Writing (entries list₀ : List ℕ) (head from at to : ℕ) (list : List ℕ) : Type 0 where
+  pub left : ℕ
+  pub rest : List ℕ
+  pub reads : chain entries (room entries) left at ≡ some rest
+  pub reach : Reach entries at rest
+  pub same-length : length list ≡ length list₀
+  pub place : to + length rest * 2 ≡ from + length (listed (linked entries head)) * 2
+  pub fits : to + length rest * 2 ≤ length list₀
+  pub so-far : written entries list to rest ≡ written entries list₀ from (listed (linked entries head))
+
+module _ (entries list₀ : List ℕ) (head from : ℕ) where
+  pub writing-start : Writable list₀ from (linked entries head) → Writing entries list₀ head from head from list₀
+  unfolding linked
+  writing-start h =
+      record {
+        left = room entries;
+        rest = listed (linked entries head);
+        reads = h .sound;
+        reach = reach-of entries (room entries) head (listed (linked entries head)) (h .sound);
+        same-length = refl;
+        place = refl;
+        fits = h .fits;
+        so-far = refl;
+      }
+
+  module _ (at to : ℕ) (list : List ℕ) (h : Writing entries list₀ head from at to list) where
+    pub writing-next : (key value link : ℕ) → (at ≡ 0 → ⊥) → key ≡ keyOf entries at → value ≡ valueOf entries at
+        → link ≡ linkOf entries at
+        → Writing entries list₀ head from link (to + 2) (set (set list to key) (to + 1) value)
+    unfolding written
+    writing-next key value link f k v l =
+        let m = entry-met entries (room entries) (h .left) at (h .rest) f (h .reads) in
+        let reads : chain entries (room entries) (h .left - 1) link ≡ some (m .more) = rw l (m .reads) in
+        let place = rw (m .first) at (h .place) in
+        let fits = rw (m .first) at (h .fits) in
+        record {
+          left = h .left - 1;
+          rest = m .more;
+          reads = reads;
+          reach = reach-of entries (h .left - 1) link (m .more) reads;
+          same-length = simp length-set (h .same-length);
+          place = omega arith;
+          fits = omega arith;
+          so-far = rw (k, v) (rw (m .first) at (h .so-far));
+        }
+
+    module _ (e : at ≡ 0) where
+      none-left : h .rest ≡ []
+      none-left = let done = chain-end entries (room entries) (h .left) at e in let same = h .reads in cc
+
+      pub writing-end : list ≡ written entries list₀ from (listed (linked entries head))
+      unfolding written
+      writing-end = rw none-left at (h .so-far)
+
+      pub writing-place : to ≡ from + length (listed (linked entries head)) * 2
+      writing-place = let place = rw none-left at (h .place) in omega arith
+
+-- the pairs written, and those of the buckets from here on, are those of all the buckets
+pub record Handing (entries buckets list₀ : List ℕ) (small large cursor first at to : ℕ) (list : List ℕ) : Type 0 where
+  pub same-length : length list ≡ length list₀
+  pub writable : Writable list to (allLinked entries buckets (bucketsFrom small large at))
+  pub so-far : written entries list to (listed (allLinked entries buckets (bucketsFrom small large at)))
+      ≡ written entries list₀ first (listed (allLinked entries buckets (bucketsFrom small large cursor)))
+
+module _ (entries buckets list₀ : List ℕ) (small large cursor first : ℕ) where
+  pub handing-start : Writable list₀ first (allLinked entries buckets (bucketsFrom small large cursor))
+      → Handing entries buckets list₀ small large cursor first cursor first list₀
+  handing-start h = record { same-length = refl; writable = h; so-far = refl }
+
+  module _ (g : Sizes buckets small large) (at to : ℕ) (list : List ℕ)
+      (h : Handing entries buckets list₀ small large cursor first at to list) (b : ℕ) (i : b ≡ bucketOf at large) where
+    chain-here : Option (List ℕ)
+    chain-here = linked entries (getD buckets b 0)
+
+    chains-behind : Option (List ℕ)
+    chains-behind = allLinked entries buckets (behind small large at)
+
+    here : allLinked entries buckets (bucketsFrom small large at) ≡ joined chain-here chains-behind
+    unfolding chain-here chains-behind allLinked linked chains bucketChain bucketOf hash
+    here = rw (split buckets small large g at, i)
+
+    writable-here : Writable list to (joined chain-here chains-behind)
+    writable-here = rw here at (h .writable)
+
+    pub chain-writable : Writable list to (linked entries (getD buckets b 0))
+    unfolding chain-here
+    chain-writable = first-writable entries list to chain-here chains-behind writable-here
+
+    module _ (r : ℕ) (list′ : List ℕ) (w : list′ ≡ written entries list to (listed (linked entries (getD buckets b 0))))
+        (p : r ≡ to + length (listed (linked entries (getD buckets b 0))) * 2) where
+      on : written entries list′ r (listed chains-behind)
+          ≡ written entries list₀ first (listed (allLinked entries buckets (bucketsFrom small large cursor)))
+      unfolding chain-here
+      on = both-written entries list to chain-here chains-behind writable-here r list′ w p ∙ (rw here at (h .so-far))
+
+      ahead : Writable list′ r chains-behind
+      unfolding chain-here
+      ahead = rest-writable entries list to chain-here chains-behind writable-here r list′ w p
+
+      module _ (turned : ℕ) (t : (c : ℕ) → large ≡ 2 ^ c → turned ≡ next large at) where
+        pub handing-end : turned < small
+            → list′ ≡ written entries list₀ first (listed (allLinked entries buckets (bucketsFrom small large cursor)))
+        unfolding chains-behind allLinked chains listed written
+        handing-end e = rw (behind-last buckets small large g at turned t e) at on
+
+        pub handing-next : small ≤ turned → Handing entries buckets list₀ small large cursor first turned r list′
+        unfolding chain-here chains-behind
+        handing-next e =
+            let rest = behind-more buckets small large g at turned t e in
+            record {
+              same-length = ap length w ∙ length-written entries list to (listed chain-here) ∙ h .same-length;
+              writable = rw rest at ahead;
+              so-far = rw rest at on;
+            }

@@ -1,11 +1,11 @@
 -- The larger table's buckets of a walk call, one after the other: the bucket of the cursor, then those from the next cursor
 -- on, unless that is below the smaller size.
 -- Assumes nothing.
-use Prim.Native.Nat.{ℕ, zero, suc, _+_, _*_, _/_, _%_, _^_, _≤_, _<_}
+use Prim.Native.Nat.{ℕ, zero, suc, _*_, _/_, _%_, _^_, _≤_, _<_}
 use mathlib.Core.Path.{_≡_, refl, sym, ap, _∙_}
 use mathlib.Core.Bool.{Bool, true, false, cond}
 use mathlib.Core.List.{List, [], _∷_}
-use native.Mathlib.Nat.{mod-eq-of-lt, div-le-self, mul-le-mul}
+use native.Mathlib.Nat.{mod-eq-of-lt, div-le-self}
 use native.Mathlib.Omega.{arith}
 use lib.Dec.{ltb}
 use lib.ListN.{length}
@@ -45,6 +45,7 @@ one-more small large at e = go (e .b) (e .c) (e .less) (e .short) (e .small-is) 
         → sweep (large / small) small large at ≡ sweep (suc (large / small)) small large at
     go b c l s p q = rw (p, q) (sweep-unbounded b c at l s)
 
+-- the next cursor is below the larger size, so the bits between the sizes are zero where it is below the smaller one
 between : (small large at : ℕ) → Exponents small large → betweenZero small large (next large at) ≡ ltb (next large at) small
 unfolding betweenZero
 between small large at e =
@@ -72,8 +73,12 @@ module _ (buckets : List ℕ) (small large : ℕ) (h : Sizes buckets small large
     split-at : (t : Bool) → ltb (next large at) small ≡ t
         → bucketsFrom small large at ≡ at % large ∷ cond t [] (bucketsFrom small large (next large at))
     unfolding twoTables
-    split-at true e = ap (λ s. s .buckets) (one-more small large at exponents ∙ sweep-stop (large / small) small large at (between small large at exponents ∙ e))
-    split-at false e = ap (λ s. s .buckets) (one-more small large at exponents ∙ sweep-on (large / small) small large at (between small large at exponents ∙ e))
+    split-at true e =
+        ap (λ s. s .buckets)
+        (one-more small large at exponents ∙ sweep-stop (large / small) small large at (between small large at exponents ∙ e))
+    split-at false e =
+        ap (λ s. s .buckets)
+        (one-more small large at exponents ∙ sweep-on (large / small) small large at (between small large at exponents ∙ e))
 
     -- the bucket of the cursor comes first
     pub split : bucketsFrom small large at ≡ at % large ∷ behind small large at

@@ -10,8 +10,8 @@ ghost use Rattle.model.specs.Walk.{chains, joined};
 ghost use Rattle.lookup.specs.Length.{lengthOf};
 ghost use Rattle.dict_scan.specs.Tables.{Larger, Both};
 
-// In the larger table. The next cursor of a size is below it, so the bits between the two sizes are zero once the cursor is below the
-// smaller one.
+// Those of the larger table. The next cursor of a size is below that size, so its bits between the two sizes are zero
+// once it is below the smaller one.
 pub fn count_large(
     buckets: &[u32],
     entries: &[u32],

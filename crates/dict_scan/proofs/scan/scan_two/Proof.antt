@@ -33,7 +33,11 @@ mul-if1 : tie.Need-mul-if1
 mul-if1 c = search needs
 
 write-group-requires : tie.Need-write-group-requires
-write-group-requires c κs = two-writable _ _ _ _ _ _ _ _ _ _ _ _ (search needs) (c .before .before .before .before .before .count-group .ensures) (search needs) (c .before .if1 .taken)
+write-group-requires c κs =
+    two-writable _ _ _ _ _ _ _ _ _ _ _ _ (search needs)
+    (c .before .before .before .before .before .count-group .ensures)
+    (search needs)
+    (c .before .if1 .taken)
 
 returns : tie.Need-returns
 returns c = search two-damaged

@@ -17,7 +17,7 @@ ghost use Rattle.model.specs.declared.Lookup.the-variants as found;
 ghost use Rattle.dict_add.specs.Push.{Pushable, Pushed};
 
 // What happened to the buffers, in numbers: the public call makes the answer of it.
-pub enum Push {
+enum Push {
     Refused(Error),
     // The first free entry is in the old or the new table, and this is the free list's next one.
     Old(u32),

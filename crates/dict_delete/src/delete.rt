@@ -19,7 +19,7 @@ ghost use Rattle.model.proofs.Soundness.{Sound};
 ghost use Rattle.dict_delete.specs.Removal.{Unlinkable, removalAnswer, removalRoom};
 
 // What happened to the buffers, in numbers: the public call makes the answer of it.
-pub enum Removal {
+enum Removal {
     Refused(Error),
     // This entry has left the old or the new table, and heads the free list.
     Old(u32),

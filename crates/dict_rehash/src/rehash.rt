@@ -20,7 +20,7 @@ ghost use Rattle.model.proofs.Soundness.{SoundBase, SoundMove};
 ghost use Rattle.dict_rehash.specs.Move.{MoveDone, filledAt, ChainOf, ChainMoved, EntryMoved};
 
 // What happened to the buffers, in numbers: the public call makes the answer of it.
-pub enum Move {
+enum Move {
     Refused(Error),
     // The old table holds no keys.
     Finished,

@@ -4,7 +4,7 @@ ghost use Prim.Native.Nat.{_≤_};
 ghost use lib.ListN.{length};
 ghost use Rattle.model.specs.Calls.{cleared};
 
-pub fn clear(buckets: &mut [u32], size: u32)
+pub(crate) fn clear(buckets: &mut [u32], size: u32)
     requires { ⌜ size ≤ length (now buckets) ⌝ }
     ensures { λ _. ⌜ now (buckets .exit) ≡ cleared size (now (buckets .entry)) ⌝ }
 {

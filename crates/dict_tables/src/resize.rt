@@ -11,7 +11,7 @@ ghost use Rattle.model.specs.Calls.After.{after};
 ghost use Rattle.dict_tables.specs.Begin.{beginAnswer};
 
 // Whether a rehash began, in the other buffer.
-pub enum Begin {
+enum Begin {
     Refused(Error),
     Begun,
 }

@@ -2,14 +2,14 @@
 -- write is read back where it was made, and every other cell keeps what it held. An entry's key and value likewise.
 -- Assumes nothing.
 use Prim.Native.Nat.{ℕ, zero, suc, _+_, _*_, _<_, _≤_}
-use mathlib.Core.Path.{_≡_, refl, ap, _∙_}
+use mathlib.Core.Path.{_≡_, refl, ap}
 use mathlib.Core.List.{List}
 use native.Mathlib.Omega.{arith}
 use lib.ListN.{length, getD, set, length-set}
 use lib.Seq.{getD-set-same, getD-set-other}
 use Rattle.model.specs.declared.State.{State}
-use Rattle.model.specs.Memory.{Place, linkOf, keyOf, valueOf, setLink, setKey, setValue, setEntry}
-use Rattle.model.proofs.Fields.{length-setLink, length-setKey}
+use Rattle.model.specs.Memory.{Place, linkOf, keyOf, valueOf, setLink, setKey, setValue}
+use Rattle.model.proofs.Fields.{length-setLink}
 use Rattle.refinement.proofs.Shape.{headAt}
 
 -- An entry's three numbers.
@@ -17,7 +17,7 @@ use Rattle.refinement.proofs.Shape.{headAt}
 module _ (e : List ℕ) where
   -- at the entry written, which is inside the buffer
 
-  pub link-set-same : (n x : ℕ) → 0 < n → n * 3 ≤ length e → linkOf (setLink e n x) n ≡ x
+  link-set-same : (n x : ℕ) → 0 < n → n * 3 ≤ length e → linkOf (setLink e n x) n ≡ x
   unfolding linkOf setLink
   link-set-same zero x h l = absurd (omega arith)
   link-set-same (suc n) x h l = getD-set-same e (n * 3) x 0 (omega arith)
@@ -34,7 +34,7 @@ module _ (e : List ℕ) where
 
   -- at another entry
 
-  pub link-set-other : (n m x : ℕ) → (m ≡ n → ⊥) → linkOf (setLink e n x) m ≡ linkOf e m
+  link-set-other : (n m x : ℕ) → (m ≡ n → ⊥) → linkOf (setLink e n x) m ≡ linkOf e m
   unfolding linkOf setLink
   link-set-other zero zero x d = refl
   link-set-other zero (suc m) x d = refl
@@ -98,39 +98,6 @@ module _ (e : List ℕ) where
   value-set-key zero (suc m) x = refl
   value-set-key (suc n) zero x = refl
   value-set-key (suc n) (suc m) x = getD-set-other e (n * 3 + 1) (m * 3 + 2) x 0 (λ h. omega arith)
-
--- the link of any entry, and the other two numbers, once a whole entry is written
-module _ (e : List ℕ) (n link key value : ℕ) where
-  pub link-set-entry : (m : ℕ) → linkOf (setEntry e n link key value) m ≡ linkOf (setLink e n link) m
-  unfolding setEntry
-  link-set-entry m =
-      link-set-value (setKey (setLink e n link) n key) n m value ∙ link-set-key (setLink e n link) n m key
-
-  pub key-set-entry : 0 < n → n * 3 ≤ length e → keyOf (setEntry e n link key value) n ≡ key
-  unfolding setEntry
-  key-set-entry h l =
-      key-set-value (setKey (setLink e n link) n key) n n value
-      ∙ key-set-same (setLink e n link) n key h (omega (arith, length-setLink e n link))
-
-  pub value-set-entry : 0 < n → n * 3 ≤ length e → valueOf (setEntry e n link key value) n ≡ value
-  unfolding setEntry
-  value-set-entry h l =
-      value-set-same (setKey (setLink e n link) n key) n value h
-      (omega (arith, length-setKey (setLink e n link) n key, length-setLink e n link))
-
-  pub key-set-entry-other : (m : ℕ) → (m ≡ n → ⊥) → keyOf (setEntry e n link key value) m ≡ keyOf e m
-  unfolding setEntry
-  key-set-entry-other m d =
-      key-set-value (setKey (setLink e n link) n key) n m value
-      ∙ key-set-other (setLink e n link) n m key d
-      ∙ key-set-link e n m link
-
-  pub value-set-entry-other : (m : ℕ) → (m ≡ n → ⊥) → valueOf (setEntry e n link key value) m ≡ valueOf e m
-  unfolding setEntry
-  value-set-entry-other m d =
-      value-set-other (setKey (setLink e n link) n key) n m value d
-      ∙ value-set-key (setLink e n link) n m key
-      ∙ value-set-link e n m link
 
 -- The memory that heads and links are in, and one cell of it.
 
@@ -217,19 +184,13 @@ write-lengths m (Cell.head (Place.new b)) x =
 write-lengths m (Cell.link n) x =
     record { current-length = refl; other-length = refl; entries-length = length-setLink (m .entries) n x }
 
-pub write-keeps-keys : (m : Memory) (c : Cell) (x n : ℕ) → keyOf (write m c x .entries) n ≡ keyOf (m .entries) n
+pub write-keeps : (m : Memory) (c : Cell) (x n : ℕ)
+    → (keyOf (write m c x .entries) n ≡ keyOf (m .entries) n) × (valueOf (write m c x .entries) n ≡ valueOf (m .entries) n)
 unfolding write
-write-keeps-keys m (Cell.head Place.free) x n = refl
-write-keeps-keys m (Cell.head (Place.old b)) x n = refl
-write-keeps-keys m (Cell.head (Place.new b)) x n = refl
-write-keeps-keys m (Cell.link k) x n = key-set-link (m .entries) k n x
-
-pub write-keeps-values : (m : Memory) (c : Cell) (x n : ℕ) → valueOf (write m c x .entries) n ≡ valueOf (m .entries) n
-unfolding write
-write-keeps-values m (Cell.head Place.free) x n = refl
-write-keeps-values m (Cell.head (Place.old b)) x n = refl
-write-keeps-values m (Cell.head (Place.new b)) x n = refl
-write-keeps-values m (Cell.link k) x n = value-set-link (m .entries) k n x
+write-keeps m (Cell.head Place.free) x n = (refl, refl)
+write-keeps m (Cell.head (Place.old b)) x n = (refl, refl)
+write-keeps m (Cell.head (Place.new b)) x n = (refl, refl)
+write-keeps m (Cell.link k) x n = (key-set-link (m .entries) k n x, value-set-link (m .entries) k n x)
 
 -- the heads and links that a shape speaks of
 

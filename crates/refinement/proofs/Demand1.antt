@@ -1,16 +1,15 @@
 -- Demand 1 holds of the calls as model defines them.
 -- Assumes nothing.
-use Prim.Native.Nat.{ℕ, zero, suc, _+_, _*_, _-_, _≤_, _<_}
-use mathlib.Core.Path.{_≡_, refl, sym, subst, ap, _∙_}
+use Prim.Native.Nat.{ℕ, zero, suc, _+_, _*_, _-_, _<_, _≤_}
+use mathlib.Core.Path.{_≡_, refl, sym, ap, subst, _∙_}
 use mathlib.Core.Bool.{Bool, true, false, cond}
-use mathlib.Core.List.{List, [], _∷_, _++_, map}
+use mathlib.Core.List.{List, [], _∷_, _++_}
 use mathlib.Core.Logic.{_⊎_, inl, inr}
 use mathlib.Core.Option.{Option, none, some}
 use native.Mathlib.Decide.{ℕ-discrete}
 use native.Mathlib.Omega.{arith}
 use lib.ListN.{length, take, drop}
 use lib.Pow.{pow-pos}
-use Rattle.cursor.specs.Member.{In}
 use Rattle.model.specs.declared.State.{State}
 use Rattle.model.specs.declared.Error.{Error}
 use Rattle.model.specs.declared.Lookup.{Lookup}
@@ -22,16 +21,17 @@ use Rattle.model.specs.declared.ResizeAnswer.{ResizeAnswer}
 use Rattle.model.specs.declared.StepAnswer.{StepAnswer}
 use Rattle.model.specs.declared.InitAnswer.{InitAnswer}
 use Rattle.model.specs.declared.ScanAnswer.{ScanAnswer}
-use Rattle.model.specs.Memory.{Place, linkOf, bucketChain}
+use Rattle.model.specs.Memory.{Place, linkOf, bucketChain, chainAt}
 use Rattle.model.specs.Answers.{Reply, errorNumber, shortNumber, initReply, scanReply, sizeReply, bucketsReply, findReply, updateReply, addReply, deleteReply, resizeReply, stepReply}
 use Rattle.model.specs.Calls.{After, swapped, oriented, orientedBack, noState, withinLimits, longEnough, init, suggestedSizeIn, suggestedSize, bucketsIn, buckets, lookup, found, findIn, find, updated, updateIn, update, keysHeld, takeable, pushed, added, addIn, add, acceptable, resized, resizeIn, resize, firstFilled, finished, movedChain, movedFrom, stepped, rehashStepIn, rehashStep, deletedOld, deletedNew, deleted, deleteIn, delete}
 use Rattle.model.specs.Walk.{Handed, pairs, group, groupEntries, handOut, scanIn, scan}
 use Rattle.model.specs.Sequences.{World, Call, Outcome, kept, left, handedOut, perform}
 use Rattle.refinement.specs.Worlds.{current, other}
 use Rattle.refinement.specs.Demand1.{SoundState, Damaged, keyBuckets, KeyHeld, Full, FreeListDamaged, LegalCapacity, LegalSize, groupBuckets, KeysOn, GroupDamaged, Short, RefusedCount, SoundChain, used, FirstFilled, AllEmpty, StepDamaged, Row, row, keyRows, rows, Decides, Leaves, LeavesAll, Demand1}
-use Rattle.refinement.proofs.Demand1Tests.{Tells, tells-and, tells-not, tells-le, tells-eq, tells-same, tells-capacity, tells-size, tells-sound, true-not-false}
-use Rattle.refinement.proofs.Demand1Chains.{AtPlace, sound-at}
-use Rattle.refinement.proofs.Demand1Reads.{Says, Among, lookup-says, read-old, FilledFirst, first-filled, same-first, Entries, group-entries, same-keys}
+use Rattle.refinement.proofs.Orientation.{turned, oriented-back, oriented-read}
+use Rattle.refinement.proofs.Demand1Tests.{Tells, true-not-false, tells-same, tells-and, tells-not, tells-le, tells-eq, tells-size, tells-capacity, tells-sound}
+use Rattle.refinement.proofs.Demand1Chains.{AtPlace, place-read, place-sound}
+use Rattle.refinement.proofs.Demand1Reads.{Among, Says, lookup-says, Entries, group-says, same-keys, StepFinds, step-finds, same-first}
 
 -- ---- an outcome that goes by the table
 
@@ -68,10 +68,6 @@ leaves-kept : (w : World) (r : Reply) → Leaves w (kept w r) (r .state) (r .val
 unfolding kept
 leaves-kept w r = record { first = refl; second = refl; entries = refl; lent = refl; state = refl; values = refl }
 
-turned : {A : Type 0} → Bool → After A → After A
-turned false a = a
-turned true a = swapped a
-
 module _ (w : World) where
   -- what a call on the current and the other buffer leaves
   back : {A : Type 0} → (A → Reply) → After A → Outcome
@@ -105,33 +101,13 @@ module _ (w : World) where
   oriented-good : {A : Type 0} {c : Call} {rs : List Row} (f : A → Outcome) (call : List ℕ → List ℕ → A)
       → Good w c (f (call (current w) (other w))) rs
       → Good w c (f (oriented (w .state .«second_is_current») call (w .first) (w .second))) rs
-  unfolding current other oriented
-  oriented-good {A} {c} {rs} f call g = turn (w .state .«second_is_current») g
-    where
-      turn : (t : Bool)
-          → Good w c
-          (f
-          (call (oriented t (λ first second. first) (w .first) (w .second))
-          (oriented t (λ first second. second) (w .first) (w .second)))) rs
-          → Good w c (f (oriented t call (w .first) (w .second))) rs
-      turn false g = g
-      turn true g = g
+  oriented-good {A} {c} {rs} f call g = subst (λ (a : A). Good w c (f a) rs) (sym (oriented-read w call)) g
 
   back-good : {A : Type 0} {c : Call} {rs : List Row} (reply : A → Reply) (call : List ℕ → List ℕ → After A)
       → Good w c (back reply (call (current w) (other w))) rs
       → Good w c (left reply (orientedBack (w .state .«second_is_current») call (w .first) (w .second))) rs
-  unfolding back current other oriented orientedBack turned
-  back-good {A} {c} {rs} reply call g = turn (w .state .«second_is_current») g
-    where
-      turn : (t : Bool)
-          → Good w c
-          (left reply
-          (turned t
-          (call (oriented t (λ first second. first) (w .first) (w .second))
-          (oriented t (λ first second. second) (w .first) (w .second))))) rs
-          → Good w c (left reply (orientedBack t call (w .first) (w .second))) rs
-      turn false g = g
-      turn true g = g
+  unfolding back
+  back-good {A} {c} {rs} reply call g = subst (λ (r : After A). Good w c (left reply r) rs) (sym (oriented-back w call)) g
 
   -- ---- the rows that calls share
 
@@ -335,7 +311,7 @@ module _ (w : World) where
       h (subst (λ (d : ℕ). SoundChain w (Place.old d)) (same-first w b a f g) c)
 
   step-good : GoodCall Call.rehashStep
-  unfolding perform rows rehashStep rehashStepIn stepped movedFrom movedChain stepReply errorNumber LeavesAll StepDamaged AtPlace FilledFirst
+  unfolding perform rows rehashStep rehashStepIn stepped movedFrom movedChain stepReply errorNumber LeavesAll StepDamaged AtPlace StepFinds chainAt
   step-good =
       back-good (stepReply (w .state)) (rehashStepIn (w .state) (w .entries))
       (tested 1 (back (stepReply (w .state))) _ _ (tells-sound w) (λ s. while (w .state .rehashing)) (refuse Error.BadState))
@@ -352,16 +328,16 @@ module _ (w : World) where
           (row 2 (StepDamaged w) ∷ [])
       moved pos b f none n = is-given _ 2 _ (pos, inr (b, f, n)) (refuse Error.Damaged)
       moved pos b f (some ns) r =
-          not-given 2 _ (step-sound b f (sound-at w (Place.old b) ns r))
+          not-given 2 _ (step-sound b f (place-sound w (Place.old b) ns r))
           (back-done (stepReply (w .state)) (StepAnswer.Stepped (length ns) _) _ _ _ refl)
 
-      from : 0 < w .state .«old_used» → (o : Option ℕ) → FilledFirst w o
+      from : 0 < w .state .«old_used» → (o : Option ℕ) → StepFinds w o
           → Good w Call.rehashStep
           (back (stepReply (w .state)) (movedFrom (w .state) (current w) (other w) (w .entries) o))
           (row 2 (StepDamaged w) ∷ [])
       from pos none all = is-given _ 2 _ (pos, inl all) (refuse Error.Damaged)
       from pos (some b) f =
-          moved pos b f (bucketChain (w .entries) (w .state .capacity) (w .state .«old_used») (current w) b) (read-old w b)
+          moved pos b f (bucketChain (w .entries) (w .state .capacity) (w .state .«old_used») (current w) b) (place-read w (Place.old b))
 
       while : (t : Bool)
           → Good w Call.rehashStep
@@ -384,7 +360,7 @@ module _ (w : World) where
           emptied (Tells.fails f) =
               from (omega arith)
               (firstFilled (current w) (w .state .«rehash_index») (w .state .«old_size» - w .state .«rehash_index»))
-              (first-filled w)
+              (step-finds w)
 
   -- ---- a walk call
 
@@ -445,7 +421,7 @@ module _ (w : World) where
           not-given 2 _ (λ d. omega (arith, d .0)) (not-given 9 _ (λ d. omega (arith, d .0)) (done refl))
       counted (Tells.fails f) =
           handing (group (w .state) cursor .answered) (omega arith)
-          (groupEntries (w .state) (current w) (other w) (w .entries) (group (w .state) cursor)) (group-entries w cursor)
+          (groupEntries (w .state) (current w) (other w) (w .entries) (group (w .state) cursor)) (group-says w cursor)
 
   -- ---- start, the suggested size, the look
 
@@ -578,14 +554,3 @@ decides-one m n (r ∷ rs) (inr d) (inr e) = decides-one m n rs (d .1) (e .1)
 pub same-number : (does : World → Call → Outcome) → Demand1 does → (w : World) (c : Call)
     → does w c .reply .number ≡ perform w c .reply .number
 same-number does d w c = decides-one _ _ (rows w c) (d .numbers w c) (demand1 .numbers w c)
-
--- a call answers 0 or one of its own numbers
-pub own-number : (n : ℕ) (rs : List Row) → Decides n rs → In n (0 ∷ map (λ (r : Row). r .number) rs)
-unfolding Decides
-own-number n [] d = inl d
-own-number n (r ∷ rs) (inl d) = inr (inl (d .1))
-own-number n (r ∷ rs) (inr d) = further (own-number n rs (d .1))
-  where
-    further : In n (0 ∷ map (λ (r : Row). r .number) rs) → In n (0 ∷ r .number ∷ map (λ (r : Row). r .number) rs)
-    further (inl e) = inl e
-    further (inr i) = inr (inr i)

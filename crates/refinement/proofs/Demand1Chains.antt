@@ -1,9 +1,8 @@
 -- What reading a chain gives, in demand 1's words: its entries where it is sound, and that it is not sound where nothing
 -- was read. Then whether a key is on it.
 -- Assumes nothing.
-use Prim.Native.Nat.{ℕ, zero, suc, _+_, _-_, _≤_, _<_}
-use mathlib.Core.Path.{_≡_, refl, sym, subst, ap, _∙_}
-use mathlib.Core.Bool.{Bool}
+use Prim.Native.Nat.{ℕ, zero, suc, _+_, _-_, _<_, _≤_}
+use mathlib.Core.Path.{_≡_, refl, sym, ap, subst, _∙_}
 use mathlib.Core.List.{List, [], _∷_}
 use mathlib.Core.Logic.{inl, inr}
 use mathlib.Core.Option.{Option, none, some}
@@ -11,11 +10,12 @@ use native.Mathlib.Nat.{add-zero, add-suc}
 use native.Mathlib.Omega.{arith}
 use lib.ListN.{length}
 use Rattle.cursor.specs.Member.{In}
-use Rattle.model.specs.Memory.{Place, linkOf, keyOf, chain, met}
+use Rattle.model.specs.Memory.{Place, linkOf, keyOf, chain, bucketChain, chainAt}
 use Rattle.model.specs.Sequences.{World}
-use Rattle.refinement.specs.Demand1.{nth, Chain, headOf, mostOf, ChainAt, SoundChain, OnChain}
+use Rattle.refinement.specs.Worlds.{current, other}
+use Rattle.refinement.specs.Demand1.{used, nth, Chain, headOf, mostOf, ChainAt, SoundChain, OnChain}
 use Rattle.refinement.proofs.Shape.{Linked}
-use Rattle.refinement.proofs.Demand1Tests.{Tells, tells-le}
+use Rattle.refinement.proofs.LinkedChains.{read-complete, read-sound}
 
 module _ (entries : List ℕ) (capacity : ℕ) where
   nth-link : (head k : ℕ) → nth entries (linkOf entries head) k ≡ nth entries head (suc k)
@@ -47,7 +47,7 @@ module _ (entries : List ℕ) (capacity : ℕ) where
   not-shorter : (head m n : ℕ) → Chain entries capacity head m → Chain entries capacity head n → ¬ (m < n)
   not-shorter head m n c d h = let e = d .entry m h in let z = c .end in omega arith
 
-  pub one-length : (head m n : ℕ) → Chain entries capacity head m → Chain entries capacity head n → m ≡ n
+  one-length : (head m n : ℕ) → Chain entries capacity head m → Chain entries capacity head n → m ≡ n
   one-length head m n c d = omega (arith, not-shorter head m n c d, not-shorter head n m d c)
 
   -- the entries of a chain, as a list
@@ -109,40 +109,15 @@ module _ (entries : List ℕ) (capacity : ℕ) where
       ∙ ap (λ (x : ℕ). nth entries x (q .0 - count)) (c .end) ∙ nth-zero (q .0 - count) in
       f (sym (q .2) ∙ ended)
 
-  -- what was read with a budget
-  Reads : ℕ → ℕ → Option (List ℕ) → Type 0
-  Reads budget head none = (count : ℕ) → count ≤ budget → ¬ Chain entries capacity head count
-  Reads budget head (some ns) = (length ns ≤ budget) × Linked entries capacity head ns
-
-  not-ended : (n : ℕ) → ¬ Chain entries capacity (suc n) 0
-  unfolding nth
-  not-ended n c = let z = c .end in omega arith
-
-  none-behind : (budget n : ℕ) → Reads budget (linkOf entries (suc n)) none → Reads (suc budget) (suc n) none
-  unfolding Reads
-  none-behind budget n r zero l c = not-ended n c
-  none-behind budget n r (suc count) l c = r count (omega arith) (chain-rest (suc n) count c .2)
-
-  above-capacity : (budget n : ℕ) → ¬ (suc n ≤ capacity) → Reads budget (suc n) none
-  unfolding Reads
-  above-capacity budget n f zero l c = not-ended n c
-  above-capacity budget n f (suc count) l c = f (chain-rest (suc n) count c .1)
-
-  read-met : (budget n : ℕ) {t : Bool} (o : Option (List ℕ)) → Tells (suc n ≤ capacity) t
-      → Reads budget (linkOf entries (suc n)) o → Reads (suc budget) (suc n) (met t (suc n) o)
-  unfolding Reads Linked met
-  read-met budget n none (Tells.holds h) r = none-behind budget n r
-  read-met budget n (some ns) (Tells.holds h) r = (omega (arith, r .0), (refl, omega arith, h, r .1))
-  read-met budget n o (Tells.fails f) r = above-capacity (suc budget) n f
-
-  read : (budget head : ℕ) → Reads budget head (chain entries capacity budget head)
-  unfolding Reads Linked chain
-  read zero zero = (omega arith, refl)
-  read zero (suc n) = λ count l c. not-ended n (subst (Chain entries capacity (suc n)) (omega arith) c)
-  read (suc budget) zero = (omega arith, refl)
-  read (suc budget) (suc n) =
-      read-met budget n (chain entries capacity budget (linkOf entries (suc n))) (tells-le (suc n) capacity)
-      (read budget (linkOf entries (suc n)))
+  -- a chain of so many entries, as a list
+  chain-linked : (head count : ℕ) → Chain entries capacity head count
+      → (ns : List ℕ) × (length ns ≡ count) × Linked entries capacity head ns
+  unfolding Linked nth
+  chain-linked head zero c = ([], refl, c .end)
+  chain-linked head (suc count) c =
+      let (pos, fits, rest) = chain-rest head count c in
+      let (ns, l, h) = chain-linked (linkOf entries head) count rest in
+      (head ∷ ns, ap suc l, (refl, pos, fits, h))
 
 -- At a place of a store.
 
@@ -152,23 +127,34 @@ module _ (w : World) where
   AtPlace p none = ¬ SoundChain w p
   AtPlace p (some ns) = (length ns ≤ mostOf w p) × Linked (w .entries) (w .state .capacity) (headOf w p) ns
 
-  reads-at : (p : Place) (o : Option (List ℕ)) → Reads (w .entries) (w .state .capacity) (mostOf w p) (headOf w p) o
-      → AtPlace p o
-  unfolding Reads AtPlace SoundChain ChainAt
-  reads-at p none r = λ c. r (c .0) (c .1) (c .2)
-  reads-at p (some ns) r = r
+  pub place-read : (p : Place) → AtPlace p (chainAt (w .state) (current w) (other w) (w .entries) p)
+  unfolding AtPlace SoundChain ChainAt chainAt bucketChain mostOf headOf used
+  place-read p = by (chainAt (w .state) (current w) (other w) (w .entries) p) (read p)
+    where
+      read : (q : Place) → chainAt (w .state) (current w) (other w) (w .entries) q
+          ≡ chain (w .entries) (w .state .capacity) (mostOf w q) (headOf w q)
+      read Place.free = refl
+      read (Place.old b) = refl
+      read (Place.new b) = refl
 
-  pub read-at : (p : Place) → AtPlace p (chain (w .entries) (w .state .capacity) (mostOf w p) (headOf w p))
-  read-at p = reads-at p _ (read (w .entries) (w .state .capacity) (mostOf w p) (headOf w p))
+      by : (o : Option (List ℕ)) → o ≡ chain (w .entries) (w .state .capacity) (mostOf w p) (headOf w p) → AtPlace p o
+      by none e =
+          λ s.
+          let (ns, k, h) = chain-linked (w .entries) (w .state .capacity) (headOf w p) (s .0) (s .2) in
+          let r = read-complete (w .entries) (w .state .capacity) (mostOf w p) (headOf w p) ns h (omega (arith, s .1)) in
+          let z : _≡_ {A = ℕ} 0 1 = cc in
+          omega arith
+      by (some ns) e =
+          let (h, l) = read-sound (w .entries) (w .state .capacity) (mostOf w p) (headOf w p) ns (sym e) in (l, h)
 
   -- the chain that was read is sound
-  pub chain-at : (p : Place) (ns : List ℕ) → AtPlace p (some ns) → ChainAt w p (length ns)
+  pub place-chain : (p : Place) (ns : List ℕ) → AtPlace p (some ns) → ChainAt w p (length ns)
   unfolding AtPlace ChainAt
-  chain-at p ns r = linked-chain (w .entries) (w .state .capacity) (headOf w p) ns (r .1)
+  place-chain p ns r = linked-chain (w .entries) (w .state .capacity) (headOf w p) ns (r .1)
 
-  pub sound-at : (p : Place) (ns : List ℕ) → AtPlace p (some ns) → SoundChain w p
+  pub place-sound : (p : Place) (ns : List ℕ) → AtPlace p (some ns) → SoundChain w p
   unfolding AtPlace SoundChain
-  sound-at p ns r = (length ns, r .0, chain-at p ns r)
+  place-sound p ns r = (length ns, r .0, place-chain p ns r)
 
   pub same-count : (p : Place) (m n : ℕ) → ChainAt w p m → ChainAt w p n → m ≡ n
   unfolding ChainAt
@@ -180,13 +166,13 @@ module _ (w : World) where
   unfolding AtPlace OnChain
   on-chain key p ns r n i e =
       let q = linked-in (w .entries) (w .state .capacity) (headOf w p) ns (r .1) n i in
-      (length ns, q .0, chain-at p ns r, q .1, ap (keyOf (w .entries)) (q .2) ∙ e)
+      (length ns, q .0, place-chain p ns r, q .1, ap (keyOf (w .entries)) (q .2) ∙ e)
 
   pub in-chain : (key : ℕ) (p : Place) (ns : List ℕ) → AtPlace p (some ns) → OnChain w key p
       → (n : ℕ) × In n ns × (keyOf (w .entries) n ≡ key)
   unfolding AtPlace OnChain
   in-chain key p ns r (count, k, c, l, e) =
-      let same = same-count p count (length ns) c (chain-at p ns r) in (
+      let same = same-count p count (length ns) c (place-chain p ns r) in (
         nth (w .entries) (headOf w p) k,
         linked-nth (w .entries) (w .state .capacity) (headOf w p) ns (r .1) k (omega arith),
         e,

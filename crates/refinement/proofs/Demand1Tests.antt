@@ -24,7 +24,7 @@ pub true-not-false : ¬ (true ≡ false)
 true-not-false e = let z : _≡_ {A = ℕ} 0 1 = cc in omega arith
 
 -- a test that is true exactly where A holds
-pub tells : {A : Type 0} (t : Bool) → (t ≡ true → A) → (A → t ≡ true) → Tells A t
+tells : {A : Type 0} (t : Bool) → (t ≡ true → A) → (A → t ≡ true) → Tells A t
 tells true f g = Tells.holds (f refl)
 tells false f g = Tells.fails (λ a. let z : _≡_ {A = ℕ} 0 1 = cc (g a) in omega arith)
 

@@ -2,8 +2,8 @@
 -- Assumes nothing.
 use Rattle.model.specs.Sequences.{perform}
 use Rattle.refinement.specs.Demand2.{Demand2}
-use Rattle.refinement.proofs.KeyedCalls.{as-the-map}
-use Rattle.refinement.proofs.HandingOut.{hands-out}
+use Rattle.refinement.proofs.GroupEntries.{hands-out}
+use Rattle.refinement.proofs.KeyedSteps.{as-the-map}
 
 pub demand2 : Demand2 perform
 demand2 = record { as-the-map = as-the-map; hands-out = hands-out }

@@ -2,12 +2,11 @@
 -- Assumes nothing.
 use Rattle.model.specs.Sequences.{World, Call, perform, carry}
 use Rattle.refinement.specs.Demand2.{KeyCall}
-use Rattle.refinement.specs.Demand3.{Ideal, Demand3, begun, noMap}
-use Rattle.refinement.proofs.Agreement.{Agrees}
-use Rattle.refinement.proofs.Stepwise.{Steps}
+use Rattle.refinement.specs.Demand3.{Ideal, Demand3, noMap}
+use Rattle.refinement.proofs.Agreement.{Agrees, Steps}
 use Rattle.refinement.proofs.KeyedSteps.{keyed-steps}
-use Rattle.refinement.proofs.TableCalls.{init-steps, init-agrees, init-number, resize-steps, suggested-steps, buckets-steps}
-use Rattle.refinement.proofs.StepCalls.{step-steps}
+use Rattle.refinement.proofs.TableSteps.{suggested-steps, buckets-steps, init-number, init-agrees, init-steps, resize-steps}
+use Rattle.refinement.proofs.RehashSteps.{step-steps}
 use Rattle.refinement.proofs.WalkSteps.{scan-steps}
 use Rattle.refinement.proofs.Histories.{sequence-holds}
 
@@ -15,13 +14,13 @@ use Rattle.refinement.proofs.Histories.{sequence-holds}
 steps : (w : World) (i : Ideal) (c : Call) → Agrees w i → Steps w i c
 unfolding KeyCall
 steps w i (Call.init capacity size) a = init-steps w i a capacity size
-steps w i (Call.find key) a = keyed-steps w i (Call.find key) tt a
-steps w i (Call.update key value) a = keyed-steps w i (Call.update key value) tt a
-steps w i (Call.add key value) a = keyed-steps w i (Call.add key value) tt a
-steps w i (Call.delete key) a = keyed-steps w i (Call.delete key) tt a
+steps w i (Call.find key) a = keyed-steps w i a (Call.find key) tt
+steps w i (Call.update key value) a = keyed-steps w i a (Call.update key value) tt
+steps w i (Call.add key value) a = keyed-steps w i a (Call.add key value) tt
+steps w i (Call.delete key) a = keyed-steps w i a (Call.delete key) tt
 steps w i (Call.resize size) a = resize-steps w i a size
 steps w i Call.rehashStep a = step-steps w i a
-steps w i (Call.scan cursor lent) a = scan-steps w i cursor lent a
+steps w i (Call.scan cursor lent) a = scan-steps w i a cursor lent
 steps w i (Call.suggestedSize growing) a = suggested-steps w i a growing
 steps w i Call.buckets a = buckets-steps w i a
 

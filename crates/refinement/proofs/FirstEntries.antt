@@ -12,75 +12,37 @@ use lib.ListN.{length, getD}
 use lib.Dec.{eqb, leb}
 use borrow.Author.Tests.{eqb-true, eqb-false, le-leb, ne-eqb}
 use Rattle.model.specs.declared.State.{State}
-use Rattle.model.specs.Memory.{Place, Live, linkOf, sum}
+use Rattle.model.specs.Memory.{Place, Live, linkOf}
 use Rattle.model.specs.Calls.{firstFilled, takeable}
-use Rattle.refinement.proofs.Shape.{Shape, Linked, headAt}
-use Rattle.refinement.proofs.Counting.{term-in-sum}
-use Rattle.refinement.proofs.LookingUp.{facts}
-
--- the first free entry, and the free list behind it
-pub record FreeFirst {s : State} {current other entries : List ℕ} (h : Shape s current other entries) : Type 0 where
-  pub rest : List ℕ
-  pub list : h .at Place.free ≡ s .«free_head» ∷ rest
-  pub entry-some : 0 < s .«free_head»
-  pub entry-fits : s .«free_head» ≤ s .capacity
-  pub link-fits : linkOf entries (s .«free_head») ≤ s .capacity
-  pub rest-linked : Linked entries (s .capacity) (linkOf entries (s .«free_head»)) rest
-  pub can-be-taken : takeable s entries ≡ true
+use Rattle.refinement.proofs.Lists.{no-length}
+use Rattle.refinement.proofs.Sums.{term-in-sum, sum-zero}
+use Rattle.refinement.proofs.Shape.{headAt, Linked, Shape, facts}
+use Rattle.refinement.proofs.LinkedChains.{linked-head, linked-empty, linked-filled}
 
 -- the first filled bucket of the old table: the buckets before it are empty
 pub record FilledFirst {s : State} {current other entries : List ℕ} (h : Shape s current other entries) (b : ℕ) : Type 0 where
   pub is-first : firstFilled current (s .«rehash_index») (s .«old_size» - s .«rehash_index») ≡ some b
-  pub not-passed : s .«rehash_index» ≤ b
   pub live : b < s .«old_size»
   pub filled : h .at (Place.old b) ≢ []
   pub empty-before : (c : ℕ) → c < b → h .at (Place.old c) ≡ []
-
--- a list's head is in range
-head-fits : (entries : List ℕ) (capacity at : ℕ) (ns : List ℕ) → Linked entries capacity at ns → at ≤ capacity
-unfolding Linked
-head-fits entries capacity at [] l = omega arith
-head-fits entries capacity at (n ∷ ns) l = omega arith
-
--- a head of 0 has the empty list, and no other has
-head-empty : (entries : List ℕ) (capacity at : ℕ) (ns : List ℕ) → Linked entries capacity at ns → at ≡ 0 → ns ≡ []
-unfolding Linked
-head-empty entries capacity at [] l e = refl
-head-empty entries capacity at (n ∷ ns) l e = absurd (omega arith)
-
-head-filled : (entries : List ℕ) (capacity at : ℕ) (ns : List ℕ) → Linked entries capacity at ns → at ≢ 0 → ns ≢ []
-unfolding Linked
-head-filled entries capacity at [] l f e = f l
-head-filled entries capacity at (n ∷ ns) l f e = let z : _≡_ {A = ℕ} 0 1 = cc in omega arith
 
 -- add's tests of the first free entry
 tests : (head link capacity : ℕ) → 0 < head → link ≤ capacity → (not (eqb head 0) && leb link capacity) ≡ true
 tests head link capacity z l = rw (ne-eqb head 0 (omega arith), le-leb link capacity l)
 
--- a list of no length is empty
-no-length : (ns : List ℕ) → length ns ≡ 0 → ns ≡ []
-no-length [] e = refl
-no-length (n ∷ ns) e = absurd (omega arith)
-
--- a sum of zeros is 0
-sum-zero : (f : ℕ → ℕ) (n : ℕ) → ((b : ℕ) → b < n → f b ≡ 0) → sum f n ≡ 0
-unfolding sum
-sum-zero f zero z = refl
-sum-zero f (suc n) z = omega (arith, sum-zero f n (λ b l. z b (omega arith)), z n (omega arith))
-
 -- The search for a filled bucket from b on, up to an end: the first one, or that none is filled.
 
-AllEmpty : List ℕ → ℕ → ℕ → Type 0
-AllEmpty buckets b end = (c : ℕ) → b ≤ c → c < end → getD buckets c 0 ≡ 0
+unfoldable pub AllBefore : List ℕ → ℕ → ℕ → Type 0
+AllBefore buckets b end = (c : ℕ) → b ≤ c → c < end → getD buckets c 0 ≡ 0
 
-Filled : List ℕ → ℕ → ℕ → Option ℕ → Type 0
-Filled buckets b end none = AllEmpty buckets b end
-Filled buckets b end (some f) = (b ≤ f) × (f < end) × (getD buckets f 0 ≢ 0) × AllEmpty buckets b f
+unfoldable pub Filled : List ℕ → ℕ → ℕ → Option ℕ → Type 0
+Filled buckets b end none = AllBefore buckets b end
+Filled buckets b end (some f) = (b ≤ f) × (f < end) × (getD buckets f 0 ≢ 0) × AllBefore buckets b f
 
 module _ (buckets : List ℕ) where
   -- one bucket more in front, which is empty
-  empty-behind : (b end : ℕ) → getD buckets b 0 ≡ 0 → AllEmpty buckets (suc b) end → AllEmpty buckets b end
-  unfolding AllEmpty
+  empty-behind : (b end : ℕ) → getD buckets b 0 ≡ 0 → AllBefore buckets (suc b) end → AllBefore buckets b end
+  unfolding AllBefore
   empty-behind b end z h c from below =
       elim (decLt b c) [ yes l ↦ h c l below | no l ↦ subst (λ (i : ℕ). getD buckets i 0 ≡ 0) (omega arith) z ]
 
@@ -89,8 +51,8 @@ module _ (buckets : List ℕ) where
   filled-behind b end none z h = empty-behind b end z h
   filled-behind b end (some f) z (from, below, filled, before) = (omega arith, below, filled, empty-behind b f z before)
 
-  search-filled : (b left end : ℕ) → b + left ≡ end → Filled buckets b end (firstFilled buckets b left)
-  unfolding AllEmpty Filled firstFilled
+  pub search-filled : (b left end : ℕ) → b + left ≡ end → Filled buckets b end (firstFilled buckets b left)
+  unfolding AllBefore Filled firstFilled
   search-filled b zero end e = λ c from below. absurd (omega arith)
   search-filled b (suc left) end e =
       pick (eqb (getD buckets b 0) 0) refl (search-filled (suc b) left end (omega arith))
@@ -104,31 +66,28 @@ module _ (buckets : List ℕ) where
 
 module _ {s : State} {current other entries : List ℕ} (h : Shape s current other entries) where
   -- a store that is not full has a first free entry, which can be taken
-  pub free-taken : s .«old_used» + s .«new_used» ≢ s .capacity → FreeFirst h
+  pub free-taken : s .«old_used» + s .«new_used» ≢ s .capacity
+      → (rest : List ℕ) × (h .at Place.free ≡ s .«free_head» ∷ rest) × (takeable s entries ≡ true)
   unfolding headAt Live Linked takeable
   free-taken f = pick (h .at Place.free) refl (h .linked Place.free tt)
     where
-      pick : (ns : List ℕ) → h .at Place.free ≡ ns → Linked entries (s .capacity) (s .«free_head») ns → FreeFirst h
+      pick : (ns : List ℕ) → h .at Place.free ≡ ns → Linked entries (s .capacity) (s .«free_head») ns
+          → (rest : List ℕ) × (h .at Place.free ≡ s .«free_head» ∷ rest) × (takeable s entries ≡ true)
       pick [] e l = absurd (f (omega (arith, h .free-count, ap length e)))
       pick (n ∷ ns) e l =
           let behind = subst (λ (k : ℕ). Linked entries (s .capacity) (linkOf entries k) ns) (sym (l .0)) (l .3) in
-          let fits = head-fits entries (s .capacity) (linkOf entries (s .«free_head»)) ns behind in
-          record {
-            rest = ns;
-            list = e ∙ ap (λ (k : ℕ). k ∷ ns) (sym (l .0));
-            entry-some = omega arith;
-            entry-fits = omega arith;
-            link-fits = fits;
-            rest-linked = behind;
-            can-be-taken = tests (s .«free_head») (linkOf entries (s .«free_head»)) (s .capacity) (omega arith) fits;
-          }
+          let fits = linked-head entries (s .capacity) (linkOf entries (s .«free_head»)) ns behind in (
+            ns,
+            e ∙ ap (λ (k : ℕ). k ∷ ns) (sym (l .0)),
+            tests (s .«free_head») (linkOf entries (s .«free_head»)) (s .capacity) (omega arith) fits,
+          )
 
   -- a place whose head is 0 is empty, and no other live one
-  pub empty-at : (p : Place) → Live s p → headAt s current other p ≡ 0 → h .at p ≡ []
-  empty-at p l e = head-empty entries (s .capacity) (headAt s current other p) (h .at p) (h .linked p l) e
+  empty-at : (p : Place) → Live s p → headAt s current other p ≡ 0 → h .at p ≡ []
+  empty-at p l e = linked-empty entries (s .capacity) (headAt s current other p) (h .at p) (h .linked p l) e
 
-  pub filled-at : (p : Place) → Live s p → headAt s current other p ≢ 0 → h .at p ≢ []
-  filled-at p l f = head-filled entries (s .capacity) (headAt s current other p) (h .at p) (h .linked p l) f
+  filled-at : (p : Place) → Live s p → headAt s current other p ≢ 0 → h .at p ≢ []
+  filled-at p l f = linked-filled entries (s .capacity) (headAt s current other p) (h .at p) (h .linked p l) f
 
   -- with no keys in the old table each of its buckets is empty
   pub old-empty : s .«old_used» ≡ 0 → (b : ℕ) → b < s .«old_size» → h .at (Place.old b) ≡ []
@@ -138,7 +97,7 @@ module _ {s : State} {current other entries : List ℕ} (h : Shape s current oth
 
   -- during a rehash, with keys in the old table, a step finds the first filled bucket
   pub first-filled : s .rehashing ≡ true → s .«old_used» ≢ 0 → (b : ℕ) × FilledFirst h b
-  unfolding headAt Live AllEmpty Filled
+  unfolding headAt Live AllBefore Filled
   first-filled t f =
       pick (firstFilled current (s .«rehash_index») (s .«old_size» - s .«rehash_index»)) refl
       (search-filled current (s .«rehash_index») (s .«old_size» - s .«rehash_index») (s .«old_size») (omega (arith, fits)))
@@ -147,7 +106,7 @@ module _ {s : State} {current other entries : List ℕ} (h : Shape s current oth
       fits = facts h .move t .index-fits
 
       -- the buckets passed are empty, and those from there up to an end
-      empty : (end : ℕ) → end ≤ s .«old_size» → AllEmpty current (s .«rehash_index») end → (c : ℕ) → c < end
+      empty : (end : ℕ) → end ≤ s .«old_size» → AllBefore current (s .«rehash_index») end → (c : ℕ) → c < end
           → h .at (Place.old c) ≡ []
       empty end e z c l =
           elim (decLt c (s .«rehash_index»)) [
@@ -165,7 +124,6 @@ module _ {s : State} {current other entries : List ℕ} (h : Shape s current oth
         b,
         record {
           is-first = e;
-          not-passed = from;
           live = below;
           filled = filled-at (Place.old b) below filled;
           empty-before = empty b (omega arith) before;

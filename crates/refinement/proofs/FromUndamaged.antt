@@ -7,14 +7,15 @@ use mathlib.Core.List.{List, _++_}
 use native.Mathlib.Decide.{decLe, decLt}
 use native.Mathlib.Omega.{arith}
 use lib.ListN.{length, length-append}
-use Rattle.cursor.specs.Member.{In}
+use Rattle.cursor.specs.Member.{In, Distinct}
 use Rattle.model.specs.declared.State.{State}
-use Rattle.model.specs.Memory.{Place, Live, entriesAt, Undamaged}
+use Rattle.model.specs.Memory.{Place, Live, IsBucket, entriesAt, Undamaged}
 use Rattle.model.specs.Calls.{sound}
 use Rattle.model.proofs.Soundness.{SoundBase, sound-facts}
-use Rattle.refinement.proofs.Shape.{Shape, Linked, headAt}
-use Rattle.refinement.proofs.Reading.{read-sound, linked-in-range, budgetAt, read-at}
-use Rattle.refinement.proofs.Counting.{gathered, length-gathered, in-gathered, in-left, in-right, pigeonhole}
+use Rattle.refinement.proofs.Lists.{in-left, in-right, pigeonhole, distinct-fits}
+use Rattle.refinement.proofs.Sums.{gathered, length-gathered, in-gathered}
+use Rattle.refinement.proofs.Shape.{headAt, Linked, Shape}
+use Rattle.refinement.proofs.LinkedChains.{read-sound, linked-in-range, budgetAt, read-at}
 
 module _ {s : State} {current other entries : List ℕ} (u : Undamaged s current other entries) where
   -- the chains as they are read
@@ -34,52 +35,67 @@ module _ {s : State} {current other entries : List ℕ} (u : Undamaged s current
   unfolding sound
   base = sound-facts s current other entries (u .state-sound) .base
 
-  -- the chains of a table's buckets, joined
-  tableChains : (ℕ → Place) → ℕ → List ℕ
-  tableChains table size = gathered (λ b. chained (table b)) size
+  -- the chains of all live buckets, joined: as many entries as keys held
+  bucketEntries : List ℕ
+  bucketEntries =
+      gathered (λ b. chained (Place.old b)) (s .«old_size») ++ gathered (λ b. chained (Place.new b)) (s .«new_size»)
 
-  bucketChains : List ℕ
-  bucketChains = tableChains Place.old (s .«old_size») ++ tableChains Place.new (s .«new_size»)
-
-  -- the chains of all live places, joined
-  allChains : List ℕ
-  allChains = chained Place.free ++ bucketChains
-
-  in-a-table : (table : ℕ → Place) (size b n : ℕ) → b < size → In n (chained (table b)) → In n (tableChains table size)
-  unfolding tableChains
-  in-a-table table size b n l i = in-gathered (λ c. chained (table c)) size b n l i
-
-  in-all : (n : ℕ) (p : Place) → Live s p → In n (chained p) → In n allChains
-  unfolding allChains bucketChains Live
-  in-all n Place.free l i = in-left n (chained Place.free) bucketChains i
-  in-all n (Place.old b) l i =
-      in-right n (chained Place.free) bucketChains
-      (in-left n (tableChains Place.old (s .«old_size»)) (tableChains Place.new (s .«new_size»))
-      (in-a-table Place.old (s .«old_size») b n l i))
-  in-all n (Place.new b) l i =
-      in-right n (chained Place.free) bucketChains
-      (in-right n (tableChains Place.old (s .«old_size»)) (tableChains Place.new (s .«new_size»))
-      (in-a-table Place.new (s .«new_size») b n l i))
-
-  length-all : length allChains ≡ length (chained Place.free) + (s .«old_used» + s .«new_used»)
-  unfolding allChains bucketChains tableChains chained
-  length-all =
+  buckets-length : length bucketEntries ≡ s .«old_used» + s .«new_used»
+  unfolding bucketEntries chained
+  buckets-length =
       omega (
         arith,
-        length-append (chained Place.free) bucketChains,
-        length-append (tableChains Place.old (s .«old_size»)) (tableChains Place.new (s .«new_size»)),
+        length-append (gathered (λ b. chained (Place.old b)) (s .«old_size»)) (gathered (λ b. chained (Place.new b)) (s .«new_size»)),
         length-gathered (λ b. chained (Place.old b)) (s .«old_size»),
         length-gathered (λ b. chained (Place.new b)) (s .«new_size»),
         u .old-count,
         u .new-count,
       )
 
+  in-buckets : (n : ℕ) (p : Place) → Live s p → IsBucket p → In n (chained p) → In n bucketEntries
+  unfolding bucketEntries Live IsBucket
+  in-buckets n Place.free l t i = absurd t
+  in-buckets n (Place.old b) l t i =
+      in-left n (gathered (λ c. chained (Place.old c)) (s .«old_size»)) (gathered (λ c. chained (Place.new c)) (s .«new_size»))
+      (in-gathered (λ c. chained (Place.old c)) (s .«old_size») b n l i)
+  in-buckets n (Place.new b) l t i =
+      in-right n (gathered (λ c. chained (Place.old c)) (s .«old_size»)) (gathered (λ c. chained (Place.new c)) (s .«new_size»))
+      (in-gathered (λ c. chained (Place.new c)) (s .«new_size») b n l i)
+
+  -- different entries of live buckets are no more than the keys held
+  pub fits-held : (ns : List ℕ) → Distinct ns
+      → ((n : ℕ) → In n ns → (p : Place) × Live s p × IsBucket p × In n (entriesAt s current other entries p))
+      → length ns ≤ s .«old_used» + s .«new_used»
+  unfolding chained
+  fits-held ns d each =
+      omega (
+        arith,
+        buckets-length,
+        distinct-fits ns bucketEntries d (λ n i. let (p, l, b, j) = each n i in in-buckets n p l b j),
+      )
+
+  -- an entry of any live place is on the free list or in a bucket
+  in-all : (n : ℕ) (p : Place) → Live s p → In n (chained p) → In n (chained Place.free ++ bucketEntries)
+  unfolding IsBucket
+  in-all n Place.free l i = in-left n (chained Place.free) bucketEntries i
+  in-all n (Place.old b) l i = in-right n (chained Place.free) bucketEntries (in-buckets n (Place.old b) l tt i)
+  in-all n (Place.new b) l i = in-right n (chained Place.free) bucketEntries (in-buckets n (Place.new b) l tt i)
+
   -- the free list is as long as the capacity less the keys held
   free-length : length (chained Place.free) + (s .«old_used» + s .«new_used») ≡ s .capacity
   unfolding budgetAt chained Live
   free-length =
-      let all = pigeonhole (s .capacity) allChains (λ n z k. let (p, l, i) = u .on-a-chain n z k in in-all n p l i) in
-      omega (arith, all, length-all, chained-linked Place.free tt .1, base .used-fits)
+      let all =
+      pigeonhole (s .capacity) (chained Place.free ++ bucketEntries)
+      (λ n z k. let (p, l, i) = u .on-a-chain n z k in in-all n p l i) in
+      omega (
+        arith,
+        all,
+        length-append (chained Place.free) bucketEntries,
+        buckets-length,
+        chained-linked Place.free tt .1,
+        base .used-fits,
+      )
 
   -- the place of an entry; for a number that is no entry's, the free list
   ownerBy : (n : ℕ) → Dec (0 < n) → Dec (n ≤ s .capacity) → Place

@@ -1,16 +1,15 @@
 -- The places of a walk call's group: live buckets, none twice; an entry whose key the group covers is in one of them, and
 -- a key that calls for one of them is of the group.
 -- Assumes nothing.
-use Prim.Native.Nat.{ℕ, _%_, _<_, min, max}
+use Prim.Native.Nat.{ℕ, _%_, _<_}
 use mathlib.Core.Path.{_≡_, refl, sym, ap, subst, subst₂, subst₃, _∙_}
 use mathlib.Core.Logic.{_⊎_, inl, inr}
-use mathlib.Core.Bool.{Bool, true, false, not, cond}
+use mathlib.Core.Bool.{Bool, true, false, not}
 use mathlib.Core.List.{List, [], _∷_, map}
-use native.Mathlib.Nat.{mod-lt, min-eq-left, min-eq-right, max-eq-left, max-eq-right}
+use native.Mathlib.Nat.{mod-lt}
 use native.Mathlib.Omega.{arith}
 use lib.Dec.{ltb}
 use lib.Pow.{pow-pos}
-use borrow.Author.Tests.{ltb-true, ltb-false}
 use Rattle.cursor.specs.Member.{In, Distinct}
 use Rattle.cursor.specs.Group.{Group, oneTable, twoTables}
 use Rattle.cursor.proofs.LargeBuckets.{LargeBuckets, two-large}
@@ -21,16 +20,16 @@ use Rattle.model.specs.Sequences.{Tables}
 use Rattle.model.proofs.Soundness.{Sound}
 use Rattle.refinement.specs.Demand2.{placesOf, groupPlaces}
 use Rattle.refinement.specs.Demand3.{groupAt, InGroup}
-use Rattle.refinement.proofs.Members.{in-map, of-map, distinct-map}
-use Rattle.refinement.proofs.LiveTables.{exponent, legal-power, Ordered, ordered, CoversKey, tablesBy, tablesOf, group-tables}
+use Rattle.refinement.proofs.Lists.{in-map, of-map, distinct-map}
+use Rattle.refinement.proofs.LiveTables.{exponent, legal-power, Legal, Ranked, old-smaller, new-smaller, CoversKey, tablesBy, tablesOf, group-tables}
 
 -- ---- the buckets of the new or the old table
 
-unfoldable pub bucketIn : Bool → ℕ → Place
+unfoldable bucketIn : Bool → ℕ → Place
 bucketIn true b = Place.new b
 bucketIn false b = Place.old b
 
-unfoldable pub sizeIn : State → Bool → ℕ
+unfoldable sizeIn : State → Bool → ℕ
 sizeIn s true = s .«new_size»
 sizeIn s false = s .«old_size»
 
@@ -79,17 +78,9 @@ pub record PlacesOf (s : State) (Covers OfGroup : ℕ → Type 0) (ps : List Pla
   pub holds : (key : ℕ) (p : Place) → Covers key → Live s p → IsBucket p → Home s key p → In p ps
   pub only : (key : ℕ) (p : Place) → In p ps → Home s key p → OfGroup key
 
--- the group of two tables, by whether the old one is the smaller
-abbrev groupBy : ℕ → ℕ → ℕ → Bool → Group
-groupBy old new cursor oldSmaller = cond oldSmaller (twoTables old new cursor) (twoTables new old cursor)
-
 -- the new or the old table is the smaller
-record SmallerFirst (s : State) (cursor : ℕ) (t : Bool) : Type 0 where
-  pub by-exponents : Ordered (sizeIn s t) (sizeIn s (not t))
-  pub least : min (s .«old_size») (s .«new_size») ≡ sizeIn s t
-  pub most : max (s .«old_size») (s .«new_size») ≡ sizeIn s (not t)
-  pub its-group : groupAt (Tables.two (s .«old_size») (s .«new_size»)) cursor
-      ≡ twoTables (sizeIn s t) (sizeIn s (not t)) cursor
+abbrev SmallerFirst : State → ℕ → Bool → Type 0
+SmallerFirst s cursor t = Ranked (s .«old_size») (s .«new_size») cursor (sizeIn s t) (sizeIn s (not t))
 
 -- its bucket comes first, then those of the other
 places-in-order : (t : Bool) (g : Group) → placesOf true (not t) g ≡ bucketIn t (g .small) ∷ map (bucketIn (not t)) (g .large)
@@ -108,8 +99,8 @@ module _ (s : State) (cursor : ℕ) (t : Bool) (o : SmallerFirst s cursor t) whe
   unfolding large
   swept =
       subst₂ (λ (n m : ℕ). LargeBuckets (exponent (sizeIn s t)) (exponent (sizeIn s (not t))) cursor (twoTables n m cursor .large))
-      (sym (o .by-exponents .small-power)) (sym (o .by-exponents .large-power))
-      (two-large (exponent (sizeIn s t)) (exponent (sizeIn s (not t))) cursor (o .by-exponents .less) (o .by-exponents .fits))
+      (sym (o .powers .small-power)) (sym (o .powers .large-power))
+      (two-large (exponent (sizeIn s t)) (exponent (sizeIn s (not t))) cursor (o .powers .less) (o .powers .fits))
 
   places : List Place
   places = bucketIn t small ∷ map (bucketIn (not t)) large
@@ -117,10 +108,10 @@ module _ (s : State) (cursor : ℕ) (t : Bool) (o : SmallerFirst s cursor t) whe
   places-live : (p : Place) → In p places → Live s p
   unfolding places small
   places-live p (inl e) =
-      rw e (bucket-live s t small (mod-lt cursor (omega (arith, pow-pos (exponent (sizeIn s t)), o .by-exponents .small-power))))
+      rw e (bucket-live s t small (mod-lt cursor (omega (arith, pow-pos (exponent (sizeIn s t)), o .powers .small-power))))
   places-live p (inr i) =
       let (b, j, e) = of-map (bucketIn (not t)) p large i in
-      rw e (bucket-live s (not t) b (rw (o .by-exponents .large-power) (swept .below b j)))
+      rw e (bucket-live s (not t) b (rw (o .powers .large-power) (swept .below b j)))
 
   places-buckets : (p : Place) → In p places → IsBucket p
   unfolding places
@@ -222,24 +213,15 @@ module _ (s : State) (current other entries : List ℕ) (h : Sound s current oth
 
   -- during a rehash, which of the two tables is the smaller
   smaller-first : (t : Bool) → s .rehashing ≡ true → ltb (s .«old_size») (s .«new_size») ≡ not t → SmallerFirst s cursor t
-  unfolding groupAt sizeIn
-  smaller-first false e f =
-      let l : s .«old_size» < s .«new_size» = ltb-true (s .«old_size») (s .«new_size») f in
-      record {
-        by-exponents = ordered (s .«old_size») (s .«new_size») (h .base .old-legal) (h .move e .new-legal) l;
-        least = min-eq-left (omega arith);
-        most = max-eq-right (omega arith);
-        its-group = ap (groupBy (s .«old_size») (s .«new_size») cursor) f;
-      }
-  smaller-first true e f =
-      let l : s .«new_size» < s .«old_size» =
-      omega (arith, ltb-false (s .«old_size») (s .«new_size») f, h .move e .sizes-differ) in
-      record {
-        by-exponents = ordered (s .«new_size») (s .«old_size») (h .move e .new-legal) (h .base .old-legal) l;
-        least = min-eq-right (omega arith);
-        most = max-eq-left (omega arith);
-        its-group = ap (groupBy (s .«old_size») (s .«new_size») cursor) f;
-      }
+  unfolding Legal sizeIn
+  smaller-first t e = by t
+    where
+      legal : Legal (Tables.two (s .«old_size») (s .«new_size»))
+      legal = (h .base .old-legal, h .move e .new-legal, h .move e .sizes-differ)
+
+      by : (t : Bool) → ltb (s .«old_size») (s .«new_size») ≡ not t → SmallerFirst s cursor t
+      by false = old-smaller (s .«old_size») (s .«new_size») cursor legal
+      by true = new-smaller (s .«old_size») (s .«new_size») cursor legal
 
   -- the places of a call's group, in a sound state
   pub group-places : PlacesOf s (CoversKey (tablesOf s) cursor) (InGroup (tablesOf s) cursor) (groupPlaces s cursor)

@@ -1,12 +1,12 @@
 -- The ideal after one call, by whether the call was answered 0.
 -- Assumes nothing.
 use Prim.Native.Nat.{ℕ, zero, suc}
-use mathlib.Core.Path.{_≡_, refl, sym, _∙_, subst₂}
+use mathlib.Core.Path.{_≡_, refl, sym, subst₂, _∙_}
 use mathlib.Core.List.{List}
 use native.Mathlib.Omega.{arith}
 use Rattle.model.specs.Sequences.{World, Call, perform, carry, Event, event, PlainMap, mapStep, Tables, tablesAfter, tablesAnswered, tablesStep}
 use Rattle.refinement.specs.Demand3.{Ideal, freshAfter, freshAnswered, idealStep}
-use Rattle.refinement.proofs.Refusing.{refused-keeps}
+use Rattle.refinement.proofs.Refusals.{refused-keeps}
 use Rattle.refinement.proofs.Agreement.{Agrees}
 
 module _ (i : Ideal) (e : Event) where

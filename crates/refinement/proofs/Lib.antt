@@ -1,57 +1,56 @@
 -- From the definitions of model to the demands.
+
+-- lists and sums
+pub mod Lists
+pub mod Sums
+-- the shape of a store, and the chains as they are read
+pub mod Shape
+pub mod States
+pub mod Places
+pub mod LinkedChains
+pub mod ToUndamaged
+pub mod FromUndamaged
+pub mod FirstEntries
+-- one cell of the memory, and the relink theorem
+pub mod Cells
+pub mod Relink
+pub mod RelinkWrites
+pub mod StoreAfter
+-- each call keeps the shape
+pub mod ClearedBuckets
+pub mod Init
+pub mod Add
+pub mod Delete
+pub mod Update
+pub mod Resize
+pub mod RehashMove
+pub mod RehashEnd
+-- what the calls look up and answer, and from their buffers to the world
+pub mod Lookups
+pub mod CallAnswers
+pub mod Orientation
+pub mod Refusals
+-- the walk call
+pub mod LiveTables
+pub mod GroupChains
+pub mod GroupPlaces
+pub mod GroupEntries
+pub mod WalkCalls
+-- histories: a store that agrees with the plain map and the live tables, call by call
+pub mod PlainMaps
+pub mod Agreement
+pub mod IdealSteps
+pub mod KeyedSteps
+pub mod TableSteps
+pub mod MovedKeys
+pub mod RehashSteps
+pub mod Walks
+pub mod WalkSteps
+pub mod Histories
+-- the demands
 pub mod Demand1Tests
 pub mod Demand1Chains
 pub mod Demand1Reads
 pub mod Demand1
-pub mod Shape
-pub mod Reading
-pub mod Counting
-pub mod Members
-pub mod ToUndamaged
-pub mod FromUndamaged
-pub mod LookingUp
-pub mod FirstEntries
-pub mod Answering
-pub mod MakingSound
-pub mod Cells
-pub mod Splits
-pub mod Places
-pub mod Sums
-pub mod Recount
-pub mod Relinking
-pub mod Writes
-pub mod Leaving
-pub mod Adding
-pub mod Deleting
-pub mod Stepping
-pub mod Clearing
-pub mod Starting
-pub mod Updating
-pub mod Resizing
-pub mod Finishing
-pub mod Refusing
-pub mod LiveTables
-pub mod GroupPlaces
-pub mod HandingOut
-pub mod WalkCalls
-pub mod Sequences
-pub mod Walking
-pub mod Sweeping
-pub mod Orienting
-pub mod Agreement
-pub mod Stepwise
-pub mod Maps
-pub mod Carrying
-pub mod UpdatedValues
-pub mod KeyedCalls
-pub mod Keeping
-pub mod KeyedSteps
 pub mod Demand2
-pub mod WalkSteps
-pub mod AgreeingOn
-pub mod IdealSteps
-pub mod TableCalls
-pub mod StepKeys
-pub mod StepCalls
-pub mod Histories
 pub mod Demand3

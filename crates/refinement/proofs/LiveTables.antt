@@ -1,11 +1,12 @@
 -- The live tables of a state, and the same by the exponents of their sizes: what the laws of the cursor are over.
 -- Assumes nothing.
 use Prim.Native.Nat.{ℕ, zero, suc, _%_, _^_, _<_, _≤_, min, max}
-use mathlib.Core.Path.{_≡_, refl, sym, ap, _∙_}
+use mathlib.Core.Path.{_≡_, refl, sym, ap, subst₃, _∙_}
 use mathlib.Core.Bool.{Bool, true, false, cond}
-use mathlib.Core.List.{List}
+use mathlib.Core.List.{List, [], _∷_}
 use native.Mathlib.Nat.{min-eq-left, min-eq-right, max-eq-left, max-eq-right}
 use native.Mathlib.Omega.{arith}
+use lib.ListN.{length}
 use lib.Dec.{leb, ltb}
 use borrow.Author.Tests.{leb-true, leb-false, ltb-true, ltb-false}
 use Rattle.cursor.specs.Member.{In}
@@ -16,15 +17,16 @@ use Rattle.model.specs.declared.State.{State}
 use Rattle.model.specs.Keys.{hash, bucketOf}
 use Rattle.model.specs.Limits.{largestExponent, legalSize}
 use Rattle.model.specs.Walk.{group}
-use Rattle.model.specs.Sequences.{Tables}
+use Rattle.model.specs.Sequences.{Pair, Tables}
 use Rattle.model.proofs.Power.{exponent-le, exponent-lt, power-of}
 use Rattle.model.proofs.Soundness.{Sound}
-use Rattle.refinement.specs.Demand3.{smallerOf, groupAt}
+use Rattle.refinement.specs.Demand2.{nextCursor}
+use Rattle.refinement.specs.Demand3.{Ideal, smallerOf, groupAt, publishedNext}
 
 -- ---- exponents
 
 -- the exponent of a power of two, up to e
-unfoldable pub exponentUpTo : ℕ → ℕ → ℕ
+exponentUpTo : ℕ → ℕ → ℕ
 exponentUpTo zero n = 0
 exponentUpTo (suc e) n = cond (leb (2 ^ suc e) n) (suc e) (exponentUpTo e n)
 
@@ -40,7 +42,7 @@ exponent-up-to (suc e) b h = pick (leb (2 ^ suc e) (2 ^ b)) refl (exponent-up-to
         ih (omega (arith, exponent-lt b (suc e) refl refl (leb-false (2 ^ suc e) (2 ^ b) p)))
 
 -- the exponent of a table's size
-unfoldable pub exponent : ℕ → ℕ
+pub exponent : ℕ → ℕ
 exponent size = exponentUpTo largestExponent size
 
 -- a legal size is 2 to its exponent
@@ -69,37 +71,61 @@ pub record Ordered (small large : ℕ) : Type 0 where
   pub less : exponent small < exponent large
   pub fits : exponent large ≤ 32
 
-pub ordered : (small large : ℕ) → legalSize small ≡ true → legalSize large ≡ true → small < large → Ordered small large
+ordered : (small large : ℕ) → legalSize small ≡ true → legalSize large ≡ true → small < large → Ordered small large
 ordered small large a b l =
     let (p, f) = legal-power small a in
     let (q, g) = legal-power large b in
     record { small-power = p; large-power = q; less = exponent-lt (exponent small) (exponent large) p q l; fits = g }
 
--- what is to be known of two tables follows where either is the smaller: the smaller and the larger size, and the group
-by-order : (P : ℕ → ℕ → Group → Type 0) (old new cursor : ℕ) → Legal (Tables.two old new)
-    → ((small large : ℕ) → Ordered small large → P small large (twoTables small large cursor))
-    → P (min old new) (max old new) (groupAt (Tables.two old new) cursor)
-unfolding Legal groupAt
-by-order P old new cursor h f = pick (ltb old new) refl
-  where
-    pick : (t : Bool) → ltb old new ≡ t
-        → P (min old new) (max old new) (cond t (twoTables old new cursor) (twoTables new old cursor))
-    pick true e =
-        let l : old < new = ltb-true old new e in
-        let least : min old new ≡ old = min-eq-left (omega arith) in
-        let most : max old new ≡ new = max-eq-right (omega arith) in
-        rw (least, most) (f old new (ordered old new (h .0) (h .1) l))
-    pick false e =
-        let l : new < old = omega (arith, ltb-false old new e, h .2) in
-        let least : min old new ≡ new = min-eq-right (omega arith) in
-        let most : max old new ≡ old = max-eq-left (omega arith) in
-        rw (least, most) (f new old (ordered new old (h .1) (h .0) l))
+-- the sizes of two tables, the smaller first, and the group that they make
+pub record Ranked (old new cursor small large : ℕ) : Type 0 where
+  pub powers : Ordered small large
+  pub least : min old new ≡ small
+  pub most : max old new ≡ large
+  pub its-group : groupAt (Tables.two old new) cursor ≡ twoTables small large cursor
+
+module _ (old new cursor : ℕ) (h : Legal (Tables.two old new)) where
+  pub old-smaller : ltb old new ≡ true → Ranked old new cursor old new
+  unfolding Legal groupAt
+  old-smaller e =
+      let l : old < new = ltb-true old new e in
+      record {
+        powers = ordered old new (h .0) (h .1) l;
+        least = min-eq-left (omega arith);
+        most = max-eq-right (omega arith);
+        its-group = ap (λ (t : Bool). cond t (twoTables old new cursor) (twoTables new old cursor)) e;
+      }
+
+  pub new-smaller : ltb old new ≡ false → Ranked old new cursor new old
+  unfolding Legal groupAt
+  new-smaller e =
+      let l : new < old = omega (arith, ltb-false old new e, h .2) in
+      record {
+        powers = ordered new old (h .1) (h .0) l;
+        least = min-eq-right (omega arith);
+        most = max-eq-left (omega arith);
+        its-group = ap (λ (t : Bool). cond t (twoTables old new cursor) (twoTables new old cursor)) e;
+      }
+
+  -- what is to be known of two tables follows where either is the smaller
+  by-order : (P : ℕ → ℕ → Group → Type 0)
+      → ((small large : ℕ) → Ordered small large → P small large (twoTables small large cursor))
+      → P (min old new) (max old new) (groupAt (Tables.two old new) cursor)
+  by-order P f = pick (ltb old new) refl
+    where
+      ranked : (small large : ℕ) → Ranked old new cursor small large
+          → P (min old new) (max old new) (groupAt (Tables.two old new) cursor)
+      ranked small large r = subst₃ P (sym (r .least)) (sym (r .most)) (sym (r .its-group)) (f small large (r .powers))
+
+      pick : (t : Bool) → ltb old new ≡ t → P (min old new) (max old new) (groupAt (Tables.two old new) cursor)
+      pick true e = ranked old new (old-smaller e)
+      pick false e = ranked new old (new-smaller e)
 
 pub live-valid : (t : Tables) → Legal t → Valid (liveOf t)
 unfolding Legal liveOf
 live-valid (Tables.one size) h = legal-power size h .1
 live-valid (Tables.two old new) h =
-    by-order (λ small large g. (exponent small < exponent large) × (exponent large ≤ 32)) old new 0 h
+    by-order old new 0 h (λ small large g. (exponent small < exponent large) × (exponent large ≤ 32))
     (λ small large o. (o .less, o .fits))
 
 -- the smaller size is 2 to the smaller exponent
@@ -107,22 +133,23 @@ pub live-smaller : (t : Tables) → Legal t → 2 ^ smaller (liveOf t) ≡ small
 unfolding Legal liveOf smallerOf
 live-smaller (Tables.one size) h = sym (legal-power size h .0)
 live-smaller (Tables.two old new) h =
-    by-order (λ small large g. 2 ^ exponent small ≡ small) old new 0 h (λ small large o. sym (o .small-power))
+    by-order old new 0 h (λ small large g. 2 ^ exponent small ≡ small) (λ small large o. sym (o .small-power))
 
 -- the group is that of the exponents
-pub live-group : (t : Tables) → Legal t → (cursor : ℕ) → groupOf (liveOf t) cursor ≡ groupAt t cursor
+live-group : (t : Tables) → Legal t → (cursor : ℕ) → groupOf (liveOf t) cursor ≡ groupAt t cursor
 unfolding Legal liveOf groupAt
 live-group (Tables.one size) h cursor = rw (← legal-power size h .0)
 live-group (Tables.two old new) h cursor =
-    by-order (λ small large g. twoTables (2 ^ exponent small) (2 ^ exponent large) cursor ≡ g) old new cursor h
+    by-order old new cursor h (λ small large g. twoTables (2 ^ exponent small) (2 ^ exponent large) cursor ≡ g)
     (λ small large o. rw (← o .small-power, ← o .large-power))
 
 -- a call answers the next cursor of the smaller size
+pub live-answers : (t : Tables) → Legal t → (cursor : ℕ) → groupOf (liveOf t) cursor .answered ≡ next (smallerOf t) cursor
+live-answers t h cursor =
+    call-answers (liveOf t) cursor (live-valid t h) ∙ ap (λ (size : ℕ). next size cursor) (live-smaller t h)
+
 pub group-answers : (t : Tables) → Legal t → (cursor : ℕ) → groupAt t cursor .answered ≡ next (smallerOf t) cursor
-group-answers t h cursor =
-    ap (λ (g : Group). g .answered) (sym (live-group t h cursor))
-    ∙ call-answers (liveOf t) cursor (live-valid t h)
-    ∙ ap (λ (size : ℕ). next size cursor) (live-smaller t h)
+group-answers t h cursor = ap (λ (g : Group). g .answered) (sym (live-group t h cursor)) ∙ live-answers t h cursor
 
 -- the group covers a key: its bucket in every live table is in the group
 unfoldable pub CoversKey : Tables → ℕ → ℕ → Type 0
@@ -136,12 +163,11 @@ pub live-covers : (t : Tables) → Legal t → (cursor key : ℕ) → Covers (li
 unfolding Legal liveOf groupAt CoversKey bucketOf hash
 live-covers (Tables.one size) h cursor key = λ c. rw (← legal-power size h .0) at c
 live-covers (Tables.two old new) h cursor key =
-    by-order
+    by-order old new cursor h
     (λ small large g.
     (key % 2 ^ exponent small ≡ twoTables (2 ^ exponent small) (2 ^ exponent large) cursor .small)
     × In (key % 2 ^ exponent large) (twoTables (2 ^ exponent small) (2 ^ exponent large) cursor .large)
     → (key % small ≡ g .small) × In (key % large) (g .large))
-    old new cursor h
     (λ small large o c. rw (← o .small-power, ← o .large-power) at c)
 
 -- ---- the tables of a state
@@ -176,3 +202,15 @@ group-tables s cursor = pick (s .rehashing)
         ≡ groupAt (tablesBy t (s .«old_size») (s .«new_size»)) cursor
     pick false = refl
     pick true = refl
+
+-- the published next cursor, by the number of pairs
+published-at : (capacity : ℕ) (ps : List Pair) (t : Tables) (fresh : List ℕ) (cursor : ℕ)
+    → publishedNext (record { plain = record { capacity = capacity; pairs = ps }; tables = t; fresh = fresh }) cursor
+    ≡ nextCursor (length ps) (next (smallerOf t) cursor)
+unfolding publishedNext nextCursor
+published-at capacity [] t fresh cursor = refl
+published-at capacity (p ∷ ps) t fresh cursor = refl
+
+pub published : (i : Ideal) (cursor : ℕ)
+    → publishedNext i cursor ≡ nextCursor (length (i .plain .pairs)) (next (smallerOf (i .tables)) cursor)
+published i cursor = published-at (i .plain .capacity) (i .plain .pairs) (i .tables) (i .fresh) cursor

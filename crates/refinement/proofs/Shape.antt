@@ -1,6 +1,7 @@
 -- The shape of an undamaged store: for each place the entries of its chain, for each entry the place that owns it. It is
 -- what the calls' proofs keep; the statements do not name it.
-use Prim.Native.Nat.{ℕ, zero, suc, _+_, _<_, _≤_}
+-- Assumes nothing.
+use Prim.Native.Nat.{ℕ, _+_, _<_, _≤_}
 use mathlib.Core.Path.{_≡_}
 use mathlib.Core.Bool.{true}
 use mathlib.Core.List.{List, [], _∷_}
@@ -8,6 +9,8 @@ use lib.ListN.{length, getD}
 use Rattle.cursor.specs.Member.{In}
 use Rattle.model.specs.declared.State.{State}
 use Rattle.model.specs.Memory.{Place, Live, Home, IsBucket, keyOf, linkOf, soundState, sum}
+use Rattle.model.specs.Calls.{sound}
+use Rattle.model.proofs.Soundness.{Sound, sound-facts}
 
 -- the first entry at a place
 unfoldable pub headAt : State → List ℕ → List ℕ → Place → ℕ
@@ -34,3 +37,12 @@ pub record Shape (s : State) (current other entries : List ℕ) : Type 0 where
   pub old-count : s .«old_used» ≡ sum (λ b. length (at (Place.old b))) (s .«old_size»)
   pub new-count : s .«new_used» ≡ sum (λ b. length (at (Place.new b))) (s .«new_size»)
   pub free-count : length (at Place.free) + (s .«old_used» + s .«new_used») ≡ s .capacity
+
+module _ {s : State} {current other entries : List ℕ} (h : Shape s current other entries) where
+  -- the state is sound, and what that says
+  pub shape-sound : sound s current other entries ≡ true
+  unfolding sound
+  shape-sound = h .state-sound
+
+  pub facts : Sound s current other entries
+  facts = sound-facts s current other entries shape-sound

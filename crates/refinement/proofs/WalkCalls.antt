@@ -20,14 +20,14 @@ use Rattle.model.specs.Sequences.{World, Call, Outcome, handedOut, perform, Eve
 use Rattle.refinement.specs.Worlds.{current, other, UndamagedAt, Held, Holds}
 use Rattle.refinement.specs.Demand2.{groupPlaces, nextCursor}
 use Rattle.refinement.specs.Demand3.{Ideal, keysOf, smallerOf, InGroup, publishedNext, pairsIn, countIn, handed, WalkCall, AsWalk}
-use Rattle.refinement.proofs.Members.{in-map, of-map}
-use Rattle.refinement.proofs.LiveTables.{CoversKey, tablesOf, tables-legal, group-tables, group-answers}
-use Rattle.refinement.proofs.HandingOut.{readAt, entriesOfGroup, at-a-place, among-places, world-sound, world-places, group-keys, group-fits, walk-answered, walk-short, walk-number, answered-fits}
+use Rattle.refinement.proofs.Lists.{in-map, of-map}
+use Rattle.refinement.proofs.LiveTables.{group-answers, CoversKey, tablesOf, tables-legal, group-tables, published}
+use Rattle.refinement.proofs.GroupEntries.{readAt, entriesOfGroup, at-a-place, among-places, world-sound, world-places, group-keys, group-fits, walk-answered, walk-short, walk-number, answered-fits}
 
 -- ---- pairs in a list
 
 -- an entry's key and value
-unfoldable pub pairOf : List ℕ → ℕ → Pair
+unfoldable pairOf : List ℕ → ℕ → Pair
 pairOf entries n = record { key = keyOf entries n; value = valueOf entries n }
 
 -- what was written as pairs is read as those pairs
@@ -41,27 +41,15 @@ unfolding pairs
 pairs-length entries [] = refl
 pairs-length entries (n ∷ ns) = omega (arith, pairs-length entries ns)
 
--- the published next cursor, by the number of pairs
-published-at : (capacity : ℕ) (ps : List Pair) (t : Tables) (fresh : List ℕ) (cursor : ℕ)
-    → publishedNext (record { plain = record { capacity = capacity; pairs = ps }; tables = t; fresh = fresh }) cursor
-    ≡ nextCursor (length ps) (next (smallerOf t) cursor)
-unfolding publishedNext nextCursor
-published-at capacity [] t fresh cursor = refl
-published-at capacity (p ∷ ps) t fresh cursor = refl
-
-pub published : (i : Ideal) (cursor : ℕ)
-    → publishedNext i cursor ≡ nextCursor (length (i .plain .pairs)) (next (smallerOf (i .tables)) cursor)
-published i cursor = published-at (i .plain .capacity) (i .plain .pairs) (i .tables) (i .fresh) cursor
-
 -- ---- the call
 
 -- what an onlooker sees of it
-abbrev pub scanned : World → ℕ → List ℕ → Event
+abbrev scanned : World → ℕ → List ℕ → Event
 scanned w cursor lent = event w (Call.scan cursor lent) (perform w (Call.scan cursor lent))
 
 module _ (w : World) (u : UndamagedAt w) (cursor : ℕ) (lent : List ℕ) where
   -- an answered call hands out the pairs of the group's entries
-  pub handed-entries : scanned w cursor lent .number ≡ 0
+  handed-entries : scanned w cursor lent .number ≡ 0
       → handed (scanned w cursor lent) ≡ map (pairOf (w .entries)) (entriesOfGroup w cursor)
   unfolding handed event handedOut scanReply countIn
   handed-entries z =
@@ -123,7 +111,7 @@ module _ (w : World) (u : UndamagedAt w) (cursor : ℕ) (lent : List ℕ) where
       }
 
   -- the key of an entry of the group calls for one of its buckets
-  pub group-only : (n : ℕ) → In n (entriesOfGroup w cursor) → InGroup (tablesOf (w .state)) cursor (keyOf (w .entries) n)
+  group-only : (n : ℕ) → In n (entriesOfGroup w cursor) → InGroup (tablesOf (w .state)) cursor (keyOf (w .entries) n)
   unfolding UndamagedAt
   group-only n i =
       let (p, a, j) = at-a-place w n (groupPlaces (w .state) cursor) i in
@@ -131,7 +119,7 @@ module _ (w : World) (u : UndamagedAt w) (cursor : ℕ) (lent : List ℕ) where
       ps .only (keyOf (w .entries) n) p a (u .in-its-bucket n p (ps .live p a) j)
 
   -- an entry in a live bucket whose key the group covers is of the group
-  pub covered-entry : (n : ℕ) (p : Place) → Live (w .state) p → IsBucket p → In n (readAt w p)
+  covered-entry : (n : ℕ) (p : Place) → Live (w .state) p → IsBucket p → In n (readAt w p)
       → CoversKey (tablesOf (w .state)) cursor (keyOf (w .entries) n) → In n (entriesOfGroup w cursor)
   unfolding UndamagedAt
   covered-entry n p l b i c =

@@ -2,7 +2,7 @@
 -- and which keys its buckets then hold, with which values.
 -- Assumes nothing.
 use Prim.Native.Nat.{ℕ}
-use mathlib.Core.Path.{_≡_, sym, ap, _∙_}
+use mathlib.Core.Path.{_≡_, refl, sym, ap, subst, _∙_}
 use mathlib.Core.Logic.{_⊎_, inl, inr}
 use mathlib.Core.List.{List}
 use Rattle.cursor.specs.Member.{In}
@@ -10,7 +10,8 @@ use Rattle.model.specs.declared.State.{State}
 use Rattle.model.specs.Memory.{Place, Live, IsBucket, keyOf, valueOf}
 use Rattle.model.specs.Calls.{After, keysHeld}
 use Rattle.refinement.proofs.Shape.{Shape}
-use Rattle.refinement.proofs.Relinking.{Moved}
+use Rattle.refinement.proofs.States.{recounted}
+use Rattle.refinement.proofs.Relink.{Moved}
 
 -- one of some entries has the key and the value
 pub record HeldIn (entries ns : List ℕ) (key value : ℕ) : Type 0 where
@@ -19,9 +20,26 @@ pub record HeldIn (entries ns : List ℕ) (key value : ℕ) : Type 0 where
   pub its-key : keyOf entries entry ≡ key
   pub its-value : valueOf entries entry ≡ value
 
+-- so is one of the same entries, by another name for them
+abbrev pub held-as : {entries ns ms : List ℕ} {key value : ℕ} → ns ≡ ms → HeldIn entries ns key value → HeldIn entries ms key value
+held-as {entries} {ns} {ms} {key} {value} e h = subst (λ (ls : List ℕ). HeldIn entries ls key value) e h
+
+-- the same capacity, and the same tables in the same buffers
+pub record SameTables (s s' : State) : Type 0 where
+  pub current : s' .«second_is_current» ≡ s .«second_is_current»
+  pub capacity : s' .capacity ≡ s .capacity
+  pub old-size : s' .«old_size» ≡ s .«old_size»
+  pub new-size : s' .«new_size» ≡ s .«new_size»
+  pub rehashing : s' .rehashing ≡ s .rehashing
+
+pub recounted-same : (s : State) (free old new : ℕ) → SameTables s (recounted s free old new)
+unfolding recounted
+recounted-same s free old new =
+    record { current = refl; capacity = refl; old-size = refl; new-size = refl; rehashing = refl }
+
 -- the state before, the answer as a function of the state in it, the outcome, the number of keys held then, and what each
 -- live bucket holds
-pub record Leaves {A : Type 0} (s : State) (answer : State → A) (outcome : After A) (keys : ℕ)
+pub record StoreAfter {A : Type 0} (s : State) (answer : State → A) (outcome : After A) (keys : ℕ)
     (holds : Place → ℕ → ℕ → Type 0) : Type 0 where
   pub state : State
   pub current : List ℕ
@@ -29,11 +47,7 @@ pub record Leaves {A : Type 0} (s : State) (answer : State → A) (outcome : Aft
   pub entries : List ℕ
   pub is : outcome ≡ After.after (answer state) current other entries
   pub shape : Shape state current other entries
-  pub same-current : state .«second_is_current» ≡ s .«second_is_current»
-  pub same-capacity : state .capacity ≡ s .capacity
-  pub same-old-size : state .«old_size» ≡ s .«old_size»
-  pub same-new-size : state .«new_size» ≡ s .«new_size»
-  pub same-rehashing : state .rehashing ≡ s .rehashing
+  pub same : SameTables s state
   pub keys-held : keysHeld state ≡ keys
   pub held-only : (t : Place) → Live s t → IsBucket t → (key value : ℕ) → HeldIn entries (shape .at t) key value
       → holds t key value

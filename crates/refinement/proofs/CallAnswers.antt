@@ -19,10 +19,10 @@ use Rattle.model.specs.declared.DeleteAnswer.{DeleteAnswer}
 use Rattle.model.specs.declared.StepAnswer.{StepAnswer}
 use Rattle.model.specs.Memory.{Place, Live, IsBucket, keyOf, valueOf, setValue, chainAt}
 use Rattle.model.specs.Calls.{After, lookup, sound, keysHeld, found, findIn, updated, updateIn, takeable, pushed, added, addIn, deleted, deleteIn, firstFilled, finished, movedChain, movedFrom, stepped, rehashStepIn}
-use Rattle.refinement.proofs.Shape.{Shape}
+use Rattle.refinement.proofs.Shape.{Shape, shape-sound}
 use Rattle.refinement.proofs.ToUndamaged.{chain-at}
-use Rattle.refinement.proofs.LookingUp.{FoundAt, NotHeld, shape-sound, found-at, lookup-held, lookup-none}
 use Rattle.refinement.proofs.FirstEntries.{FilledFirst, free-taken}
+use Rattle.refinement.proofs.Lookups.{FoundAt, NotHeld, found-at, lookup-held, lookup-none}
 
 module _ {s : State} {current other entries : List ℕ} (h : Shape s current other entries) where
   -- the test for a sound state is passed
@@ -62,45 +62,31 @@ module _ {s : State} {current other entries : List ℕ} (h : Shape s current oth
         (After.after (DeleteAnswer.Refused Error.BadState) current other entries)
         ∙ ap (deleted s current other entries key) e
 
-    -- The lookup found an entry: find reads its value, update writes it, add is refused, delete takes the entry out.
-
-    pub find-at : (inNew : Bool) (before n : ℕ) → lookup s current other entries key ≡ Lookup.At inNew before n
-        → findIn s entries key current other ≡ FindAnswer.Found (valueOf entries n)
-    unfolding found
-    find-at inNew before n e = find-by (Lookup.At inNew before n) e
-
-    pub update-at : (value : ℕ) (inNew : Bool) (before n : ℕ) → lookup s current other entries key ≡ Lookup.At inNew before n
-        → updateIn s entries key value current other ≡ After.after UpdateAnswer.Updated current other (setValue entries n value)
-    unfolding updated
-    update-at value inNew before n e = update-by value (Lookup.At inNew before n) e
-
-    pub add-at : (value : ℕ) (inNew : Bool) (before n : ℕ) → lookup s current other entries key ≡ Lookup.At inNew before n
-        → addIn s entries key value current other ≡ After.after (AddAnswer.Refused Error.Present) current other entries
-    unfolding added
-    add-at value inNew before n e = add-by value (Lookup.At inNew before n) e
-
-    pub delete-at : (inNew : Bool) (before n : ℕ) → lookup s current other entries key ≡ Lookup.At inNew before n
-        → deleteIn s entries key current other ≡ deleted s current other entries key (Lookup.At inNew before n)
-    delete-at inNew before n e = delete-by (Lookup.At inNew before n) e
-
-    -- An entry of a live bucket has the key: the lookup finds that one.
+    -- An entry of a live bucket has the key: the lookup finds that one. Find reads its value, update writes it, add is refused,
+    -- delete takes the entry out.
     module _ (n : ℕ) (p : Place) (l : Live s p) (b : IsBucket p) (i : In n (h .at p)) (k : keyOf entries n ≡ key) where
       pub find-held : findIn s entries key current other ≡ FindAnswer.Found (valueOf entries n)
-      find-held = let (inNew, before, e) = lookup-held h key n p l b i k in find-at inNew before n e
+      unfolding found
+      find-held =
+          let (inNew, before, e) = lookup-held h key n p l b i k in find-by (Lookup.At inNew before n) e
 
       pub update-held : (value : ℕ)
           → updateIn s entries key value current other ≡ After.after UpdateAnswer.Updated current other (setValue entries n value)
-      update-held value = let (inNew, before, e) = lookup-held h key n p l b i k in update-at value inNew before n e
+      unfolding updated
+      update-held value =
+          let (inNew, before, e) = lookup-held h key n p l b i k in update-by value (Lookup.At inNew before n) e
 
       pub add-held : (value : ℕ)
           → addIn s entries key value current other ≡ After.after (AddAnswer.Refused Error.Present) current other entries
-      add-held value = let (inNew, before, e) = lookup-held h key n p l b i k in add-at value inNew before n e
+      unfolding added
+      add-held value =
+          let (inNew, before, e) = lookup-held h key n p l b i k in add-by value (Lookup.At inNew before n) e
 
       pub delete-held : (inNew : Bool) × (before : ℕ) × FoundAt h key inNew before n
           × (deleteIn s entries key current other ≡ deleted s current other entries key (Lookup.At inNew before n))
       delete-held =
           let (inNew, before, e) = lookup-held h key n p l b i k in
-          (inNew, before, found-at h key inNew before n e, delete-at inNew before n e)
+          (inNew, before, found-at h key inNew before n e, delete-by (Lookup.At inNew before n) e)
 
     -- No entry of a live bucket has the key: find, update and delete are refused.
     module _ (none-held : NotHeld h key) where
@@ -148,7 +134,7 @@ module _ {s : State} {current other entries : List ℕ} (h : Shape s current oth
           (λ (t : Bool).
           cond t (pushed s current other entries key value (s .rehashing))
           (After.after (AddAnswer.Refused Error.Damaged) current other entries))
-          (free-taken h f .can-be-taken)
+          (free-taken h f .2)
 
   -- A step goes by whether a rehash is under way, and whether the old table holds keys.
 

@@ -1,19 +1,19 @@
 -- The end of a rehash: the new table becomes the only one, and the buffers change places. No entry moves.
 -- Assumes nothing.
-use Prim.Native.Nat.{ℕ, _<_}
-use mathlib.Core.Path.{_≡_, refl, ap}
+use Prim.Native.Nat.{ℕ}
+use mathlib.Core.Path.{_≡_, refl, ap, subst}
 use mathlib.Core.Bool.{true}
-use mathlib.Core.List.{List, _∷_}
+use mathlib.Core.List.{List}
 use native.Mathlib.Omega.{arith}
 use lib.ListN.{length}
 use Rattle.cursor.specs.Member.{In}
 use Rattle.model.specs.declared.State.{State}
 use Rattle.model.specs.Memory.{Place, Live, Home, IsBucket, keyOf, soundState, sum}
-use Rattle.model.specs.Calls.{sound, finished}
-use Rattle.model.proofs.Soundness.{Sound, SoundMove, sound-facts}
-use Rattle.refinement.proofs.Shape.{Shape, Linked, headAt}
-use Rattle.refinement.proofs.MakingSound.{sound-test}
-use Rattle.refinement.proofs.Counting.{term-in-sum}
+use Rattle.model.specs.Calls.{finished}
+use Rattle.model.proofs.Soundness.{SoundMove}
+use Rattle.refinement.proofs.Shape.{headAt, Linked, Shape, facts}
+use Rattle.refinement.proofs.States.{sound-again}
+use Rattle.refinement.proofs.FirstEntries.{old-empty}
 
 -- the same bucket, where the two tables change places
 unfoldable pub swappedPlace : Place → Place
@@ -27,48 +27,19 @@ swapped-bucket Place.free b = b
 swapped-bucket (Place.old b) c = c
 swapped-bucket (Place.new b) c = c
 
--- a list with a member is not empty
-in-some : (n : ℕ) (ns : List ℕ) → In n ns → 0 < length ns
-in-some n (m ∷ ns) i = omega arith
-
 module _ {s : State} {current other entries : List ℕ} (h : Shape s current other entries) (moving : s .rehashing ≡ true)
     (none-left : s .«old_used» ≡ 0) where
-  before : Sound s current other entries
-  unfolding sound
-  before = sound-facts s current other entries (h .state-sound)
-
   move : SoundMove s (length other)
-  move = before .move moving
-
-  -- every chain of the old table is empty
-  old-empty : (n b : ℕ) → b < s .«old_size» → In n (h .at (Place.old b)) → ⊥
-  old-empty n b l i =
-      omega (
-        arith,
-        in-some n (h .at (Place.old b)) i,
-        term-in-sum (λ c. length (h .at (Place.old c))) (s .«old_size») b l,
-        h .old-count,
-      )
+  move = facts h .move moving
 
   finished-sound : soundState (length other) (length current) (length entries) (finished s) ≡ true
   unfolding finished
   finished-sound =
-      let base = before .base in
-      sound-test (finished s) other current entries
-      (record {
-        base =
-            record {
-              some-entries = base .some-entries;
-              capacity-limit = base .capacity-limit;
-              entries-fit = base .entries-fit;
-              old-legal = move .new-legal;
-              old-fits = move .new-fits;
-              used-fits = omega (arith, base .used-fits);
-              free-fits = base .free-fits;
-            };
-        move = λ e. let z : _≡_ {A = ℕ} 0 1 = cc in absurd (omega arith);
-        still = λ e. record { no-new = refl; no-new-used = refl; no-index = refl };
-      })
+      let base = facts h .base in
+      sound-again (finished s) other current entries (facts h) refl refl (move .new-legal) (move .new-fits)
+      (omega (arith, base .used-fits)) (base .free-fits)
+      (λ e. let z : _≡_ {A = ℕ} 0 1 = cc in absurd (omega arith))
+      (λ e. record { no-new = refl; no-new-used = refl; no-index = refl })
 
   -- a live place was the other table's
   live-before : (p : Place) → Live (finished s) p → Live s (swappedPlace p)
@@ -82,7 +53,7 @@ module _ {s : State} {current other entries : List ℕ} (h : Shape s current oth
       → Live (finished s) (swappedPlace p) × In n (h .at (swappedPlace (swappedPlace p)))
   unfolding finished Live swappedPlace
   in-after n Place.free l i = (l, i)
-  in-after n (Place.old b) l i = absurd (old-empty n b l i)
+  in-after n (Place.old b) l i = absurd (subst (λ (ns : List ℕ). In n ns) (old-empty h none-left b l) i)
   in-after n (Place.new b) l i = (l, i)
 
   home-after : (key : ℕ) (p : Place) → Live (finished s) p → Home s key (swappedPlace p) → Home (finished s) key p

@@ -11,9 +11,11 @@ use native.Mathlib.Decide.{ℕ-discrete}
 use native.Mathlib.Omega.{arith}
 use lib.ListN.{length}
 use borrow.Author.Tests.{eq-eqb, ne-eqb}
-use Rattle.cursor.specs.Member.{In}
+use Rattle.cursor.specs.Member.{Distinct, In}
 use Rattle.model.specs.Sequences.{Pair, valueFor, withValue, without}
 use Rattle.refinement.specs.Worlds.{KeysDistinct}
+use Rattle.refinement.specs.Demand3.{keysOf}
+use Rattle.refinement.proofs.Lists.{of-map}
 
 -- a pair of the map
 abbrev pub pair : ℕ → ℕ → Pair
@@ -21,11 +23,11 @@ pair key value = record { key = key; value = value }
 
 -- The three functions at the first pair, by whether it has the key.
 module _ (key : ℕ) (p : Pair) (ps : List Pair) where
-  pub value-here : p .key ≡ key → valueFor key (p ∷ ps) ≡ some (p .value)
+  value-here : p .key ≡ key → valueFor key (p ∷ ps) ≡ some (p .value)
   unfolding valueFor
   value-here e = ap (λ (t : Bool). cond t (some (p .value)) (valueFor key ps)) (eq-eqb (p .key) key e)
 
-  pub value-behind : (p .key ≡ key → ⊥) → valueFor key (p ∷ ps) ≡ valueFor key ps
+  value-behind : (p .key ≡ key → ⊥) → valueFor key (p ∷ ps) ≡ valueFor key ps
   unfolding valueFor
   value-behind d = ap (λ (t : Bool). cond t (some (p .value)) (valueFor key ps)) (ne-eqb (p .key) key d)
 
@@ -50,26 +52,26 @@ module _ (key : ℕ) (p : Pair) (ps : List Pair) where
 -- the same value behind the same first pair
 value-under : (key : ℕ) (p : Pair) (ps qs : List Pair) → valueFor key ps ≡ valueFor key qs
     → valueFor key (p ∷ ps) ≡ valueFor key (p ∷ qs)
-value-under key p ps qs e = pick (ℕ-discrete (p .key) key)
-  where
-    pick : Dec (p .key ≡ key) → valueFor key (p ∷ ps) ≡ valueFor key (p ∷ qs)
-    pick (yes k) = value-here key p ps k ∙ sym (value-here key p qs k)
-    pick (no d) = value-behind key p ps d ∙ e ∙ sym (value-behind key p qs d)
+value-under key p ps qs e =
+    elim (ℕ-discrete (p .key) key) [
+      | yes k ↦ value-here key p ps k ∙ sym (value-here key p qs k)
+      | no d ↦ value-behind key p ps d ∙ e ∙ sym (value-behind key p qs d)
+    ]
 
 module _ (key : ℕ) where
   -- a key has no value just if it has no pair
-  pub no-pair : (ps : List Pair) → valueFor key ps ≡ none → (q : Pair) → In q ps → q .key ≡ key → ⊥
+  no-pair : (ps : List Pair) → valueFor key ps ≡ none → (q : Pair) → In q ps → q .key ≡ key → ⊥
   no-pair (p ∷ ps) e q (inl f) k =
       let h : valueFor key (p ∷ ps) ≡ some (p .value) = value-here key p ps (sym (ap (λ (r : Pair). r .key) f) ∙ k) in
       let z : _≡_ {A = ℕ} 0 1 = cc in
       omega arith
-  no-pair (p ∷ ps) e q (inr i) k = pick (ℕ-discrete (p .key) key) (λ h. no-pair ps h q i k)
-    where
-      pick : Dec (p .key ≡ key) → (valueFor key ps ≡ none → ⊥) → ⊥
-      pick (yes h) ih = let v = value-here key p ps h in let z : _≡_ {A = ℕ} 0 1 = cc in omega arith
-      pick (no d) ih = ih (sym (value-behind key p ps d) ∙ e)
+  no-pair (p ∷ ps) e q (inr i) k =
+      elim (ℕ-discrete (p .key) key) [
+        | yes h ↦ let v = value-here key p ps h in let z : _≡_ {A = ℕ} 0 1 = cc in omega arith
+        | no d ↦ no-pair ps (sym (value-behind key p ps d) ∙ e) q i k
+      ]
 
-  pub no-value : (ps : List Pair) → ((q : Pair) → In q ps → q .key ≡ key → ⊥) → valueFor key ps ≡ none
+  no-value : (ps : List Pair) → ((q : Pair) → In q ps → q .key ≡ key → ⊥) → valueFor key ps ≡ none
   unfolding valueFor
   no-value [] h = refl
   no-value (p ∷ ps) h = value-behind key p ps (h p (inl refl)) ∙ no-value ps (λ q i. h q (inr i))
@@ -93,39 +95,37 @@ module _ (key : ℕ) where
         → valueFor key (withValue key value ps) ≡ some value
     unfolding valueFor
     value-changed held [] e = let z : _≡_ {A = ℕ} 0 1 = cc in absurd (omega arith)
-    value-changed held (p ∷ ps) e = pick (ℕ-discrete (p .key) key) (λ h. value-changed held ps h)
-      where
-        pick : Dec (p .key ≡ key) → (valueFor key ps ≡ some held → valueFor key (withValue key value ps) ≡ some value)
-            → valueFor key (withValue key value (p ∷ ps)) ≡ some value
-        pick (yes h) ih = ap (valueFor key) (changed-here key p ps value h) ∙ value-new value ps
-        pick (no d) ih =
-            ap (valueFor key) (changed-behind key p ps value d)
-            ∙ value-behind key p (withValue key value ps) d
-            ∙ ih (sym (value-behind key p ps d) ∙ e)
+    value-changed held (p ∷ ps) e =
+        elim (ℕ-discrete (p .key) key) [
+          | yes h ↦ ap (valueFor key) (changed-here key p ps value h) ∙ value-new value ps
+          | no d ↦
+              ap (valueFor key) (changed-behind key p ps value d)
+              ∙ value-behind key p (withValue key value ps) d
+              ∙ value-changed held ps (sym (value-behind key p ps d) ∙ e)
+        ]
 
     pub value-not-changed : (k : ℕ) (ps : List Pair) → (k ≡ key → ⊥) → valueFor k (withValue key value ps) ≡ valueFor k ps
     unfolding withValue
     value-not-changed k [] d = refl
-    value-not-changed k (p ∷ ps) d = pick (ℕ-discrete (p .key) key) (value-not-changed k ps d)
-      where
-        pick : Dec (p .key ≡ key) → valueFor k (withValue key value ps) ≡ valueFor k ps
-            → valueFor k (withValue key value (p ∷ ps)) ≡ valueFor k (p ∷ ps)
-        pick (yes h) ih =
-            ap (valueFor k) (changed-here key p ps value h)
-            ∙ value-not-new k value ps d
-            ∙ sym (value-behind k p ps (λ e. d (sym e ∙ h)))
-        pick (no f) ih =
-            ap (valueFor k) (changed-behind key p ps value f) ∙ value-under k p (withValue key value ps) ps ih
+    value-not-changed k (p ∷ ps) d =
+        elim (ℕ-discrete (p .key) key) [
+          | yes h ↦
+              ap (valueFor k) (changed-here key p ps value h)
+              ∙ value-not-new k value ps d
+              ∙ sym (value-behind k p ps (λ e. d (sym e ∙ h)))
+          | no f ↦
+              ap (valueFor k) (changed-behind key p ps value f)
+              ∙ value-under k p (withValue key value ps) ps (value-not-changed k ps d)
+        ]
 
     pub length-changed : (ps : List Pair) → length (withValue key value ps) ≡ length ps
     unfolding withValue
     length-changed [] = refl
-    length-changed (p ∷ ps) = pick (ℕ-discrete (p .key) key) (length-changed ps)
-      where
-        pick : Dec (p .key ≡ key) → length (withValue key value ps) ≡ length ps
-            → length (withValue key value (p ∷ ps)) ≡ length (p ∷ ps)
-        pick (yes h) ih = ap length (changed-here key p ps value h)
-        pick (no d) ih = ap length (changed-behind key p ps value d) ∙ ap suc ih
+    length-changed (p ∷ ps) =
+        elim (ℕ-discrete (p .key) key) [
+          | yes h ↦ ap length (changed-here key p ps value h)
+          | no d ↦ ap length (changed-behind key p ps value d) ∙ ap suc (length-changed ps)
+        ]
 
     -- its pairs have the keys of those before
     changed-keys : (ps : List Pair) (q : Pair) → In q (withValue key value ps) → (r : Pair) × In r ps × (q .key ≡ r .key)
@@ -149,51 +149,45 @@ module _ (key : ℕ) where
     pub distinct-changed : (ps : List Pair) → KeysDistinct ps → KeysDistinct (withValue key value ps)
     unfolding KeysDistinct withValue
     distinct-changed [] d = d
-    distinct-changed (p ∷ ps) d = pick (ℕ-discrete (p .key) key) (distinct-changed ps (d .1))
-      where
-        pick : Dec (p .key ≡ key) → KeysDistinct (withValue key value ps) → KeysDistinct (withValue key value (p ∷ ps))
-        pick (yes h) ih =
-            subst KeysDistinct (sym (changed-here key p ps value h)) (λ q i e. d .0 q i (h ∙ e), d .1)
-        pick (no f) ih =
-            subst KeysDistinct (sym (changed-behind key p ps value f))
-            (λ q i e. let (r, j, k) = changed-keys ps q i in d .0 r j (e ∙ k), ih)
+    distinct-changed (p ∷ ps) d =
+        elim (ℕ-discrete (p .key) key) [
+          | yes h ↦ subst KeysDistinct (sym (changed-here key p ps value h)) (λ q i e. d .0 q i (h ∙ e), d .1)
+          | no f ↦
+              subst KeysDistinct (sym (changed-behind key p ps value f))
+              (λ q i e. let (r, j, k) = changed-keys ps q i in d .0 r j (e ∙ k), distinct-changed ps (d .1))
+        ]
 
   -- The key's pair taken away.
 
   pub value-taken : (ps : List Pair) → KeysDistinct ps → valueFor key (without key ps) ≡ none
   unfolding KeysDistinct without valueFor
   value-taken [] d = refl
-  value-taken (p ∷ ps) d = pick (ℕ-discrete (p .key) key) (value-taken ps (d .1))
-    where
-      pick : Dec (p .key ≡ key) → valueFor key (without key ps) ≡ none → valueFor key (without key (p ∷ ps)) ≡ none
-      pick (yes h) ih =
-          ap (valueFor key) (taken-here key p ps h) ∙ no-value ps (λ q i e. d .0 q i (h ∙ sym e))
-      pick (no f) ih = ap (valueFor key) (taken-behind key p ps f) ∙ value-behind key p (without key ps) f ∙ ih
+  value-taken (p ∷ ps) d =
+      elim (ℕ-discrete (p .key) key) [
+        | yes h ↦ ap (valueFor key) (taken-here key p ps h) ∙ no-value ps (λ q i e. d .0 q i (h ∙ sym e))
+        | no f ↦
+            ap (valueFor key) (taken-behind key p ps f) ∙ value-behind key p (without key ps) f ∙ value-taken ps (d .1)
+      ]
 
   pub value-not-taken : (k : ℕ) (ps : List Pair) → (k ≡ key → ⊥) → valueFor k (without key ps) ≡ valueFor k ps
   unfolding without
   value-not-taken k [] d = refl
-  value-not-taken k (p ∷ ps) d = pick (ℕ-discrete (p .key) key) (value-not-taken k ps d)
-    where
-      pick : Dec (p .key ≡ key) → valueFor k (without key ps) ≡ valueFor k ps
-          → valueFor k (without key (p ∷ ps)) ≡ valueFor k (p ∷ ps)
-      pick (yes h) ih = ap (valueFor k) (taken-here key p ps h) ∙ sym (value-behind k p ps (λ e. d (sym e ∙ h)))
-      pick (no f) ih = ap (valueFor k) (taken-behind key p ps f) ∙ value-under k p (without key ps) ps ih
+  value-not-taken k (p ∷ ps) d =
+      elim (ℕ-discrete (p .key) key) [
+        | yes h ↦ ap (valueFor k) (taken-here key p ps h) ∙ sym (value-behind k p ps (λ e. d (sym e ∙ h)))
+        | no f ↦ ap (valueFor k) (taken-behind key p ps f) ∙ value-under k p (without key ps) ps (value-not-taken k ps d)
+      ]
 
-  pub length-taken : (held : ℕ) (ps : List Pair) → valueFor key ps ≡ some held → length (without key ps) ≡ length ps - 1
+  pub length-taken : (held : ℕ) (ps : List Pair) → valueFor key ps ≡ some held → suc (length (without key ps)) ≡ length ps
   unfolding valueFor
-  length-taken held ps e = let h = one-fewer ps e in omega arith
-    where
-      one-fewer : (ps : List Pair) → valueFor key ps ≡ some held → suc (length (without key ps)) ≡ length ps
-      one-fewer [] e = let z : _≡_ {A = ℕ} 0 1 = cc in absurd (omega arith)
-      one-fewer (p ∷ ps) e = pick (ℕ-discrete (p .key) key) (one-fewer ps)
-        where
-          pick : Dec (p .key ≡ key) → (valueFor key ps ≡ some held → suc (length (without key ps)) ≡ length ps)
-              → suc (length (without key (p ∷ ps))) ≡ length (p ∷ ps)
-          pick (yes h) ih = ap (λ (l : List Pair). suc (length l)) (taken-here key p ps h)
-          pick (no d) ih =
-              ap (λ (l : List Pair). suc (length l)) (taken-behind key p ps d)
-              ∙ ap suc (ih (sym (value-behind key p ps d) ∙ e))
+  length-taken held [] e = let z : _≡_ {A = ℕ} 0 1 = cc in absurd (omega arith)
+  length-taken held (p ∷ ps) e =
+      elim (ℕ-discrete (p .key) key) [
+        | yes h ↦ ap (λ (l : List Pair). suc (length l)) (taken-here key p ps h)
+        | no d ↦
+            ap (λ (l : List Pair). suc (length l)) (taken-behind key p ps d)
+            ∙ ap suc (length-taken held ps (sym (value-behind key p ps d) ∙ e))
+      ]
 
   -- its pairs are among those before
   taken-pairs : (ps : List Pair) (q : Pair) → In q (without key ps) → In q ps
@@ -211,9 +205,38 @@ module _ (key : ℕ) where
   pub distinct-taken : (ps : List Pair) → KeysDistinct ps → KeysDistinct (without key ps)
   unfolding KeysDistinct without
   distinct-taken [] d = d
-  distinct-taken (p ∷ ps) d = pick (ℕ-discrete (p .key) key) (distinct-taken ps (d .1))
-    where
-      pick : Dec (p .key ≡ key) → KeysDistinct (without key ps) → KeysDistinct (without key (p ∷ ps))
-      pick (yes h) ih = subst KeysDistinct (sym (taken-here key p ps h)) (d .1)
-      pick (no f) ih =
-          subst KeysDistinct (sym (taken-behind key p ps f)) (λ q i e. d .0 q (taken-pairs ps q i) e, ih)
+  distinct-taken (p ∷ ps) d =
+      elim (ℕ-discrete (p .key) key) [
+        | yes h ↦ subst KeysDistinct (sym (taken-here key p ps h)) (d .1)
+        | no f ↦
+            subst KeysDistinct (sym (taken-behind key p ps f))
+            (λ q i e. d .0 q (taken-pairs ps q i) e, distinct-taken ps (d .1))
+      ]
+
+-- The keys of a map's pairs.
+
+pub value-key : (key value : ℕ) (ps : List Pair) → valueFor key ps ≡ some value → In key (keysOf ps)
+unfolding valueFor keysOf
+value-key key value [] e = let z : _≡_ {A = ℕ} 0 1 = cc in absurd (omega arith)
+value-key key value (p ∷ ps) e =
+    elim (ℕ-discrete (p .key) key) [
+      | yes h ↦ inl (sym h)
+      | no d ↦ inr (value-key key value ps (sym (value-behind key p ps d) ∙ e))
+    ]
+
+pub key-value : (key : ℕ) (ps : List Pair) → In key (keysOf ps) → (value : ℕ) × (valueFor key ps ≡ some value)
+unfolding valueFor keysOf
+key-value key (p ∷ ps) (inl e) = (p .value, value-here key p ps (sym e))
+key-value key (p ∷ ps) (inr i) =
+    elim (ℕ-discrete (p .key) key) [
+      | yes h ↦ (p .value, value-here key p ps h)
+      | no d ↦ let (value, e) = key-value key ps i in (value, value-behind key p ps d ∙ e)
+    ]
+
+pub distinct-keys : (ps : List Pair) → KeysDistinct ps → Distinct (keysOf ps)
+unfolding KeysDistinct keysOf
+distinct-keys [] d = tt
+distinct-keys (p ∷ ps) d = (alone, distinct-keys ps (d .1))
+  where
+    alone : In (p .key) (keysOf ps) → ⊥
+    alone i = let (q, j, e) = of-map (λ (q : Pair). q .key) (p .key) ps i in d .0 q j e

@@ -12,16 +12,13 @@ use lib.ListN.{length, getD, length-append}
 use Rattle.cursor.specs.Member.{In, Distinct}
 use Rattle.model.specs.declared.State.{State}
 use Rattle.model.specs.Memory.{Place, Live, Home, IsBucket, linkOf, keyOf, soundState, sum}
-use Rattle.model.specs.Calls.{sound}
-use Rattle.model.proofs.Soundness.{sound-facts}
-use Rattle.refinement.proofs.Shape.{headAt, Linked, Shape}
-use Rattle.refinement.proofs.Reading.{linked-distinct, linked-in-range}
-use Rattle.refinement.proofs.Cells.{Memory, Cell, memory, read, read-head, SameLengths}
-use Rattle.refinement.proofs.Splits.{in-with, in-without, in-middle, parts-apart, first-distinct, taken-out}
-use Rattle.refinement.proofs.Counting.{in-left, in-right}
-use Rattle.refinement.proofs.Places.{same, indicator, inOld, inNew, in-one, free-indicator}
-use Rattle.refinement.proofs.Sums.{sum-changed, old-indicators, new-indicators}
-use Rattle.refinement.proofs.Recount.{recounted, live-kept, home-kept, sound-after}
+use Rattle.refinement.proofs.Lists.{in-left, in-right, first-distinct, parts-apart, in-middle, in-with, in-without, taken-out}
+use Rattle.refinement.proofs.Sums.{sum-changed}
+use Rattle.refinement.proofs.Shape.{headAt, Linked, Shape, facts}
+use Rattle.refinement.proofs.States.{sound-again, recounted, live-kept, home-kept}
+use Rattle.refinement.proofs.Places.{same, indicator, inOld, inNew, in-one, free-indicator, old-indicators, new-indicators}
+use Rattle.refinement.proofs.LinkedChains.{linked-kept, linked-head, linked-empty, shape-linked, shape-distinct, shape-range}
+use Rattle.refinement.proofs.Cells.{Memory, Cell, memory, read, SameLengths, read-head}
 
 -- The cell that leads to what follows some entries, from a first cell.
 unfoldable pub lastCell : Cell → List ℕ → Cell
@@ -49,30 +46,6 @@ unfolding lastCell
 last-is-head p r [] e = cc
 last-is-head p r (u ∷ us) e =
     let (w, i, f) = last-link u us in absurd (not-head w r (sym f ∙ sym e))
-
--- a linked list whose links are kept
-pub linked-kept : (e e' : List ℕ) (capacity at : ℕ) (ns : List ℕ) → ((n : ℕ) → In n ns → linkOf e' n ≡ linkOf e n)
-    → Linked e capacity at ns → Linked e' capacity at ns
-unfolding Linked
-linked-kept e e' capacity at [] kept h = h
-linked-kept e e' capacity at (n ∷ ns) kept h = (
-  h .0,
-  h .1,
-  h .2,
-  subst (λ (k : ℕ). Linked e' capacity k ns) (sym (kept n (inl refl)))
-      (linked-kept e e' capacity (linkOf e n) ns (λ k i. kept k (inr i)) (h .3)),
-)
-
--- a linked list from 0 has no entry, and its head is within the capacity
-
-pub linked-none : (e : List ℕ) (capacity at n : ℕ) (ns : List ℕ) → Linked e capacity at ns → at ≡ 0 → In n ns → ⊥
-unfolding Linked
-linked-none e capacity at n (k ∷ ns) h z i = omega arith
-
-pub linked-head : (e : List ℕ) (capacity at : ℕ) (ns : List ℕ) → Linked e capacity at ns → at ≤ capacity
-unfolding Linked
-linked-head e capacity at [] h = omega arith
-linked-head e capacity at (k ∷ ns) h = omega arith
 
 -- heads and links: the cell c before entry x gets its link, and x goes to the head of place q
 pub record Rewired (m m' : Memory) (c : Cell) (q : Place) (x : ℕ) : Type 0 where
@@ -133,16 +106,13 @@ module _ {s : State} {current other entries : List ℕ} (shape : Shape s current
   its-owner = shape .owns x p (r .from-live) listed-there
 
   from-linked : Linked entries (s .capacity) (headAt s current other p) (us ++ x ∷ vs)
-  from-linked =
-      subst (λ (ns : List ℕ). Linked entries (s .capacity) (headAt s current other p) ns) (r .chain)
-      (shape .linked p (r .from-live))
+  from-linked = shape-linked shape p (r .from-live) (us ++ x ∷ vs) (r .chain)
 
   no-repeats : Distinct (us ++ x ∷ vs)
-  no-repeats = linked-distinct entries (s .capacity) (headAt s current other p) (us ++ x ∷ vs) from-linked
+  no-repeats = subst (λ (ns : List ℕ). Distinct ns) (r .chain) (shape-distinct shape p (r .from-live))
 
   in-range : (0 < x) × (x ≤ s .capacity)
-  in-range =
-      linked-in-range entries (s .capacity) (headAt s current other p) x (us ++ x ∷ vs) from-linked (in-middle x us vs)
+  in-range = shape-range shape p (r .from-live) x listed-there
 
   in-from : (n : ℕ) → In n (us ++ x ∷ vs) → In n (shape .at p)
   in-from n i = subst (λ (ns : List ℕ). In n ns) (sym (r .chain)) i
@@ -307,31 +277,25 @@ module _ {s : State} {current other entries : List ℕ} (shape : Shape s current
       go (no d) (yes e) = omega (arith, ap length (ap (shape .at) e))
       go (no d) (no d') = refl
 
-  old-count-after : old ≡ sum (λ b. length (relinked-at (Place.old b))) (s .«old_size»)
-  old-count-after =
+  count-after : (table : ℕ → Place) (size before after from to : ℕ) → after + from ≡ before + to
+      → before ≡ sum (λ b. length (shape .at (table b))) size → sum (λ b. indicator (same (table b) p)) size ≡ from
+      → sum (λ b. indicator (same (table b) q)) size ≡ to → after ≡ sum (λ b. length (relinked-at (table b))) size
+  count-after table size before after from to changed count less more =
       omega (
         arith,
-        r .old-changed,
-        shape .old-count,
-        old-indicators s p (r .from-live),
-        old-indicators s q (r .to-live),
-        sum-changed (λ b. length (shape .at (Place.old b))) (λ b. length (relinked-at (Place.old b)))
-            (λ b. indicator (same (Place.old b) p)) (λ b. indicator (same (Place.old b) q)) (s .«old_size»)
-            (λ b. count-at (Place.old b)),
+        sum-changed (λ b. length (shape .at (table b))) (λ b. length (relinked-at (table b)))
+            (λ b. indicator (same (table b) p)) (λ b. indicator (same (table b) q)) size (λ b. count-at (table b)),
       )
+
+  old-count-after : old ≡ sum (λ b. length (relinked-at (Place.old b))) (s .«old_size»)
+  old-count-after =
+      count-after Place.old (s .«old_size») (s .«old_used») old (inOld p) (inOld q) (r .old-changed) (shape .old-count)
+      (old-indicators s p (r .from-live)) (old-indicators s q (r .to-live))
 
   new-count-after : new ≡ sum (λ b. length (relinked-at (Place.new b))) (s .«new_size»)
   new-count-after =
-      omega (
-        arith,
-        r .new-changed,
-        shape .new-count,
-        new-indicators s p (r .from-live),
-        new-indicators s q (r .to-live),
-        sum-changed (λ b. length (shape .at (Place.new b))) (λ b. length (relinked-at (Place.new b)))
-            (λ b. indicator (same (Place.new b) p)) (λ b. indicator (same (Place.new b) q)) (s .«new_size»)
-            (λ b. count-at (Place.new b)),
-      )
+      count-after Place.new (s .«new_size») (s .«new_used») new (inNew p) (inNew q) (r .new-changed) (shape .new-count)
+      (new-indicators s p (r .from-live)) (new-indicators s q (r .to-live))
 
   free-count-after : length (relinked-at Place.free) + (old + new) ≡ s .capacity
   free-count-after =
@@ -413,26 +377,39 @@ module _ {s : State} {current other entries : List ℕ} (shape : Shape s current
       not-left : Cell.head (Place.old b) ≡ lastCell (Cell.head p) us → ⊥
       not-left e =
           let here = last-is-head p (Place.old b) us e in
-          linked-none entries (s .capacity) (headAt s current other p) x (us ++ x ∷ vs) from-linked
-          (ap (headAt s current other) (sym here) ∙ shape .passed-empty b l) (in-middle x us vs)
+          subst (λ (ns : List ℕ). In x ns)
+          (linked-empty entries (s .capacity) (headAt s current other p) (us ++ x ∷ vs) from-linked
+          (ap (headAt s current other) (sym here) ∙ shape .passed-empty b l))
+          (in-middle x us vs)
 
   -- the state
 
   none-new : s .rehashing ≡ false → new ≡ 0
-  unfolding sound sum
+  unfolding sum
   none-new e =
       new-count-after
       ∙ ap (sum (λ b. length (relinked-at (Place.new b))))
-      (sound-facts s current other entries (shape .state-sound) .still e .no-new)
+      (facts shape .still e .no-new)
 
   state-after : soundState (length (m' .current)) (length (m' .other)) (length (m' .entries))
       (recounted s (m' .free) old new) ≡ true
-  unfolding Live read memory
+  unfolding Live read memory recounted
   state-after =
-      let fits = linked-head (m' .entries) (s .capacity) (m' .free) (relinked-at Place.free) (chain-after Place.free tt) in
-      rw (r .cells .lengths .current-length, r .cells .lengths .other-length, r .cells .lengths .entries-length)
-      (sound-after s (m' .free) old new (length current) (length other) (length entries) (shape .state-sound)
-      (omega (arith, free-count-after)) fits none-new)
+      let before = facts shape in
+      let lengths = r .cells .lengths in
+      sound-again (recounted s (m' .free) old new) (m' .current) (m' .other) (m' .entries) before refl (lengths .entries-length)
+      (before .base .old-legal) (omega (arith, before .base .old-fits, lengths .current-length))
+      (omega (arith, free-count-after))
+      (linked-head (m' .entries) (s .capacity) (m' .free) (relinked-at Place.free) (chain-after Place.free tt))
+      (λ e.
+      let move = before .move e in
+      record {
+        new-legal = move .new-legal;
+        new-fits = omega (arith, move .new-fits, lengths .other-length);
+        sizes-differ = move .sizes-differ;
+        index-fits = move .index-fits;
+      })
+      (λ e. record { no-new = before .still e .no-new; no-new-used = none-new e; no-index = before .still e .no-index })
 
   -- the shape afterwards
   relinked-shape : Shape (recounted s (m' .free) old new) (m' .current) (m' .other) (m' .entries)

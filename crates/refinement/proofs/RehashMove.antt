@@ -1,34 +1,31 @@
--- A rehash step keeps the shape: the entries of a bucket of the old table move, head to end, each to the head of its
--- bucket in the new one. Each move is one relink, for which the old bucket's head is the next entry; the code writes that
--- head once, at the end.
+-- A rehash step keeps the shape: the entries of a bucket of the old table move, head to end, each to the head of its bucket
+-- in the new one. Each move is one relink; the code writes the old bucket's head once, at the end.
 -- Assumes nothing.
 use Prim.Native.Nat.{ℕ, suc, _+_, _-_, _<_, _≤_}
 use mathlib.Core.Path.{_≡_, refl, sym, ap, subst, subst₃, _∙_}
 use mathlib.Core.Logic.{_⊎_, inl, inr}
-use mathlib.Core.Bool.{Bool, true, _&&_, not}
+use mathlib.Core.Bool.{true}
 use mathlib.Core.List.{List, [], _∷_}
 use mathlib.Core.Option.{some}
 use native.Mathlib.Omega.{arith}
 use native.Mathlib.Decide.{ℕ-discrete}
 use lib.ListN.{length, getD, set}
-use lib.Dec.{leb, eqb}
 use lib.Seq.{getD-set-same, getD-set-other, set-set, set-getD}
-use borrow.Author.Tests.{le-leb}
 use Rattle.cursor.specs.Member.{In}
 use Rattle.model.specs.declared.State.{State}
 use Rattle.model.specs.declared.StepAnswer.{StepAnswer}
 use Rattle.model.specs.Keys.{bucketOf}
-use Rattle.model.specs.Memory.{Place, Live, Home, IsBucket, linkOf, keyOf, valueOf, setLink, soundState, soundMove, soundBase, soundTable}
+use Rattle.model.specs.Memory.{Place, Live, Home, IsBucket, linkOf, keyOf, valueOf, setLink}
 use Rattle.model.specs.Calls.{movedChain, movedBuckets, movedEntries, steppedPast, keysHeld}
-use Rattle.model.proofs.Soundness.{two-hold, three-hold}
-use Rattle.refinement.proofs.Shape.{headAt, Linked, Shape}
-use Rattle.refinement.proofs.Counting.{term-in-sum}
-use Rattle.refinement.proofs.Cells.{Cell, memory, read, write, key-set-link, value-set-link}
-use Rattle.refinement.proofs.Places.{inOld, inNew, keyPlace}
-use Rattle.refinement.proofs.Recount.{recounted, live-kept, home-kept, both-hold}
-use Rattle.refinement.proofs.Relinking.{lastCell, Relinked, Moved, relink}
-use Rattle.refinement.proofs.Writes.{facts, rewired, rewired-keys, shape-rewired, key-live}
-use Rattle.refinement.proofs.Leaving.{HeldIn, Leaves}
+use Rattle.refinement.proofs.Sums.{term-in-sum}
+use Rattle.refinement.proofs.Shape.{headAt, Linked, Shape, facts}
+use Rattle.refinement.proofs.States.{sound-again, recounted, live-kept, home-kept}
+use Rattle.refinement.proofs.Places.{inOld, inNew, keyPlace, key-live}
+use Rattle.refinement.proofs.LinkedChains.{shape-linked}
+use Rattle.refinement.proofs.Cells.{key-set-link, value-set-link, Cell, memory, read, write}
+use Rattle.refinement.proofs.Relink.{lastCell, Relinked, Moved, relink}
+use Rattle.refinement.proofs.RelinkWrites.{rewired, rewired-keeps, shape-rewired}
+use Rattle.refinement.proofs.StoreAfter.{HeldIn, StoreAfter}
 
 -- One entry, the first of bucket b.
 
@@ -47,7 +44,7 @@ module _ {s : State} {current other entries : List ℕ} (shape : Shape s current
       let q = Place.new its-bucket in
       let live = key-live shape (keyOf entries n) true (λ e. rehashing) in
       let differ : Place.old b ≡ q → ⊥ = λ e. let z : _≡_ {A = ℕ} 0 1 = cc in omega arith in
-      let its-key = rewired-keys m (Cell.head (Place.old b)) q n in
+      let its-key : (k : ℕ) → _ = λ k. rewired-keeps m (Cell.head (Place.old b)) q n k .0 in
       record {
         chain = chain;
         from-live = below;
@@ -125,7 +122,7 @@ move-all : (ns : List ℕ) {s : State} {current other entries : List ℕ} (shape
 unfolding movedBuckets movedEntries recounted Linked headAt Live goesTo
 move-all [] {s} {current} {other} {entries} shape rehashing b below chain old new less more =
     let empty : getD current b 0 ≡ 0 =
-    subst (λ (ms : List ℕ). Linked entries (s .capacity) (getD current b 0) ms) chain (shape .linked (Place.old b) below) in
+    shape-linked shape (Place.old b) below [] chain in
     let same-old : s .«old_used» ≡ old = omega arith in
     let same-new : s .«new_used» ≡ new = omega arith in
     subst₃
@@ -172,7 +169,7 @@ moved-values size (n ∷ ns) other entries k =
 
 -- The rehash goes on from bucket i: every bucket before it is empty.
 
-unfoldable pub reindexed : State → ℕ → State
+unfoldable reindexed : State → ℕ → State
 reindexed s i =
     record {
       «second_is_current» = s .«second_is_current»;
@@ -186,20 +183,6 @@ reindexed s i =
       capacity = s .capacity;
     }
 
-sound-reindexed : (s : State) (i current other entries : ℕ) → s .rehashing ≡ true → i ≤ s .«old_size»
-    → soundState current other entries s ≡ true → soundState current other entries (reindexed s i) ≡ true
-unfolding soundState soundBase soundMove reindexed
-sound-reindexed s i current other entries rehashing fits h =
-    let base = soundBase current entries s in
-    let each = two-hold base (soundMove other s (s .rehashing)) h in
-    let table = soundTable other (s .«new_size») in
-    let differ = not (eqb (s .«old_size») (s .«new_size»)) in
-    let now = subst (λ (t : Bool). soundMove other s t ≡ true) rehashing (each .1) in
-    let move = three-hold table differ (leb (s .«rehash_index») (s .«old_size»)) now in
-    both-hold base (table && differ && leb i (s .«old_size»)) (each .0)
-    (both-hold (table && differ) (leb i (s .«old_size»)) (both-hold table differ (move .0) (move .1))
-    (le-leb i (s .«old_size») fits))
-
 same-head : (s : State) (i : ℕ) (current other : List ℕ) (t : Place)
     → headAt s current other t ≡ headAt (reindexed s i) current other t
 unfolding headAt reindexed
@@ -212,8 +195,19 @@ reindex : {s : State} {current other entries : List ℕ} → Shape s current oth
 unfolding reindexed
 reindex {s} {current} {other} {entries} shape rehashing i fits empty =
     let s' = reindexed s i in
+    let before = facts shape in
     record {
-      state-sound = sound-reindexed s i (length current) (length other) (length entries) rehashing fits (shape .state-sound);
+      state-sound =
+          sound-again s' current other entries before refl refl (before .base .old-legal) (before .base .old-fits)
+          (before .base .used-fits) (before .base .free-fits)
+          (λ e.
+          record {
+            new-legal = before .move rehashing .new-legal;
+            new-fits = before .move rehashing .new-fits;
+            sizes-differ = before .move rehashing .sizes-differ;
+            index-fits = fits;
+          })
+          (λ e. let z : _≡_ {A = ℕ} 0 1 = cc in absurd (omega arith));
       at = shape .at;
       linked =
           λ t l.
@@ -233,6 +227,11 @@ reindex {s} {current} {other} {entries} shape rehashing i fits empty =
       new-count = shape .new-count;
       free-count = shape .free-count;
     }
+
+-- what a place holds once the chain of bucket b has moved
+abbrev pub HeldThen : State → List ℕ → (Place → List ℕ) → ℕ → Place → ℕ → ℕ → Type 0
+HeldThen s entries at b t k v =
+    ((t ≡ Place.old b → ⊥) × HeldIn entries (at t) k v) ⊎ ((t ≡ keyPlace s k true) × HeldIn entries (at (Place.old b)) k v)
 
 -- The outcome of a step that moves the chain of bucket b, where every bucket before it is empty.
 module _ {s : State} {current other entries : List ℕ} (shape : Shape s current other entries)
@@ -257,10 +256,8 @@ module _ {s : State} {current other entries : List ℕ} (shape : Shape s current
         | no d ↦ getD-set-other current b a 0 0 d ∙ empty a (omega arith)
       ]
 
-  -- what a place holds then
   abbrev HoldsThen : Place → ℕ → ℕ → Type 0
-  HoldsThen t k v =
-      ((t ≡ Place.old b → ⊥) × HeldIn entries (shape .at t) k v) ⊎ ((t ≡ keyPlace s k true) × HeldIn entries ns k v)
+  HoldsThen = HeldThen s entries (shape .at) b
 
   module _ (at' : Place → List ℕ) (went : Went s (shape .at) at' ns (goesTo s entries)) where
     held-only : (t : Place) → Live s t → (k v : ℕ) → HeldIn entries' (at' t) k v → HoldsThen t k v
@@ -308,13 +305,10 @@ module _ {s : State} {current other entries : List ℕ} (shape : Shape s current
           its-value = moved-values (s .«new_size») ns other entries (h .entry) ∙ h .its-value;
         }
 
-  pub stepped-leaves : Leaves s (StepAnswer.Stepped (length (shape .at (Place.old b))))
-      (movedChain s current other entries b (some (shape .at (Place.old b)))) (keysHeld s)
-      (λ t k v.
-      ((t ≡ Place.old b → ⊥) × HeldIn entries (shape .at t) k v)
-      ⊎ ((t ≡ keyPlace s k true) × HeldIn entries (shape .at (Place.old b)) k v))
+  pub stepped-store : StoreAfter s (StepAnswer.Stepped (length (shape .at (Place.old b))))
+      (movedChain s current other entries b (some (shape .at (Place.old b)))) (keysHeld s) (HeldThen s entries (shape .at) b)
   unfolding movedChain steppedPast recounted reindexed reindex keysHeld
-  stepped-leaves =
+  stepped-store =
       let (all, went) =
       move-all ns shape rehashing b below refl (s .«old_used» - length ns) (s .«new_used» + length ns)
       (omega (arith, no-more)) refl in
@@ -325,11 +319,7 @@ module _ {s : State} {current other entries : List ℕ} (shape : Shape s current
         entries = entries';
         is = refl;
         shape = reindex all rehashing (suc b) below passed;
-        same-current = refl;
-        same-capacity = refl;
-        same-old-size = refl;
-        same-new-size = refl;
-        same-rehashing = sym rehashing;
+        same = record { current = refl; capacity = refl; old-size = refl; new-size = refl; rehashing = sym rehashing };
         keys-held = omega (arith, no-more);
         held-only = λ t l i. held-only (all .at) went t l;
         held-all = λ t l i. held-all (all .at) went t l;

@@ -22,8 +22,7 @@ use Rattle.model.specs.declared.SizeAnswer.{SizeAnswer}
 use Rattle.model.specs.declared.ScanAnswer.{ScanAnswer}
 use Rattle.model.specs.Memory.{bucketChain}
 use Rattle.model.specs.Answers.{Reply, initReply, findReply, updateReply, addReply, deleteReply, resizeReply, stepReply, sizeReply, bucketsReply, scanReply}
-use Rattle.model.specs.Calls.{After, swapped, orientedBack, sound, lookup, keysHeld, withinLimits, longEnough, takeable, acceptable, firstFilled, cleared, freeEntries, noState, newState, resizing, finished}
-use Rattle.model.specs.Calls.{updated, updateIn, pushed, added, addIn, deleted, deleteIn, resized, resizeIn, movedChain, movedFrom, stepped, rehashStepIn}
+use Rattle.model.specs.Calls.{After, swapped, orientedBack, sound, lookup, keysHeld, withinLimits, longEnough, takeable, acceptable, firstFilled, cleared, freeEntries, noState, newState, resizing, finished, updated, updateIn, pushed, added, addIn, deleted, deleteIn, resized, resizeIn, movedChain, movedFrom, stepped, rehashStepIn}
 use Rattle.model.specs.Calls as calls
 use Rattle.model.specs.Walk.{Handed}
 use Rattle.model.specs.Walk as walk

@@ -1,11 +1,10 @@
--- A cleared bucket buffer: as long as before, and its first buckets empty. Tables of empty chains count no key.
+-- A cleared bucket buffer: as long as before, and its first buckets empty.
 -- Assumes nothing.
-use Prim.Native.Nat.{ℕ, zero, suc, _<_, _≤_}
-use mathlib.Core.Path.{_≡_, refl, _∙_}
+use Prim.Native.Nat.{ℕ, _<_, _≤_}
+use mathlib.Core.Path.{_≡_, _∙_}
 use mathlib.Core.List.{List}
 use native.Mathlib.Omega.{arith}
 use lib.ListN.{length, getD, drop, replicate, length-append, length-drop, length-replicate, getD-replicate, List·getD-append}
-use Rattle.model.specs.Memory.{sum}
 use Rattle.model.specs.Calls.{cleared}
 
 -- clearing keeps the length
@@ -25,9 +24,3 @@ unfolding cleared
 cleared-empty size b buckets h =
     List·getD-append (replicate size 0) (drop size buckets) 0 b (omega (arith, length-replicate {A = ℕ} size 0))
     ∙ getD-replicate size b 0 0 h
-
--- a sum of nothing
-pub sum-none : (n : ℕ) → sum (λ b. 0) n ≡ 0
-unfolding sum
-sum-none zero = refl
-sum-none (suc n) = omega (arith, sum-none n)

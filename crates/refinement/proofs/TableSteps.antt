@@ -18,17 +18,14 @@ use Rattle.model.specs.Calls as calls
 use Rattle.model.specs.Sequences.{World, Outcome, Call, left, perform, carriedState, carry, event, PlainMap, MapReply, mapInit, refusedMap, mapReply, mapAfter, mapStep, valueFor, Tables, oldOf, tablesAfter}
 use Rattle.refinement.specs.Worlds.{current, other, KeysDistinct}
 use Rattle.refinement.specs.Demand3.{Ideal, freshAfter, idealStep, begun, AsMap, AsIdeal}
-use Rattle.refinement.proofs.Shape.{Shape}
-use Rattle.refinement.proofs.Starting.{startedAt, startedEntries, started-shape, started-at}
-use Rattle.refinement.proofs.Resizing.{resizedAt, resized-shape, resized-at}
-use Rattle.refinement.proofs.LookingUp.{facts, shape-sound}
-use Rattle.refinement.proofs.Refusing.{suggestedSize-keeps, buckets-keeps}
-use Rattle.refinement.proofs.Orienting.{worldBy, firstBy, secondBy, left-reply, left-world}
-use Rattle.refinement.proofs.LiveTables.{tablesOf, tablesBy}
-use Rattle.refinement.proofs.Leaving.{HeldIn}
-use Rattle.refinement.proofs.Agreement.{Agrees}
-use Rattle.refinement.proofs.Stepwise.{Steps}
-use Rattle.refinement.proofs.AgreeingOn.{HeldAt, AgreesOn, agrees-on, kept-agrees}
+use Rattle.refinement.proofs.Shape.{Shape, shape-sound, facts}
+use Rattle.refinement.proofs.StoreAfter.{HeldIn, held-as}
+use Rattle.refinement.proofs.Init.{startedAt, startedEntries, started-shape, started-at}
+use Rattle.refinement.proofs.Resize.{resizedAt, resized-shape, resized-at}
+use Rattle.refinement.proofs.Orientation.{firstBy, secondBy, worldBy, left-reply, left-world}
+use Rattle.refinement.proofs.Refusals.{suggestedSize-keeps, buckets-keeps}
+use Rattle.refinement.proofs.LiveTables.{tablesBy, tablesOf}
+use Rattle.refinement.proofs.Agreement.{HeldAt, AgreesOn, Agrees, Steps, emptied-agrees, kept-agrees}
 use Rattle.refinement.proofs.IdealSteps.{answered-ideal, same-ideal, changed, refused-agrees}
 
 -- The suggested size and a look change nothing.
@@ -81,8 +78,8 @@ module _ (w : World) (capacity size : ℕ) where
       After.after (InitAnswer.Ready (newState capacity size)) (cleared size (w .first)) (w .second)
       (startedEntries capacity (w .entries))
 
-  abbrev leaves : Bool → Bool → Outcome
-  leaves a b =
+  abbrev startedBy : Bool → Bool → Outcome
+  startedBy a b =
       left initReply
       (cond a
       (cond b ready (After.after (InitAnswer.Refused Error.BadState noState) (w .first) (w .second) (w .entries)))
@@ -95,8 +92,8 @@ module _ (w : World) (capacity size : ℕ) where
   init-answers m = by limits long
     where
       by : (a b : Bool)
-          → (leaves a b .reply .number ≡ mapStarted m capacity a b .number)
-          × (leaves a b .reply .values ≡ mapStarted m capacity a b .values)
+          → (startedBy a b .reply .number ≡ mapStarted m capacity a b .number)
+          × (startedBy a b .reply .values ≡ mapStarted m capacity a b .values)
       by true true = (refl, refl)
       by true false = (refl, refl)
       by false b = (refl, refl)
@@ -131,7 +128,7 @@ module _ (w : World) (capacity size : ℕ) where
   unfolding perform calls.init left initReply errorNumber
   passed z = by limits long z
     where
-      by : (a b : Bool) → leaves a b .reply .number ≡ 0 → (a ≡ true) × (b ≡ true)
+      by : (a b : Bool) → startedBy a b .reply .number ≡ 0 → (a ≡ true) × (b ≡ true)
       by true true e = (refl, refl)
       by true false e = absurd (omega arith)
       by false b e = absurd (omega arith)
@@ -144,7 +141,7 @@ module _ (w : World) (capacity size : ℕ) where
   init-world p q = by limits long p q
     where
       by : (a b : Bool) → a ≡ true → b ≡ true
-          → carry w (leaves a b)
+          → carry w (startedBy a b)
           ≡ record {
             state = newState capacity size;
             first = cleared size (w .first);
@@ -180,7 +177,7 @@ module _ (w : World) (capacity size : ℕ) where
             λ key value k.
             absurd
             (none-held e (k .place) (k .bucket) key value
-            (subst (λ (ns : List ℕ). HeldIn e ns key value)
+            (held-as
             (started-at capacity size (w .first) (w .second) (w .entries) p q (k .place)) (k .held)));
         in-store = λ key value f. let z : _≡_ {A = ℕ} 0 1 = cc in absurd (omega arith);
         tables = refl;
@@ -225,7 +222,7 @@ module _ {s : State} {current other entries : List ℕ} (h : Shape s current oth
   unfolding Live IsBucket resizedAt resizing
   resized-before k =
       by (k .place) (k .live) (k .bucket)
-      (subst (λ (ns : List ℕ). HeldIn entries ns key value) (resized-at h size resting accepted (k .place)) (k .held))
+      (held-as (resized-at h size resting accepted (k .place)) (k .held))
     where
       by : (p : Place) → Live (resizing s size) p → IsBucket p → HeldIn entries (resizedAt (h .at) p) key value
           → HeldAt s entries (h .at) key value
@@ -246,7 +243,7 @@ module _ {s : State} {current other entries : List ℕ} (h : Shape s current oth
             live = l;
             bucket = tt;
             held =
-                subst (λ (ns : List ℕ). HeldIn entries ns key value)
+                held-as
                 (sym (resized-at h size resting accepted (Place.old n))) k;
           }
       by (Place.new n) l b k = absurd (omega (arith, facts h .still resting .no-new))
@@ -255,7 +252,7 @@ module _ {s : State} {current other entries : List ℕ} (h : Shape s current oth
   resized-new : (b : ℕ) → HeldIn entries (then .at (Place.new b)) key value → ⊥
   unfolding resizedAt
   resized-new b k =
-      subst (λ (ns : List ℕ). HeldIn entries ns key value) (resized-at h size resting accepted (Place.new b)) k .there
+      held-as (resized-at h size resting accepted (Place.new b)) k .there
 
 -- the store that a resize leaves agrees
 resized-on : (s : State) (current other entries : List ℕ) (i : Ideal) → AgreesOn s current other entries i → (size : ℕ)
@@ -264,20 +261,10 @@ resized-on : (s : State) (current other entries : List ℕ) (i : Ideal) → Agre
     (record { plain = i .plain; tables = Tables.two (s .«old_size») size; fresh = [] })
 unfolding resizing keysHeld tablesOf tablesBy
 resized-on s current other entries i a size resting accepted =
-    record {
-      shape = resized-shape (a .shape) size resting accepted;
-      capacity = a .capacity;
-      count = omega (arith, a .count, facts (a .shape) .still resting .no-new-used);
-      distinct = a .distinct;
-      in-map =
-          λ key value k. a .in-map key value (resized-before (a .shape) size resting accepted key value k);
-      in-store =
-          λ key value e. resized-after (a .shape) size resting accepted key value (a .in-store key value e);
-      tables = refl;
-      fresh-in = λ key f. absurd f;
-      in-fresh =
-          λ key k. absurd (resized-new (a .shape) size resting accepted key (k .value) (k .bucket) (k .held));
-    }
+    emptied-agrees a (resized-shape (a .shape) size resting accepted) refl
+    (omega (arith, facts (a .shape) .still resting .no-new-used))
+    (resized-before (a .shape) size resting accepted) (resized-after (a .shape) size resting accepted)
+    (λ key k. resized-new (a .shape) size resting accepted key (k .value) (k .bucket) (k .held))
 
 -- the old table's size
 old-size : (s : State) → oldOf (tablesOf s) ≡ s .«old_size»
@@ -289,16 +276,16 @@ old-size s = by (s .rehashing)
     by false = refl
 
 -- a refusal's number is not 0
-refusal : (e : Error) → errorNumber e ≡ 0 → ⊥
+not-zero : (e : Error) → errorNumber e ≡ 0 → ⊥
 unfolding errorNumber
-refusal Error.BadState z = omega arith
-refusal Error.Damaged z = omega arith
-refusal Error.Absent z = omega arith
-refusal Error.Present z = omega arith
-refusal Error.Full z = omega arith
-refusal Error.BadSize z = omega arith
-refusal Error.Rehashing z = omega arith
-refusal Error.NotRehashing z = omega arith
+not-zero Error.BadState z = omega arith
+not-zero Error.Damaged z = omega arith
+not-zero Error.Absent z = omega arith
+not-zero Error.Present z = omega arith
+not-zero Error.Full z = omega arith
+not-zero Error.BadSize z = omega arith
+not-zero Error.Rehashing z = omega arith
+not-zero Error.NotRehashing z = omega arith
 
 -- a resize, answered or refused
 pub resize-steps : (w : World) (i : Ideal) → Agrees w i → (size : ℕ) → Steps w i (Call.resize size)
@@ -344,7 +331,7 @@ resize-steps w i a size = record { answers = tt; agrees = by (s .rehashing) refl
         let number : perform w c .reply ≡ resizeReply s (ResizeAnswer.Refused n) =
         left-reply w (resizeReply s) (resizeIn s (w .entries) size) (ResizeAnswer.Refused n) (current w) (other w)
         (w .entries) e in
-        let f : perform w c .reply .number ≡ 0 → ⊥ = λ z. refusal n (sym (ap (λ (r : Reply). r .number) number) ∙ z) in
+        let f : perform w c .reply .number ≡ 0 → ⊥ = λ z. not-zero n (sym (ap (λ (r : Reply). r .number) number) ∙ z) in
         refused-agrees w i c a f refl
 
     answered : s .rehashing ≡ false → acceptable s (other w) size ≡ true → Agreed
@@ -359,7 +346,7 @@ resize-steps w i a size = record { answers = tt; agrees = by (s .rehashing) refl
         changed w i c
         (worldBy (s .«second_is_current») (resizing s size) (current w) (cleared size (other w)) (w .entries)) j
         (kept-agrees (s .«second_is_current») (resizing s size) (current w) (cleared size (other w)) (w .entries) j refl
-        (resized-on s (current w) (other w) (w .entries) i (agrees-on w i a) size e f))
+        (resized-on s (current w) (other w) (w .entries) i a size e f))
         (left-world w (resizeReply s) (resizeIn s (w .entries) size) (ResizeAnswer.Resized (resizing s size)) (current w)
         (cleared size (other w)) (w .entries) is (resizing s size) refl refl)
         (answered-ideal i (event w c (perform w c)) (i .plain) (Tables.two (s .«old_size») size) []

@@ -3,10 +3,9 @@
 -- Assumes nothing.
 use Prim.Native.Nat.{ℕ, _<_, _≤_, min}
 use mathlib.Core.Path.{_≡_, refl, sym, ap, subst, _∙_}
-use mathlib.Core.Logic.{_⊎_, inl, inr, _≢_}
-use mathlib.Core.Bool.{Bool, true, false, cond, not}
+use mathlib.Core.Logic.{_≢_, _⊎_, inl, inr}
+use mathlib.Core.Bool.{Bool, true, false, not}
 use mathlib.Core.List.{List, [], _∷_, map}
-use mathlib.Core.Option.{some}
 use native.Mathlib.Decide.{decLt}
 use native.Mathlib.Omega.{arith}
 use lib.ListN.{length, length-map}
@@ -16,129 +15,13 @@ use Rattle.cursor.specs.Member.{In, Distinct}
 use Rattle.model.specs.declared.State.{State}
 use Rattle.model.specs.Keys.{bucketOf}
 use Rattle.model.specs.Memory.{Place, Live, Home, IsBucket, keyOf, valueOf}
-use Rattle.model.specs.Sequences.{Pair, valueFor}
-use Rattle.refinement.specs.Worlds.{KeysDistinct}
-use Rattle.refinement.specs.Demand3.{Ideal, keysOf, among, keep, oldKeys, inBucket, lowest, movedKeys, joinFresh}
-use Rattle.refinement.proofs.Shape.{headAt}
-use Rattle.refinement.proofs.Reading.{linked-distinct}
-use Rattle.refinement.proofs.Members.{in-map, of-map, distinct-map, distinct-fits}
+use Rattle.refinement.specs.Demand3.{Ideal, keysOf, among, oldKeys, inBucket, lowest, movedKeys}
+use Rattle.refinement.proofs.Lists.{no-member, first-member, in-map, of-map, distinct-map, same-length, in-keep, of-keep, distinct-keep, among-in, in-among}
+use Rattle.refinement.proofs.LinkedChains.{shape-distinct}
 use Rattle.refinement.proofs.FirstEntries.{FilledFirst, old-empty}
-use Rattle.refinement.proofs.Leaving.{HeldIn}
-use Rattle.refinement.proofs.AgreeingOn.{AgreesOn}
-
--- ---- lists
-
--- lists with no repeats and the same members are as long
-pub same-length : (xs ys : List ℕ) → Distinct xs → Distinct ys → ((x : ℕ) → In x xs → In x ys)
-    → ((x : ℕ) → In x ys → In x xs) → length xs ≡ length ys
-same-length xs ys d e f g = omega (arith, distinct-fits xs ys d f, distinct-fits ys xs e g)
-
-no-member : (xs : List ℕ) → ((x : ℕ) → In x xs → ⊥) → xs ≡ []
-no-member [] f = refl
-no-member (x ∷ xs) f = absurd (f x (inl refl))
-
-first-member : (xs : List ℕ) → xs ≢ [] → (x : ℕ) × In x xs
-first-member [] f = absurd (f refl)
-first-member (x ∷ xs) f = (x, inl refl)
-
--- members of what is kept
-module _ (test : ℕ → Bool) where
-  pub in-keep : (k : ℕ) (ks : List ℕ) → In k ks → test k ≡ true → In k (keep test ks)
-  unfolding keep
-  in-keep k (j ∷ ks) (inl e) t =
-      subst (λ (b : Bool). In k (cond b (j ∷ keep test ks) (keep test ks))) (sym (ap test (sym e) ∙ t)) (inl e)
-  in-keep k (j ∷ ks) (inr i) t = by (test j) (in-keep k ks i t)
-    where
-      by : (b : Bool) → In k (keep test ks) → In k (cond b (j ∷ keep test ks) (keep test ks))
-      by true h = inr h
-      by false h = h
-
-  pub of-keep : (k : ℕ) (ks : List ℕ) → In k (keep test ks) → In k ks × (test k ≡ true)
-  unfolding keep
-  of-keep k (j ∷ ks) i = by (test j) refl i (of-keep k ks)
-    where
-      by : (b : Bool) → test j ≡ b → In k (cond b (j ∷ keep test ks) (keep test ks))
-          → (In k (keep test ks) → In k ks × (test k ≡ true)) → In k (j ∷ ks) × (test k ≡ true)
-      by true t (inl e) rest = (inl e, ap test e ∙ t)
-      by true t (inr h) rest = (inr (rest h .0), rest h .1)
-      by false t h rest = (inr (rest h .0), rest h .1)
-
-  pub distinct-keep : (ks : List ℕ) → Distinct ks → Distinct (keep test ks)
-  unfolding keep
-  distinct-keep [] d = tt
-  distinct-keep (j ∷ ks) d = by (test j) (distinct-keep ks (d .1))
-    where
-      by : (b : Bool) → Distinct (keep test ks) → Distinct (cond b (j ∷ keep test ks) (keep test ks))
-      by true h = (λ i. d .0 (of-keep j ks i .0), h)
-      by false h = h
-
--- the test for a member
-pub among-in : (k : ℕ) (ks : List ℕ) → among k ks ≡ true → In k ks
-unfolding among
-among-in k [] t = let z : _≡_ {A = ℕ} 0 1 = cc in absurd (omega arith)
-among-in k (j ∷ ks) t = by (eqb j k) refl t (among-in k ks)
-  where
-    by : (b : Bool) → eqb j k ≡ b → cond b true (among k ks) ≡ true → (among k ks ≡ true → In k ks) → In k (j ∷ ks)
-    by true e t rest = inl (sym (eqb-true j k e))
-    by false e t rest = inr (rest t)
-
-pub in-among : (k : ℕ) (ks : List ℕ) → In k ks → among k ks ≡ true
-unfolding among
-in-among k (j ∷ ks) (inl e) = ap (λ (b : Bool). cond b true (among k ks)) (eq-eqb j k (sym e))
-in-among k (j ∷ ks) (inr i) = by (eqb j k) (in-among k ks i)
-  where
-    by : (b : Bool) → among k ks ≡ true → cond b true (among k ks) ≡ true
-    by true h = refl
-    by false h = h
-
--- the moved keys join the others
-pub in-joined : (k : ℕ) (ks fresh : List ℕ) → In k ks ⊎ In k fresh → In k (joinFresh ks fresh)
-unfolding joinFresh
-in-joined k [] fresh (inl i) = absurd i
-in-joined k [] fresh (inr i) = i
-in-joined k (j ∷ ks) fresh (inl (inl e)) = inl e
-in-joined k (j ∷ ks) fresh (inl (inr i)) = inr (in-joined k ks fresh (inl i))
-in-joined k (j ∷ ks) fresh (inr i) = inr (in-joined k ks fresh (inr i))
-
-pub of-joined : (k : ℕ) (ks fresh : List ℕ) → In k (joinFresh ks fresh) → In k ks ⊎ In k fresh
-unfolding joinFresh
-of-joined k [] fresh i = inr i
-of-joined k (j ∷ ks) fresh (inl e) = inl (inl e)
-of-joined k (j ∷ ks) fresh (inr i) = by (of-joined k ks fresh i)
-  where
-    by : In k ks ⊎ In k fresh → In k (j ∷ ks) ⊎ In k fresh
-    by (inl h) = inl (inr h)
-    by (inr h) = inr h
-
--- the keys of a map's pairs
-pub value-key : (key value : ℕ) (ps : List Pair) → valueFor key ps ≡ some value → In key (keysOf ps)
-unfolding valueFor keysOf
-value-key key value [] e = let z : _≡_ {A = ℕ} 0 1 = cc in absurd (omega arith)
-value-key key value (p ∷ ps) e = by (eqb (p .key) key) refl e (value-key key value ps)
-  where
-    by : (b : Bool) → eqb (p .key) key ≡ b → cond b (some (p .value)) (valueFor key ps) ≡ some value
-        → (valueFor key ps ≡ some value → In key (keysOf ps)) → In key (keysOf (p ∷ ps))
-    by true t e rest = inl (sym (eqb-true (p .key) key t))
-    by false t e rest = inr (rest e)
-
-pub key-value : (key : ℕ) (ps : List Pair) → In key (keysOf ps) → (value : ℕ) × (valueFor key ps ≡ some value)
-unfolding valueFor keysOf
-key-value key (p ∷ ps) (inl e) =
-    (p .value, ap (λ (b : Bool). cond b (some (p .value)) (valueFor key ps)) (eq-eqb (p .key) key (sym e)))
-key-value key (p ∷ ps) (inr i) = by (eqb (p .key) key) (key-value key ps i)
-  where
-    by : (b : Bool) → (value : ℕ) × (valueFor key ps ≡ some value)
-        → (value : ℕ) × (cond b (some (p .value)) (valueFor key ps) ≡ some value)
-    by true h = (p .value, refl)
-    by false h = h
-
-pub distinct-keys : (ps : List Pair) → KeysDistinct ps → Distinct (keysOf ps)
-unfolding KeysDistinct keysOf
-distinct-keys [] d = tt
-distinct-keys (p ∷ ps) d = (alone, distinct-keys ps (d .1))
-  where
-    alone : In (p .key) (keysOf ps) → ⊥
-    alone i = let (q, j, e) = of-map (λ (q : Pair). q .key) (p .key) ps i in d .0 q j e
+use Rattle.refinement.proofs.StoreAfter.{HeldIn}
+use Rattle.refinement.proofs.PlainMaps.{value-key, key-value, distinct-keys}
+use Rattle.refinement.proofs.Agreement.{AgreesOn}
 
 -- ---- the lowest bucket
 
@@ -196,7 +79,7 @@ module _ {s : State} {current other entries : List ℕ} {i : Ideal} (a : AgreesO
       omega arith
 
   -- the keys of the map that are not in the new table are those on the chains of the old one
-  pub held-old : (key value b : ℕ) → b < s .«old_size» → HeldIn entries (at (Place.old b)) key value → In key (oldKeys i)
+  held-old : (key value b : ℕ) → b < s .«old_size» → HeldIn entries (at (Place.old b)) key value → In key (oldKeys i)
   unfolding oldKeys Live IsBucket
   held-old key value b l h =
       in-keep (λ k. not (among k (i .fresh))) key (keysOf (i .plain .pairs))
@@ -208,7 +91,7 @@ module _ {s : State} {current other entries : List ℕ} {i : Ideal} (a : AgreesO
       by true e = absurd (not-fresh key value b l h (among-in key (i .fresh) e))
       by false e = refl
 
-  pub old-held : (key : ℕ) → In key (oldKeys i)
+  old-held : (key : ℕ) → In key (oldKeys i)
       → (value : ℕ) × (b : ℕ) × (b < s .«old_size») × HeldIn entries (at (Place.old b)) key value
   unfolding oldKeys Live IsBucket
   old-held key j =
@@ -294,8 +177,7 @@ module _ {s : State} {current other entries : List ℕ} {i : Ideal} (a : AgreesO
         (distinct-keep (λ k. eqb (bucketOf k (s .«old_size»)) b) (oldKeys i) distinct-old))
         (distinct-map (keyOf entries) ns
         (λ n m j k e. a .shape .keys-distinct n m (Place.old b) (Place.old b) (first .live) (first .live) tt tt j k e)
-        (linked-distinct entries (s .capacity) (headAt s current other (Place.old b)) ns
-        (a .shape .linked (Place.old b) (first .live))))
+        (shape-distinct (a .shape) (Place.old b) (first .live)))
         (λ key j. on-chain key (moved-held key j .0) (moved-held key j .1))
         (λ key j.
         let (n, k, e) = of-map (keyOf entries) key ns j in

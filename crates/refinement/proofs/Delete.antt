@@ -13,16 +13,16 @@ use Rattle.model.specs.declared.Lookup.{Lookup}
 use Rattle.model.specs.declared.DeleteAnswer.{DeleteAnswer}
 use Rattle.model.specs.Memory.{Place, Live, Home, IsBucket, keyOf, valueOf, setLink, setEntry}
 use Rattle.model.specs.Calls.{After, deleted, deletedOld, deletedNew, unlinkBucket, unlinkEntry, freed, keysHeld}
+use Rattle.refinement.proofs.Lists.{lastOr, in-left, in-middle}
+use Rattle.refinement.proofs.Sums.{term-in-sum}
 use Rattle.refinement.proofs.Shape.{Shape}
-use Rattle.refinement.proofs.LookingUp.{lastOr}
-use Rattle.refinement.proofs.Counting.{term-in-sum, in-left}
-use Rattle.refinement.proofs.Splits.{in-middle}
-use Rattle.refinement.proofs.Cells.{Memory, Cell, memory, read, write}
+use Rattle.refinement.proofs.States.{recounted}
 use Rattle.refinement.proofs.Places.{inOld, inNew, keyPlace, key-bucket, bucket-not-free}
-use Rattle.refinement.proofs.Recount.{recounted}
-use Rattle.refinement.proofs.Relinking.{lastCell, Relinked, Rewired, relink}
-use Rattle.refinement.proofs.Writes.{rewired, rekeyed, rewired-keys, rewired-values, rekeyed-cells, rekeyed-key-other, rekeyed-value-other, shape-rewired, listed-in-range}
-use Rattle.refinement.proofs.Leaving.{HeldIn, Leaves, held-before, held-kept}
+use Rattle.refinement.proofs.LinkedChains.{shape-range}
+use Rattle.refinement.proofs.Cells.{Memory, Cell, memory, read, write}
+use Rattle.refinement.proofs.Relink.{lastCell, Rewired, Relinked, relink}
+use Rattle.refinement.proofs.RelinkWrites.{rewired, rekeyed, rewired-keeps, rekeyed-key-other, rekeyed-value-other, rekeyed-cells, shape-rewired}
+use Rattle.refinement.proofs.StoreAfter.{HeldIn, recounted-same, StoreAfter, held-before, held-kept}
 
 -- the cell that leads to the entry behind `before`, in the chain of place p
 cellBefore : Place → ℕ → Cell
@@ -119,7 +119,7 @@ module _ {s : State} {current other entries : List ℕ} (shape : Shape s current
     unfolding Live
     there =
         cell-before p us
-        (λ w i. listed-in-range shape p Place.free n us vs chain live tt apart w (in-left w us (n ∷ vs) i) .0)
+        (λ w i. shape-range shape p live w (subst (λ (ns : List ℕ). In w ns) (sym chain) (in-left w us (n ∷ vs) i)) .0)
         ∙ ap (cellBefore p) (sym behind)
 
     cells : Rewired earlier linked (lastCell (Cell.head p) us) Place.free n
@@ -130,11 +130,11 @@ module _ {s : State} {current other entries : List ℕ} (shape : Shape s current
 
     keys-kept : (k : ℕ) → (k ≡ n → ⊥) → keyOf (written .entries) k ≡ keyOf entries k
     unfolding freedFrom memory
-    keys-kept k d = rekeyed-key-other linked n 0 0 k d ∙ rewired-keys earlier (cellBefore p before) Place.free n k
+    keys-kept k d = rekeyed-key-other linked n 0 0 k d ∙ rewired-keeps earlier (cellBefore p before) Place.free n k .0
 
     values-kept : (k : ℕ) → (k ≡ n → ⊥) → valueOf (written .entries) k ≡ valueOf entries k
     unfolding freedFrom memory
-    values-kept k d = rekeyed-value-other linked n 0 0 k d ∙ rewired-values earlier (cellBefore p before) Place.free n k
+    values-kept k d = rekeyed-value-other linked n 0 0 k d ∙ rewired-keeps earlier (cellBefore p before) Place.free n k .1
 
     given-back : Relinked s earlier written (shape .at) (lessOld s inTheNew) (lessNew s inTheNew) p Place.free n us vs
     unfolding freedFrom memory Live Home IsBucket
@@ -155,11 +155,11 @@ module _ {s : State} {current other entries : List ℕ} (shape : Shape s current
         }
 
     -- the outcome of a delete that found its key, in the old or the new table
-    pub deleted-leaves : Leaves s DeleteAnswer.Deleted
+    pub deleted-store : StoreAfter s DeleteAnswer.Deleted
         (deleted s current other entries key (Lookup.At inTheNew before n)) (keysHeld s - 1)
         (λ t k v. HeldIn entries (shape .at t) k v × (k ≡ key → ⊥))
     unfolding recounted keysHeld
-    deleted-leaves =
+    deleted-store =
         let (after, moved) =
         relink shape written (lessOld s inTheNew) (lessNew s inTheNew) p Place.free n us vs given-back in
         record {
@@ -169,11 +169,7 @@ module _ {s : State} {current other entries : List ℕ} (shape : Shape s current
           entries = written .entries;
           is = deleted-is s current other entries key inTheNew before n;
           shape = after;
-          same-current = refl;
-          same-capacity = refl;
-          same-old-size = refl;
-          same-new-size = refl;
-          same-rehashing = refl;
+          same = recounted-same s (written .free) (lessOld s inTheNew) (lessNew s inTheNew);
           keys-held = some-held inTheNew n us vs live chain .2;
           held-only =
               λ t l b k v h.

@@ -12,11 +12,12 @@ use Rattle.cursor.specs.Member.{In}
 use Rattle.model.specs.declared.State.{State}
 use Rattle.model.specs.Limits.{legalSize}
 use Rattle.model.specs.Memory.{Place, Live, Home, keyOf, soundState}
-use Rattle.model.specs.Calls.{sound, cleared, acceptable, resizing}
-use Rattle.model.proofs.Soundness.{three-hold, Sound, SoundStill, sound-facts}
-use Rattle.refinement.proofs.Shape.{Shape, Linked, headAt}
-use Rattle.refinement.proofs.MakingSound.{sound-test}
-use Rattle.refinement.proofs.Clearing.{length-cleared, cleared-empty, sum-none}
+use Rattle.model.specs.Calls.{cleared, acceptable, resizing}
+use Rattle.model.proofs.Soundness.{three-hold, SoundStill}
+use Rattle.refinement.proofs.Sums.{sum-zero}
+use Rattle.refinement.proofs.Shape.{headAt, Linked, Shape, facts}
+use Rattle.refinement.proofs.States.{sound-again}
+use Rattle.refinement.proofs.ClearedBuckets.{length-cleared, cleared-empty}
 
 -- the chains once a rehash has begun
 unfoldable pub resizedAt : (Place → List ℕ) → Place → List ℕ
@@ -26,12 +27,8 @@ resizedAt at (Place.new b) = []
 
 module _ {s : State} {current other entries : List ℕ} (h : Shape s current other entries) (size : ℕ)
     (resting : s .rehashing ≡ false) (accepted : acceptable s other size ≡ true) where
-  before : Sound s current other entries
-  unfolding sound
-  before = sound-facts s current other entries (h .state-sound)
-
   still : SoundStill s
-  still = before .still resting
+  still = facts h .still resting
 
   allowed : (legalSize size ≡ true) × (s .«old_size» ≡ size → ⊥) × (size ≤ length other)
   unfolding acceptable
@@ -41,36 +38,20 @@ module _ {s : State} {current other entries : List ℕ} (h : Shape s current oth
       let differ = eqb-false size (s .«old_size») (not-true same (each .1)) in
       (each .0, λ e. differ (sym e), leb-true size (length other) (each .2))
 
-  -- a resize keeps the length of the buffer
-  pub resized-length : length (cleared size other) ≡ length other
-  resized-length = length-cleared size other (allowed .2)
-
   resized-sound : soundState (length current) (length (cleared size other)) (length entries) (resizing s size) ≡ true
   unfolding resizing
   resized-sound =
-      let base = before .base in
-      sound-test (resizing s size) current (cleared size other) entries
-      (record {
-        base =
-            record {
-              some-entries = base .some-entries;
-              capacity-limit = base .capacity-limit;
-              entries-fit = base .entries-fit;
-              old-legal = base .old-legal;
-              old-fits = base .old-fits;
-              used-fits = omega (arith, base .used-fits);
-              free-fits = base .free-fits;
-            };
-        move =
-            λ e.
-            record {
-              new-legal = allowed .0;
-              new-fits = omega (arith, resized-length, allowed .2);
-              sizes-differ = allowed .1;
-              index-fits = omega arith;
-            };
-        still = λ e. let z : _≡_ {A = ℕ} 0 1 = cc in absurd (omega arith);
+      let base = facts h .base in
+      sound-again (resizing s size) current (cleared size other) entries (facts h) refl refl (base .old-legal)
+      (base .old-fits) (omega (arith, base .used-fits)) (base .free-fits)
+      (λ e.
+      record {
+        new-legal = allowed .0;
+        new-fits = omega (arith, length-cleared size other (allowed .2), allowed .2);
+        sizes-differ = allowed .1;
+        index-fits = omega arith;
       })
+      (λ e. let z : _≡_ {A = ℕ} 0 1 = cc in absurd (omega arith))
 
   -- an entry is where it was
   in-before : (n : ℕ) (p : Place) → Live (resizing s size) p → In n (resizedAt (h .at) p) → Live s p × In n (h .at p)
@@ -118,7 +99,7 @@ module _ {s : State} {current other entries : List ℕ} (h : Shape s current oth
             h .keys-distinct n m p q l' k' a b i' j' e;
         passed-empty = λ b l. absurd (omega arith);
         old-count = h .old-count;
-        new-count = sym (sum-none size);
+        new-count = sym (sum-zero (λ b. 0) size (λ b l. refl));
         free-count = omega (arith, h .free-count, still .no-new-used);
       }
 

@@ -3,34 +3,34 @@
 use Prim.Native.Nat.{ℕ, zero, suc, _*_, _<_, _≤_}
 use mathlib.Core.Path.{_≡_, refl, sym, ap, ap₂, subst, _∙_}
 use mathlib.Core.Logic.{_⊎_, inl, inr, ⊎-elim}
-use mathlib.Core.Bool.{Bool, true, false, cond}
-use mathlib.Core.List.{List, [], _∷_, _++_, map, append-nil}
+use mathlib.Core.Bool.{Bool, cond}
+use mathlib.Core.List.{List, [], _∷_, _++_, map}
 use mathlib.Core.Option.{Option, some}
 use native.Mathlib.Decide.{decLe}
 use native.Mathlib.Omega.{arith}
-use lib.ListN.{length, drop, length-append}
-use lib.Dec.{ltb, leb, eqb, eqb·suc-zero}
+use lib.ListN.{length, drop}
+use lib.Dec.{leb, eqb, eqb·suc-zero}
 use borrow.Author.Tests.{le-leb, lt-leb}
 use Rattle.cursor.specs.Member.{In, Distinct}
-use Rattle.cursor.specs.Group.{Group}
 use Rattle.model.specs.declared.Error.{Error}
 use Rattle.model.specs.declared.ScanAnswer.{ScanAnswer}
-use Rattle.model.specs.Memory.{Place, Live, IsBucket, keyOf, bucketChain, chainAt, entriesAt}
-use Rattle.model.specs.Calls.{sound, keysHeld, oriented}
-use Rattle.model.specs.Walk.{Handed, joined, chains, group, groupEntries, pairs, handOut, scanIn, scan}
+use Rattle.model.specs.Memory.{Place, Live, keyOf, entriesAt}
+use Rattle.model.specs.Calls.{keysHeld}
+use Rattle.model.specs.Walk.{Handed, joined, group, groupEntries, pairs, handOut, scanIn, scan}
 use Rattle.model.specs.Answers.{scanReply, shortNumber}
 use Rattle.model.specs.Sequences.{World, Call, Outcome, handedOut, perform}
-use Rattle.model.proofs.Soundness.{Sound, sound-facts}
+use Rattle.model.proofs.Soundness.{Sound}
 use Rattle.refinement.specs.Worlds.{current, other, UndamagedAt}
-use Rattle.refinement.specs.Demand2.{placesOf, groupPlaces, entriesIn, nextCursor, HandsOut}
+use Rattle.refinement.specs.Demand2.{groupPlaces, entriesIn, nextCursor, HandsOut}
 use Rattle.refinement.specs.Demand3.{InGroup}
-use Rattle.refinement.proofs.Shape.{headAt}
-use Rattle.refinement.proofs.Reading.{linked-distinct}
-use Rattle.refinement.proofs.Counting.{in-left, in-right, gathered, length-gathered, in-gathered}
+use Rattle.refinement.proofs.Lists.{in-left, in-right, in-either, distinct-append, distinct-map}
+use Rattle.refinement.proofs.Shape.{Shape, shape-sound, facts}
+use Rattle.refinement.proofs.LinkedChains.{shape-distinct}
 use Rattle.refinement.proofs.ToUndamaged.{entries-at}
-use Rattle.refinement.proofs.FromUndamaged.{undamaged-shape}
-use Rattle.refinement.proofs.Members.{in-either, distinct-append, distinct-map, distinct-fits}
+use Rattle.refinement.proofs.FromUndamaged.{fits-held, undamaged-shape}
+use Rattle.refinement.proofs.Orientation.{oriented-read}
 use Rattle.refinement.proofs.LiveTables.{CoversKey, tablesOf}
+use Rattle.refinement.proofs.GroupChains.{chainsOf, group-chains}
 use Rattle.refinement.proofs.GroupPlaces.{PlacesOf, group-places}
 
 -- ---- the entries of some places
@@ -63,13 +63,13 @@ module _ (w : World) where
   among-places n p (q ∷ ps) (inr j) i = in-right n (readAt w q) (entriesIn w ps) (among-places n p ps j i)
 
 module _ (w : World) (u : UndamagedAt w) where
-  sound-state : sound (w .state) (current w) (other w) (w .entries) ≡ true
-  unfolding UndamagedAt sound
-  sound-state = u .state-sound
+  shape : Shape (w .state) (current w) (other w) (w .entries)
+  unfolding UndamagedAt
+  shape = undamaged-shape u
 
   -- the state is sound, fact by fact
   pub world-sound : Sound (w .state) (current w) (other w) (w .entries)
-  world-sound = sound-facts (w .state) (current w) (other w) (w .entries) sound-state
+  world-sound = facts shape
 
   -- the places of the call's group
   pub world-places : (cursor : ℕ)
@@ -77,74 +77,28 @@ module _ (w : World) (u : UndamagedAt w) where
       (groupPlaces (w .state) cursor)
   world-places cursor = group-places (w .state) (current w) (other w) (w .entries) world-sound cursor
 
-  -- the chains of some buckets of a table, read
-  table-chains : (used : ℕ) (buckets : List ℕ) (table : ℕ → Place)
-      → ((b : ℕ) → bucketChain (w .entries) (w .state .capacity) used buckets b
-      ≡ chainAt (w .state) (current w) (other w) (w .entries) (table b))
-      → (bs : List ℕ) → ((p : Place) → In p (map table bs) → Live (w .state) p)
-      → chains (w .entries) (w .state .capacity) used buckets bs ≡ some (entriesIn w (map table bs))
-  unfolding chains joined entriesIn UndamagedAt
-  table-chains used buckets table same [] live = refl
-  table-chains used buckets table same (b ∷ bs) live =
-      ap₂ joined (same b ∙ u .chains-sound (table b) (live (table b) (inl refl)))
-      (table-chains used buckets table same bs (λ p i. live p (inr i)))
+  -- every chain of live places is sound, and these are their entries
+  places-entries : (ps : List Place) → ((p : Place) → In p ps → Live (w .state) p) → chainsOf w ps ≡ some (entriesIn w ps)
+  unfolding chainsOf joined entriesIn UndamagedAt
+  places-entries [] live = refl
+  places-entries (p ∷ ps) live =
+      ap₂ joined (u .chains-sound p (live p (inl refl))) (places-entries ps (λ q i. live q (inr i)))
 
-  old-chains : (bs : List ℕ) → ((p : Place) → In p (map Place.old bs) → Live (w .state) p)
-      → chains (w .entries) (w .state .capacity) (w .state .«old_used») (current w) bs ≡ some (entriesIn w (map Place.old bs))
-  unfolding chainAt
-  old-chains = table-chains (w .state .«old_used») (current w) Place.old (λ b. refl)
-
-  new-chains : (bs : List ℕ) → ((p : Place) → In p (map Place.new bs) → Live (w .state) p)
-      → chains (w .entries) (w .state .capacity) (w .state .«new_used») (other w) bs ≡ some (entriesIn w (map Place.new bs))
-  unfolding chainAt
-  new-chains = table-chains (w .state .«new_used») (other w) Place.new (λ b. refl)
-
-  -- one place's entries, then those of more
-  place-then : (p : Place) (ps : List Place)
-      → joined (some (entriesIn w (p ∷ []))) (some (entriesIn w ps)) ≡ some (entriesIn w (p ∷ ps))
-  unfolding joined entriesIn
-  place-then p ps = ap (λ (ns : List ℕ). some (ns ++ entriesIn w ps)) (append-nil (readAt w p))
-
-  -- the chains of a group are sound where its places are live
-  places-entries : (moving oldSmaller : Bool) (g : Group) → ((p : Place) → In p (placesOf moving oldSmaller g) → Live (w .state) p)
-      → cond moving
-      (cond oldSmaller
-      (joined
-      (chains (w .entries) (w .state .capacity) (w .state .«old_used») (current w) (g .small ∷ []))
-      (chains (w .entries) (w .state .capacity) (w .state .«new_used») (other w) (g .large)))
-      (joined
-      (chains (w .entries) (w .state .capacity) (w .state .«new_used») (other w) (g .small ∷ []))
-      (chains (w .entries) (w .state .capacity) (w .state .«old_used») (current w) (g .large))))
-      (chains (w .entries) (w .state .capacity) (w .state .«old_used») (current w) (g .small ∷ []))
-      ≡ some (entriesIn w (placesOf moving oldSmaller g))
-  unfolding placesOf
-  places-entries false t g live = old-chains (g .small ∷ []) live
-  places-entries true true g live =
-      ap₂ joined (old-chains (g .small ∷ []) (λ p i. live p (⊎-elim inl absurd i))) (new-chains (g .large) (λ p i. live p (inr i)))
-      ∙ place-then (Place.old (g .small)) (map Place.new (g .large))
-  places-entries true false g live =
-      ap₂ joined (new-chains (g .small ∷ []) (λ p i. live p (⊎-elim inl absurd i))) (old-chains (g .large) (λ p i. live p (inr i)))
-      ∙ place-then (Place.new (g .small)) (map Place.old (g .large))
-
-  -- every chain of the group is sound, and these are its entries
-  pub group-entries : (cursor : ℕ)
+  group-entries : (cursor : ℕ)
       → groupEntries (w .state) (current w) (other w) (w .entries) (group (w .state) cursor)
       ≡ some (entriesOfGroup w cursor)
-  unfolding groupEntries groupPlaces
   group-entries cursor =
-      places-entries (w .state .rehashing) (ltb (w .state .«old_size») (w .state .«new_size»)) (group (w .state) cursor)
-      (world-places cursor .live)
+      group-chains w cursor ∙ places-entries (groupPlaces (w .state) cursor) (world-places cursor .live)
 
   -- no chain repeats an entry
-  pub read-once : (p : Place) → Live (w .state) p → Distinct (readAt w p)
+  read-once : (p : Place) → Live (w .state) p → Distinct (readAt w p)
   unfolding UndamagedAt
   read-once p l =
-      let h = undamaged-shape u in
-      subst (λ (ns : List ℕ). Distinct ns) (sym (entries-at h p l))
-      (linked-distinct (w .entries) (w .state .capacity) (headAt (w .state) (current w) (other w) p) (h .at p) (h .linked p l))
+      subst (λ (ns : List ℕ). Distinct ns) (sym (entries-at shape p l))
+      (shape-distinct shape p l)
 
   -- the entries of distinct live places are distinct
-  pub entries-distinct : (ps : List Place) → ((p : Place) → In p ps → Live (w .state) p) → Distinct ps → Distinct (entriesIn w ps)
+  entries-distinct : (ps : List Place) → ((p : Place) → In p ps → Live (w .state) p) → Distinct ps → Distinct (entriesIn w ps)
   unfolding entriesIn UndamagedAt
   entries-distinct [] live d = tt
   entries-distinct (p ∷ ps) live d =
@@ -155,38 +109,8 @@ module _ (w : World) (u : UndamagedAt w) where
       let same : p ≡ q = u .on-one-chain n p q (live p (inl refl)) (live q (inr k)) i l in
       d .0 (subst (λ (r : Place). In r ps) (sym same) k))
 
-  -- the chains of all live buckets, joined: as many entries as keys held
-  bucketEntries : List ℕ
-  bucketEntries =
-      gathered (λ b. readAt w (Place.old b)) (w .state .«old_size») ++ gathered (λ b. readAt w (Place.new b)) (w .state .«new_size»)
-
-  buckets-length : length bucketEntries ≡ keysHeld (w .state)
-  unfolding bucketEntries keysHeld UndamagedAt
-  buckets-length =
-      omega (
-        arith,
-        length-append (gathered (λ b. readAt w (Place.old b)) (w .state .«old_size»))
-            (gathered (λ b. readAt w (Place.new b)) (w .state .«new_size»)),
-        length-gathered (λ b. readAt w (Place.old b)) (w .state .«old_size»),
-        length-gathered (λ b. readAt w (Place.new b)) (w .state .«new_size»),
-        u .old-count,
-        u .new-count,
-      )
-
-  in-buckets : (n : ℕ) (p : Place) → Live (w .state) p → IsBucket p → In n (readAt w p) → In n bucketEntries
-  unfolding bucketEntries Live IsBucket
-  in-buckets n Place.free l b i = absurd b
-  in-buckets n (Place.old b) l t i =
-      in-left n (gathered (λ c. readAt w (Place.old c)) (w .state .«old_size»))
-      (gathered (λ c. readAt w (Place.new c)) (w .state .«new_size»))
-      (in-gathered (λ c. readAt w (Place.old c)) (w .state .«old_size») b n l i)
-  in-buckets n (Place.new b) l t i =
-      in-right n (gathered (λ c. readAt w (Place.old c)) (w .state .«old_size»))
-      (gathered (λ c. readAt w (Place.new c)) (w .state .«new_size»))
-      (in-gathered (λ c. readAt w (Place.new c)) (w .state .«new_size») b n l i)
-
   -- no entry of the group twice
-  pub group-distinct : (cursor : ℕ) → Distinct (entriesOfGroup w cursor)
+  group-distinct : (cursor : ℕ) → Distinct (entriesOfGroup w cursor)
   group-distinct cursor =
       entries-distinct (groupPlaces (w .state) cursor) (world-places cursor .live) (world-places cursor .distinct)
 
@@ -204,24 +128,14 @@ module _ (w : World) (u : UndamagedAt w) where
 
   -- the group has at most as many entries as keys are held
   pub group-fits : (cursor : ℕ) → length (entriesOfGroup w cursor) ≤ keysHeld (w .state)
+  unfolding UndamagedAt keysHeld
   group-fits cursor =
-      omega (
-        arith,
-        buckets-length,
-        distinct-fits (entriesOfGroup w cursor) bucketEntries (group-distinct cursor)
-            (λ n i.
-            let (p, a, j) = at-a-place w n (groupPlaces (w .state) cursor) i in
-            in-buckets n p (world-places cursor .live p a) (world-places cursor .buckets p a) j),
-      )
+      fits-held u (entriesOfGroup w cursor) (group-distinct cursor)
+      (λ n i.
+      let (p, a, j) = at-a-place w n (groupPlaces (w .state) cursor) i in
+      (p, world-places cursor .live p a, world-places cursor .buckets p a, j))
 
 -- ---- the call
-
--- a call that is given the current and the other buffer
-oriented-at : {A : Type 0} (t : Bool) (call : List ℕ → List ℕ → A) (first second : List ℕ)
-    → oriented t call first second ≡ call (oriented t (λ a b. a) first second) (oriented t (λ a b. b) first second)
-unfolding oriented
-oriented-at false call first second = refl
-oriented-at true call first second = refl
 
 -- with no keys held there is nothing to hand out, so that the call hands out the group's entries all the same
 held-or-none : (entries lent : List ℕ) (next keys : ℕ) (ns : List ℕ) → length ns ≤ keys
@@ -247,7 +161,7 @@ module _ (w : World) (u : UndamagedAt w) (cursor : ℕ) (lent : List ℕ) where
       (handOut (w .entries) lent next
       (groupEntries (w .state) (current w) (other w) (w .entries) (group (w .state) cursor))))
       (Handed.handed (ScanAnswer.Refused Error.BadState) lent))
-      (sound-state w u)
+      (shape-sound (shape w u))
       ∙ ap
       (λ (ns : Option (List ℕ)).
       cond (eqb (keysHeld (w .state)) 0) (Handed.handed (ScanAnswer.Scanned 0 0) lent) (handOut (w .entries) lent next ns))
@@ -255,14 +169,14 @@ module _ (w : World) (u : UndamagedAt w) (cursor : ℕ) (lent : List ℕ) where
       ∙ held-or-none (w .entries) lent next (keysHeld (w .state)) (entriesOfGroup w cursor) (group-fits w u cursor)
 
   -- the call hands out the group's entries, if the lent list has two places for each
-  pub walk-call : perform w (Call.scan cursor lent)
+  walk-call : perform w (Call.scan cursor lent)
       ≡ handedOut w
       (handOut (w .entries) lent (nextCursor (keysHeld (w .state)) (group (w .state) cursor .answered))
       (some (entriesOfGroup w cursor)))
-  unfolding perform scan current other
+  unfolding perform scan
   walk-call =
       ap (handedOut w)
-      (oriented-at (w .state .«second_is_current») (scanIn (w .state) (w .entries) lent cursor) (w .first) (w .second) ∙ scan-in)
+      (oriented-read w (scanIn (w .state) (w .entries) lent cursor) ∙ scan-in)
 
   -- the call answered, or short
   answeredOr : Bool → Outcome
@@ -312,10 +226,6 @@ module _ (w : World) (u : UndamagedAt w) (cursor : ℕ) (lent : List ℕ) where
   -- an answered call had the places
   pub answered-fits : perform w (Call.scan cursor lent) .reply .number ≡ 0 → length (entriesOfGroup w cursor) * 2 ≤ length lent
   answered-fits z = ⊎-elim (λ a. a .0) (λ b. absurd (omega (arith, b .1))) walk-number
-
-  -- with two places for every key held it is answered
-  pub walk-room : keysHeld (w .state) * 2 ≤ length lent → perform w (Call.scan cursor lent) .reply .number ≡ 0
-  walk-room l = ⊎-elim (λ a. a .1) (λ b. absurd (omega (arith, group-fits w u cursor, b .0))) walk-number
 
 -- Demand 2 for the walk
 pub hands-out : (w : World) → UndamagedAt w → (cursor : ℕ) (lent : List ℕ) → perform w (Call.scan cursor lent) .reply .number ≡ 0

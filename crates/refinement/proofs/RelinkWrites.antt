@@ -1,30 +1,22 @@
 -- The writes of a relink: the cell before entry x gets its link, its link gets the head of place q, and that head gets x.
--- From them, what the theorem of Relinking asks of heads and links.
+-- From them, what the theorem of Relink asks of heads and links.
 -- Assumes nothing.
 use Prim.Native.Nat.{ℕ, _<_, _≤_}
 use mathlib.Core.Path.{_≡_, refl, sym, subst, _∙_}
 use mathlib.Core.Logic.{inl}
 use mathlib.Core.Bool.{Bool, true, false}
 use mathlib.Core.List.{List, [], _∷_, _++_}
-use native.Mathlib.Nat.{mod-lt}
 use native.Mathlib.Omega.{arith}
 use lib.ListN.{length}
-use Rattle.cursor.specs.Member.{In}
+use Rattle.cursor.specs.Member.{Distinct, In}
 use Rattle.model.specs.declared.State.{State}
-use Rattle.model.specs.Keys.{hash, bucketOf}
-use Rattle.model.specs.Limits.{largestExponent, legalSize}
 use Rattle.model.specs.Memory.{Place, Live, keyOf, valueOf, setKey, setValue}
-use Rattle.model.specs.Calls.{sound}
-use Rattle.model.proofs.Power.{legal-pos}
 use Rattle.model.proofs.Fields.{length-setKey, length-setValue}
-use Rattle.model.proofs.Soundness.{Sound, sound-facts}
-use Rattle.refinement.proofs.Shape.{headAt, Linked, Shape}
-use Rattle.refinement.proofs.Reading.{linked-in-range, linked-distinct}
-use Rattle.refinement.proofs.Counting.{in-left}
-use Rattle.refinement.proofs.Cells.{Memory, Cell, memory, read, write, Inside, SameLengths, read-write-same, read-write-other, write-lengths, write-keeps-keys, write-keeps-values, link-set-key, link-set-value, key-set-same, key-set-other, key-set-value, value-set-same, value-set-other, value-set-key}
-use Rattle.refinement.proofs.Splits.{in-middle, parts-apart}
-use Rattle.refinement.proofs.Places.{keyPlace}
-use Rattle.refinement.proofs.Relinking.{lastCell, last-link, last-is-link, last-is-head, not-head, Rewired}
+use Rattle.refinement.proofs.Lists.{in-left, parts-apart, in-middle}
+use Rattle.refinement.proofs.Shape.{Shape, facts}
+use Rattle.refinement.proofs.LinkedChains.{shape-distinct, shape-range}
+use Rattle.refinement.proofs.Cells.{key-set-same, value-set-same, key-set-other, value-set-other, link-set-key, link-set-value, key-set-value, value-set-key, Memory, Cell, memory, read, write, Inside, SameLengths, read-write-same, read-write-other, write-lengths, write-keeps}
+use Rattle.refinement.proofs.Relink.{lastCell, last-link, not-head, last-is-link, last-is-head, Rewired}
 
 -- the memory once x, behind the cell c, is at the head of q
 unfoldable pub rewired : Memory → Cell → Place → ℕ → Memory
@@ -58,28 +50,19 @@ inside-after m m' h (Cell.link n) i = omega arith
 
 -- A relink keeps every key and value, and a write of those of x keeps heads and links, and those of every other entry.
 
-pub rewired-keys : (m : Memory) (c : Cell) (q : Place) (x n : ℕ)
-    → keyOf (rewired m c q x .entries) n ≡ keyOf (m .entries) n
+pub rewired-keeps : (m : Memory) (c : Cell) (q : Place) (x n : ℕ)
+    → (keyOf (rewired m c q x .entries) n ≡ keyOf (m .entries) n) × (valueOf (rewired m c q x .entries) n ≡ valueOf (m .entries) n)
 unfolding rewired
-rewired-keys m c q x n =
+rewired-keeps m c q x n =
     let a = write m c (read m (Cell.link x)) in
     let b = write a (Cell.link x) (read m (Cell.head q)) in
-    write-keeps-keys b (Cell.head q) x n
-    ∙ write-keeps-keys a (Cell.link x) (read m (Cell.head q)) n
-    ∙ write-keeps-keys m c (read m (Cell.link x)) n
-
-pub rewired-values : (m : Memory) (c : Cell) (q : Place) (x n : ℕ)
-    → valueOf (rewired m c q x .entries) n ≡ valueOf (m .entries) n
-unfolding rewired
-rewired-values m c q x n =
-    let a = write m c (read m (Cell.link x)) in
-    let b = write a (Cell.link x) (read m (Cell.head q)) in
-    write-keeps-values b (Cell.head q) x n
-    ∙ write-keeps-values a (Cell.link x) (read m (Cell.head q)) n
-    ∙ write-keeps-values m c (read m (Cell.link x)) n
+    let (k, v) = write-keeps m c (read m (Cell.link x)) n in
+    let (k', v') = write-keeps a (Cell.link x) (read m (Cell.head q)) n in
+    let (k'', v'') = write-keeps b (Cell.head q) x n in
+    (k'' ∙ k' ∙ k, v'' ∙ v' ∙ v)
 
 module _ (m : Memory) (x key value : ℕ) where
-  pub rekeyed-read : (c : Cell) → read (rekeyed m x key value) c ≡ read m c
+  rekeyed-read : (c : Cell) → read (rekeyed m x key value) c ≡ read m c
   unfolding read rekeyed
   rekeyed-read (Cell.head Place.free) = refl
   rekeyed-read (Cell.head (Place.old b)) = refl
@@ -87,7 +70,7 @@ module _ (m : Memory) (x key value : ℕ) where
   rekeyed-read (Cell.link n) =
       link-set-value (setKey (m .entries) x key) x n value ∙ link-set-key (m .entries) x n key
 
-  pub rekeyed-lengths : SameLengths m (rekeyed m x key value)
+  rekeyed-lengths : SameLengths m (rekeyed m x key value)
   unfolding rekeyed
   rekeyed-lengths =
       record {
@@ -117,7 +100,7 @@ module _ (m : Memory) (x key value : ℕ) where
       value-set-other (setKey (m .entries) x key) x n value d ∙ value-set-key (m .entries) x n key
 
 -- three different cells, each inside its buffer
-pub rewired-cells : (m : Memory) (c : Cell) (q : Place) (x : ℕ)
+rewired-cells : (m : Memory) (c : Cell) (q : Place) (x : ℕ)
     → (c ≡ Cell.head q → ⊥) → (c ≡ Cell.link x → ⊥) → Inside m c → Inside m (Cell.head q) → Inside m (Cell.link x)
     → Rewired m (rewired m c q x) c q x
 unfolding rewired
@@ -157,40 +140,24 @@ rekeyed-cells m m' c q x key value h =
 -- The cells of a store with a shape are inside its buffers.
 
 module _ {s : State} {current other entries : List ℕ} (shape : Shape s current other entries) where
-  pub facts : Sound s current other entries
-  unfolding sound
-  facts = sound-facts s current other entries (shape .state-sound)
-
-  pub head-inside : (p : Place) → Live s p → Inside (memory s current other entries) (Cell.head p)
+  head-inside : (p : Place) → Live s p → Inside (memory s current other entries) (Cell.head p)
   unfolding Inside memory Live
   head-inside Place.free l = tt
-  head-inside (Place.old b) l = let f = facts .base .old-fits in omega arith
+  head-inside (Place.old b) l = let f = facts shape .base .old-fits in omega arith
   head-inside (Place.new b) l = go (s .rehashing) refl
     where
       go : (t : Bool) → s .rehashing ≡ t → b < length other
-      go true e = let f = facts .move e .new-fits in omega arith
-      go false e = let f = facts .still e .no-new in absurd (omega arith)
-
-  -- the bucket that a key calls for is live
-
-  pub key-live : (key : ℕ) (inTheNew : Bool) → (inTheNew ≡ true → s .rehashing ≡ true) → Live s (keyPlace s key inTheNew)
-  unfolding Live bucketOf legalSize keyPlace
-  key-live key false h = mod-lt (hash key) (legal-pos largestExponent (s .«old_size») (facts .base .old-legal))
-  key-live key true h = mod-lt (hash key) (legal-pos largestExponent (s .«new_size») (facts .move (h refl) .new-legal))
+      go true e = let f = facts shape .move e .new-fits in omega arith
+      go false e = let f = facts shape .still e .no-new in absurd (omega arith)
 
   pub link-inside : (n : ℕ) → 0 < n → n ≤ s .capacity → Inside (memory s current other entries) (Cell.link n)
   unfolding Inside memory
-  link-inside n h k = let f = facts .base .entries-fit in omega arith
+  link-inside n h k = let f = facts shape .base .entries-fit in omega arith
 
   module _ (p q : Place) (x : ℕ) (us vs : List ℕ) (chain : shape .at p ≡ us ++ x ∷ vs) (from-live : Live s p)
       (to-live : Live s q) (apart : p ≡ q → ⊥) where
-    from-linked : Linked entries (s .capacity) (headAt s current other p) (us ++ x ∷ vs)
-    from-linked =
-        subst (λ (ns : List ℕ). Linked entries (s .capacity) (headAt s current other p) ns) chain
-        (shape .linked p from-live)
-
-    pub listed-in-range : (n : ℕ) → In n (us ++ x ∷ vs) → (0 < n) × (n ≤ s .capacity)
-    listed-in-range n i = linked-in-range entries (s .capacity) (headAt s current other p) n (us ++ x ∷ vs) from-linked i
+    listed-in-range : (n : ℕ) → In n (us ++ x ∷ vs) → (0 < n) × (n ≤ s .capacity)
+    listed-in-range n i = shape-range shape p from-live n (subst (λ (ns : List ℕ). In n ns) (sym chain) i)
 
     last-inside : (ws : List ℕ) → ((w : ℕ) → In w ws → In w us)
         → Inside (memory s current other entries) (lastCell (Cell.head p) ws)
@@ -209,6 +176,6 @@ module _ {s : State} {current other entries : List ℕ} (shape : Shape s current
         rewired-cells (memory s current other entries) (lastCell (Cell.head p) us) q x
         (λ e. apart (sym (last-is-head p q us (sym e))))
         (λ e. parts-apart x us (x ∷ vs)
-        (linked-distinct entries (s .capacity) (headAt s current other p) (us ++ x ∷ vs) from-linked)
+        (subst (λ (ns : List ℕ). Distinct ns) chain (shape-distinct shape p from-live))
         (last-is-link p us x (sym e)) (inl refl))
         (last-inside us (λ w i. i)) (head-inside q to-live) (link-inside x (range .0) (range .1))

@@ -6,28 +6,18 @@ use mathlib.Core.Path.{_≡_, refl, sym, ap, subst, _∙_}
 use mathlib.Core.Logic.{inl, inr}
 use mathlib.Core.Bool.{Bool, true, false, cond}
 use mathlib.Core.List.{List, [], _∷_, _++_}
-use native.Mathlib.Nat.{mod-lt}
 use native.Mathlib.Omega.{arith}
 use lib.Dec.{eqb}
 use borrow.Author.Tests.{eqb-true, eqb-false}
 use Rattle.cursor.specs.Member.{In}
 use Rattle.model.specs.declared.State.{State}
 use Rattle.model.specs.declared.Lookup.{Lookup}
-use Rattle.model.specs.Keys.{bucketOf}
-use Rattle.model.specs.Limits.{largestExponent, legalSize}
 use Rattle.model.specs.Memory.{Place, Live, Home, IsBucket, keyOf, chainAt}
-use Rattle.model.specs.Calls.{firstWith, searched, both, lookupIn, lookup, sound}
-use Rattle.model.proofs.Power.{legal-pos}
-use Rattle.model.proofs.Soundness.{Sound, sound-facts}
-use Rattle.refinement.proofs.Shape.{Shape}
-use Rattle.refinement.proofs.Counting.{in-right}
+use Rattle.model.specs.Calls.{firstWith, searched, both, lookupIn, lookup}
+use Rattle.refinement.proofs.Lists.{lastOr, in-right}
+use Rattle.refinement.proofs.Shape.{Shape, facts}
+use Rattle.refinement.proofs.Places.{keyPlace, key-bucket, key-live}
 use Rattle.refinement.proofs.ToUndamaged.{chain-at}
-use Rattle.refinement.proofs.Places.{keyPlace, key-bucket}
-
--- the last entry of a list; of an empty one, the entry named
-unfoldable pub lastOr : ℕ → List ℕ → ℕ
-lastOr before [] = before
-lastOr before (n ∷ ns) = lastOr n ns
 
 -- an entry with the key, and the one before it, in the key's bucket of the new or the old table
 pub record FoundAt {s : State} {current other entries : List ℕ} (h : Shape s current other entries)
@@ -39,11 +29,10 @@ pub record FoundAt {s : State} {current other entries : List ℕ} (h : Shape s c
   pub split : h .at (keyPlace s key inNew) ≡ us ++ (n ∷ vs)
   pub before-last : before ≡ lastOr 0 us
   pub its-key : keyOf entries n ≡ key
-  pub rehashing-new : inNew ≡ true → s .rehashing ≡ true
 
 -- The first entry with the key in a list: where it stands, or that no entry has the key.
 
-FirstIn : List ℕ → ℕ → Bool → ℕ → List ℕ → Lookup → Type 0
+unfoldable pub FirstIn : List ℕ → ℕ → Bool → ℕ → List ℕ → Lookup → Type 0
 FirstIn entries key inNew before ns Lookup.Damaged = ⊥
 FirstIn entries key inNew before ns Lookup.Absent = (n : ℕ) → In n ns → keyOf entries n ≡ key → ⊥
 FirstIn entries key inNew before ns (Lookup.At inNew′ before′ n) =
@@ -64,7 +53,7 @@ module _ (entries : List ℕ) (key : ℕ) (inNew : Bool) where
       (m ∷ us, vs, ap (λ (l : List ℕ). m ∷ l) same, last, k, t)
 
   -- what the search of a list answers
-  first-in : (before : ℕ) (ns : List ℕ) → FirstIn entries key inNew before ns (firstWith entries key inNew before ns)
+  pub first-in : (before : ℕ) (ns : List ℕ) → FirstIn entries key inNew before ns (firstWith entries key inNew before ns)
   unfolding FirstIn firstWith lastOr
   first-in before [] = λ n i k. i
   first-in before (m ∷ ns) = pick (eqb (keyOf entries m) key) refl (first-in m ns)
@@ -82,35 +71,21 @@ module _ {s : State} {current other entries : List ℕ} (h : Shape s current oth
   NotHeld key = (p : Place) → Live s p → IsBucket p → (n : ℕ) → In n (h .at p) → keyOf entries n ≡ key → ⊥
 
   -- what a lookup's answer says of the shape
-  unfoldable pub Looked : ℕ → Lookup → Type 0
+  unfoldable Looked : ℕ → Lookup → Type 0
   Looked key Lookup.Damaged = ⊥
   Looked key Lookup.Absent = NotHeld key
   Looked key (Lookup.At inNew before n) = FoundAt h key inNew before n
 
-  -- the state is sound, and what that says
-  pub shape-sound : sound s current other entries ≡ true
-  unfolding sound
-  shape-sound = h .state-sound
-
-  pub facts : Sound s current other entries
-  facts = sound-facts s current other entries shape-sound
-
-  -- the key's bucket is live, in the new table during a rehash
-  pub place-live : (key : ℕ) (inNew : Bool) → (inNew ≡ true → s .rehashing ≡ true) → Live s (keyPlace s key inNew)
-  unfolding Live keyPlace bucketOf Rattle.model.specs.Keys.hash legalSize
-  place-live key true t = mod-lt key (legal-pos largestExponent (s .«new_size») (facts .move (t refl) .new-legal))
-  place-live key false t = mod-lt key (legal-pos largestExponent (s .«old_size») (facts .base .old-legal))
-
   -- a live bucket of the new table: a rehash is under way
-  pub new-rehashing : (b : ℕ) → b < s .«new_size» → s .rehashing ≡ true
+  new-rehashing : (b : ℕ) → b < s .«new_size» → s .rehashing ≡ true
   new-rehashing b l = pick (s .rehashing) refl
     where
       pick : (t : Bool) → s .rehashing ≡ t → t ≡ true
       pick true e = refl
-      pick false e = absurd (omega (arith, facts .still e .no-new))
+      pick false e = absurd (omega (arith, facts h .still e .no-new))
 
   -- a live bucket that has an entry with the key is the key's own
-  pub own-place : (key n : ℕ) (p : Place) → Live s p → IsBucket p → In n (h .at p) → keyOf entries n ≡ key
+  own-place : (key n : ℕ) (p : Place) → Live s p → IsBucket p → In n (h .at p) → keyOf entries n ≡ key
       → (inNew : Bool) × (keyPlace s key inNew ≡ p) × (inNew ≡ true → s .rehashing ≡ true)
   unfolding Live IsBucket Home keyPlace
   own-place key n p l b i k = pick p l b (subst (λ (m : ℕ). Home s m p) k (h .home n p l i))
@@ -134,7 +109,7 @@ module _ {s : State} {current other entries : List ℕ} (h : Shape s current oth
     table-looked : (inNew : Bool) → (inNew ≡ true → s .rehashing ≡ true) → InTable inNew (inTable inNew)
     unfolding InTable inTable searched
     table-looked inNew t =
-        let read = ap (searched entries key inNew 0) (chain-at h (keyPlace s key inNew) (place-live key inNew t)) in
+        let read = ap (searched entries key inNew 0) (chain-at h (keyPlace s key inNew) (key-live h key inNew t)) in
         subst (λ (r : Lookup). FirstIn entries key inNew 0 (h .at (keyPlace s key inNew)) r) (sym read)
         (first-in entries key inNew 0 (h .at (keyPlace s key inNew)))
 
@@ -145,14 +120,13 @@ module _ {s : State} {current other entries : List ℕ} (h : Shape s current oth
     found-in-table inNew t inNew′ before n (us, vs, same, last, k, e) =
         subst (λ (f : Bool). FoundAt h key f before n) (sym e)
         (record {
-          live = place-live key inNew t;
+          live = key-live h key inNew t;
           bucket = key-bucket s key inNew;
           us = us;
           vs = vs;
           split = same;
           before-last = last;
           its-key = k;
-          rehashing-new = t;
         })
 
     -- absent from every table
@@ -185,7 +159,7 @@ module _ {s : State} {current other entries : List ℕ} (h : Shape s current oth
     looked-in-one (Lookup.At inNew before n) f o = found-in-table false (λ e. (cc)) inNew before n o
 
     -- a lookup finds the entry that has the key, or the key is not held
-    pub looked-up : Looked key (lookup s current other entries key)
+    looked-up : Looked key (lookup s current other entries key)
     unfolding lookup lookupIn chainAt keyPlace inTable
     looked-up = pick (s .rehashing) refl
       where
@@ -201,18 +175,8 @@ module _ {s : State} {current other entries : List ℕ} (h : Shape s current oth
     unfolding Looked
     found-at inNew before n e = subst (Looked key) e looked-up
 
-    -- absent means not held
-    pub absent-at : lookup s current other entries key ≡ Lookup.Absent → NotHeld key
-    unfolding Looked
-    absent-at e = subst (Looked key) e looked-up
-
-    -- no answer is damaged
-    pub never-damaged : lookup s current other entries key ≡ Lookup.Damaged → ⊥
-    unfolding Looked
-    never-damaged e = subst (Looked key) e looked-up
-
     -- and is one of its entries
-    pub found-there : (inNew : Bool) (before n : ℕ) → FoundAt h key inNew before n → In n (h .at (keyPlace s key inNew))
+    found-there : (inNew : Bool) (before n : ℕ) → FoundAt h key inNew before n → In n (h .at (keyPlace s key inNew))
     found-there inNew before n f = subst (In n) (sym (f .split)) (in-right n (f .us) (n ∷ f .vs) (inl refl))
 
     -- a key that is held is found, at its entry

@@ -1,25 +1,25 @@
 -- Add keeps the shape: the first free entry goes to the head of its bucket, in the new table during a rehash.
 -- Assumes nothing.
 use Prim.Native.Nat.{ℕ, _+_, _<_}
-use mathlib.Core.Path.{_≡_, refl, sym, ap, subst, _∙_}
+use mathlib.Core.Path.{_≡_, refl, sym, subst, _∙_}
 use mathlib.Core.Logic.{_⊎_, inl, inr}
 use mathlib.Core.Bool.{Bool, true, false}
 use mathlib.Core.List.{List, [], _∷_}
 use native.Mathlib.Omega.{arith}
-use lib.ListN.{length}
-use borrow.Author.Tests.{le-leb, ne-eqb}
 use Rattle.cursor.specs.Member.{In}
 use Rattle.model.specs.declared.State.{State}
 use Rattle.model.specs.declared.AddAnswer.{AddAnswer}
-use Rattle.model.specs.Memory.{Place, Live, Home, IsBucket, linkOf, keyOf, valueOf, setEntry}
-use Rattle.model.specs.Calls.{After, pushed, addedOld, addedNew, pushBucket, pushEntry, takeable, keysHeld}
-use Rattle.refinement.proofs.Shape.{headAt, Linked, Shape}
+use Rattle.model.specs.Memory.{Place, Live, Home, IsBucket, keyOf, valueOf, setEntry}
+use Rattle.model.specs.Calls.{After, pushed, addedOld, addedNew, pushBucket, pushEntry, keysHeld}
+use Rattle.refinement.proofs.Shape.{Shape, facts}
+use Rattle.refinement.proofs.States.{recounted}
+use Rattle.refinement.proofs.Places.{inOld, inNew, keyPlace, key-bucket, key-home, key-live, bucket-not-free}
+use Rattle.refinement.proofs.LinkedChains.{shape-range}
+use Rattle.refinement.proofs.FirstEntries.{free-taken}
 use Rattle.refinement.proofs.Cells.{Memory, Cell, memory, read, write, Inside}
-use Rattle.refinement.proofs.Places.{inOld, inNew, keyPlace, key-bucket, key-home, bucket-not-free}
-use Rattle.refinement.proofs.Recount.{recounted}
-use Rattle.refinement.proofs.Relinking.{lastCell, Relinked, Rewired, relink, linked-head}
-use Rattle.refinement.proofs.Writes.{facts, rewired, rekeyed, rewired-keys, rewired-values, rekeyed-cells, rekeyed-key, rekeyed-value, rekeyed-key-other, rekeyed-value-other, shape-rewired, listed-in-range, link-inside, inside-after, key-live}
-use Rattle.refinement.proofs.Leaving.{HeldIn, Leaves, held-before, held-kept}
+use Rattle.refinement.proofs.Relink.{lastCell, Rewired, Relinked, relink}
+use Rattle.refinement.proofs.RelinkWrites.{rewired, rekeyed, inside-after, rewired-keeps, rekeyed-key, rekeyed-value, rekeyed-key-other, rekeyed-value-other, rekeyed-cells, link-inside, shape-rewired}
+use Rattle.refinement.proofs.StoreAfter.{HeldIn, recounted-same, StoreAfter, held-before, held-kept}
 
 -- the memory once the first free entry, with that key and value, is at the head of a bucket
 addedAt : Memory → Place → ℕ → ℕ → Memory
@@ -68,26 +68,7 @@ module _ {s : State} {current other entries : List ℕ} (shape : Shape s current
     (absent : (n : ℕ) (t : Place) → Live s t → IsBucket t → In n (shape .at t) → keyOf entries n ≡ key → ⊥) where
   -- not full, so the free list has a first entry
   first-free : (vs : List ℕ) × (shape .at Place.free ≡ s .«free_head» ∷ vs)
-  unfolding Live headAt Linked
-  first-free = go (shape .at Place.free) (shape .free-count) (shape .linked Place.free tt)
-    where
-      go : (ns : List ℕ) → length ns + (s .«old_used» + s .«new_used») ≡ s .capacity
-          → Linked entries (s .capacity) (s .«free_head») ns → (vs : List ℕ) × (ns ≡ s .«free_head» ∷ vs)
-      go [] c h = absurd (omega arith)
-      go (n ∷ ns) c h = (ns, ap (λ (k : ℕ). k ∷ ns) (sym (h .0)))
-
-  -- and that entry can be taken
-  pub free-takeable : takeable s entries ≡ true
-  unfolding takeable Live headAt Linked
-  free-takeable =
-      let h =
-      subst (λ (ns : List ℕ). Linked entries (s .capacity) (s .«free_head») ns) (first-free .1)
-      (shape .linked Place.free tt) in
-      let fits = linked-head entries (s .capacity) (linkOf entries (s .«free_head»)) (first-free .0) (h .3) in
-      rw (
-        ne-eqb (s .«free_head») 0 (λ e. omega (arith, h .1)),
-        le-leb (linkOf entries (s .«free_head»)) (s .capacity) fits,
-      )
+  first-free = let (vs, e, t) = free-taken shape (λ e. omega arith) in (vs, e)
 
   module _ (inTheNew : Bool) (rehashing : s .rehashing ≡ inTheNew) where
     abbrev x : ℕ
@@ -118,7 +99,8 @@ module _ {s : State} {current other entries : List ℕ} (shape : Shape s current
     inside : Inside linked (Cell.link x)
     unfolding Live
     inside =
-        let range = listed-in-range shape Place.free q x [] (first-free .0) (first-free .1) tt live apart x (inl refl) in
+        let range =
+        shape-range shape Place.free tt x (subst (λ (ns : List ℕ). In x ns) (sym (first-free .1)) (inl refl)) in
         inside-after before linked (cells .lengths) (Cell.link x) (link-inside shape x (range .0) (range .1))
 
     -- the index of a rehash is 0 with none under way
@@ -142,11 +124,11 @@ module _ {s : State} {current other entries : List ℕ} (shape : Shape s current
 
     keys-kept : (n : ℕ) → (n ≡ x → ⊥) → keyOf (written .entries) n ≡ keyOf entries n
     unfolding addedAt memory
-    keys-kept n d = rekeyed-key-other linked x key value n d ∙ rewired-keys before (Cell.head Place.free) q x n
+    keys-kept n d = rekeyed-key-other linked x key value n d ∙ rewired-keeps before (Cell.head Place.free) q x n .0
 
     values-kept : (n : ℕ) → (n ≡ x → ⊥) → valueOf (written .entries) n ≡ valueOf entries n
     unfolding addedAt memory
-    values-kept n d = rekeyed-value-other linked x key value n d ∙ rewired-values before (Cell.head Place.free) q x n
+    values-kept n d = rekeyed-value-other linked x key value n d ∙ rewired-keeps before (Cell.head Place.free) q x n .1
 
     -- an entry in a bucket was not free
     not-taken : (t : Place) → Live s t → IsBucket t → (n : ℕ) → In n (shape .at t) → n ≡ x → ⊥
@@ -174,10 +156,10 @@ module _ {s : State} {current other entries : List ℕ} (shape : Shape s current
         }
 
     -- the outcome of an add that is neither refused nor full
-    pub added-leaves : Leaves s AddAnswer.Added (pushed s current other entries key value inTheNew) (keysHeld s + 1)
+    pub added-store : StoreAfter s AddAnswer.Added (pushed s current other entries key value inTheNew) (keysHeld s + 1)
         (λ t k v. ((t ≡ keyPlace s key inTheNew) × (k ≡ key) × (v ≡ value)) ⊎ HeldIn entries (shape .at t) k v)
     unfolding recounted keysHeld
-    added-leaves =
+    added-store =
         let (after, moved) =
         relink shape written (moreOld s inTheNew) (moreNew s inTheNew) Place.free q x [] (first-free .0) taken in
         record {
@@ -187,11 +169,7 @@ module _ {s : State} {current other entries : List ℕ} (shape : Shape s current
           entries = written .entries;
           is = added-is s current other entries key value inTheNew;
           shape = after;
-          same-current = refl;
-          same-capacity = refl;
-          same-old-size = refl;
-          same-new-size = refl;
-          same-rehashing = refl;
+          same = recounted-same s (written .free) (moreOld s inTheNew) (moreNew s inTheNew);
           keys-held = more-held s inTheNew;
           held-only =
               λ t l b k v h.

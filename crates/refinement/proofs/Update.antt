@@ -1,23 +1,57 @@
--- What update leaves: the entry found has the new value, every other entry its key and value.
+-- Update keeps the shape: links and keys are as they were, the entry found has the new value, every other one its own.
 -- Assumes nothing.
 use Prim.Native.Nat.{ℕ, _*_, _<_, _≤_}
 use mathlib.Core.Path.{_≡_, refl, sym, ap, subst, _∙_}
 use mathlib.Core.Logic.{_⊎_, inl, inr}
 use mathlib.Core.List.{List}
+use mathlib.Core.Bool.{true}
 use native.Mathlib.Decide.{ℕ-discrete}
 use native.Mathlib.Omega.{arith}
 use lib.ListN.{length}
 use Rattle.cursor.specs.Member.{In}
+use Rattle.model.specs.Memory.{Place, Home, setValue, soundState, Live, IsBucket, keyOf, valueOf}
+use Rattle.model.proofs.Fields.{length-setValue}
 use Rattle.model.specs.declared.State.{State}
 use Rattle.model.specs.declared.UpdateAnswer.{UpdateAnswer}
-use Rattle.model.specs.Memory.{Place, Live, IsBucket, keyOf, valueOf, setValue}
 use Rattle.model.specs.Calls.{After, keysHeld}
-use Rattle.refinement.proofs.Shape.{Shape, headAt}
-use Rattle.refinement.proofs.Reading.{linked-in-range}
-use Rattle.refinement.proofs.LookingUp.{facts}
-use Rattle.refinement.proofs.Cells.{value-set-same, value-set-other, key-set-value}
-use Rattle.refinement.proofs.Leaving.{HeldIn, Leaves}
-use Rattle.refinement.proofs.Updating.{updated-shape, updated-at}
+use Rattle.refinement.proofs.Shape.{headAt, Shape, facts}
+use Rattle.refinement.proofs.LinkedChains.{linked-kept, shape-range}
+use Rattle.refinement.proofs.Cells.{value-set-same, value-set-other, link-set-value, key-set-value}
+use Rattle.refinement.proofs.StoreAfter.{HeldIn, held-as, StoreAfter}
+
+module _ {s : State} {current other entries : List ℕ} (h : Shape s current other entries) (n value : ℕ) where
+  -- the shape after the value of an entry is changed
+  updated-shape : Shape s current other (setValue entries n value)
+  updated-shape =
+      record {
+        state-sound =
+            subst (λ (k : ℕ). soundState (length current) (length other) k s ≡ true)
+            (sym (length-setValue entries n value)) (h .state-sound);
+        at = h .at;
+        linked =
+            λ p l.
+            linked-kept entries (setValue entries n value) (s .capacity) (headAt s current other p) (h .at p)
+            (λ m i. link-set-value entries n m value) (h .linked p l);
+        owner = h .owner;
+        owned = h .owned;
+        owns = h .owns;
+        home =
+            λ m p l i.
+            subst (λ (key : ℕ). Home s key p) (sym (key-set-value entries n m value)) (h .home m p l i);
+        keys-distinct =
+            λ m k p q l j a b x y e.
+            h .keys-distinct m k p q l j a b x y
+            (sym (key-set-value entries n m value) ∙ e ∙ key-set-value entries n k value);
+        passed-empty = h .passed-empty;
+        old-count = h .old-count;
+        new-count = h .new-count;
+        free-count = h .free-count;
+      }
+
+  -- its chains and owners are those before
+  updated-at : (p : Place) → updated-shape .at p ≡ h .at p
+  unfolding updated-shape
+  updated-at p = refl
 
 -- which keys a bucket holds once a key's value is changed, by what it held
 abbrev pub Changed : ℕ → ℕ → (ℕ → ℕ → Type 0) → ℕ → ℕ → Type 0
@@ -28,7 +62,7 @@ module _ {s : State} {current other entries : List ℕ} (shape : Shape s current
   -- the entry is inside the buffer
   inside : (0 < n) × (n * 3 ≤ length entries)
   inside =
-      let (z, k) = linked-in-range entries (s .capacity) (headAt s current other p) n (shape .at p) (shape .linked p live) there in
+      let (z, k) = shape-range shape p live n there in
       let fit = facts shape .base .entries-fit in
       (z, omega arith)
 
@@ -37,10 +71,10 @@ module _ {s : State} {current other entries : List ℕ} (shape : Shape s current
   that-one t l b m i k = shape .keys-distinct m n t p l live b bucket i there (k ∙ sym its-key)
 
   -- the outcome of an update that found its key; the state stays
-  pub updated-leaves : (l : Leaves s (λ t. UpdateAnswer.Updated)
+  pub updated-store : (l : StoreAfter s (λ t. UpdateAnswer.Updated)
       (After.after UpdateAnswer.Updated current other (setValue entries n value)) (keysHeld s)
       (λ t k v. Changed key value (HeldIn entries (shape .at t)) k v)) × (l .state ≡ s)
-  updated-leaves = (
+  updated-store = (
     record {
       state = s;
       current = current;
@@ -48,19 +82,15 @@ module _ {s : State} {current other entries : List ℕ} (shape : Shape s current
       entries = setValue entries n value;
       is = refl;
       shape = updated-shape shape n value;
-      same-current = refl;
-      same-capacity = refl;
-      same-old-size = refl;
-      same-new-size = refl;
-      same-rehashing = refl;
+      same = record { current = refl; capacity = refl; old-size = refl; new-size = refl; rehashing = refl };
       keys-held = refl;
       held-only =
           λ t l b k v h.
-          only t l b k v (subst (λ (ns : List ℕ). HeldIn (setValue entries n value) ns k v) (updated-at shape n value t) h)
+          only t l b k v (held-as (updated-at shape n value t) h)
           (ℕ-discrete (h .entry) n);
       held-all =
           λ t l b k v h.
-          subst (λ (ns : List ℕ). HeldIn (setValue entries n value) ns k v) (sym (updated-at shape n value t))
+          held-as (sym (updated-at shape n value t))
           (all t l b k v h);
     },
     refl,

@@ -15,22 +15,23 @@ use Rattle.model.specs.Limits.{largestCapacity, legalSize}
 use Rattle.model.specs.Memory.{Place, Live, Home, IsBucket, keyOf, linkOf, soundState}
 use Rattle.model.specs.Calls.{cleared, freeLink, freeEntries, newState, withinLimits, longEnough}
 use Rattle.model.proofs.Soundness.{two-hold, three-hold}
-use Rattle.refinement.proofs.Shape.{Shape, Linked, headAt}
-use Rattle.refinement.proofs.MakingSound.{sound-test}
-use Rattle.refinement.proofs.Clearing.{length-cleared, cleared-empty, sum-none}
+use Rattle.refinement.proofs.Sums.{sum-zero}
+use Rattle.refinement.proofs.Shape.{headAt, Linked, Shape}
+use Rattle.refinement.proofs.States.{sound-test}
+use Rattle.refinement.proofs.ClearedBuckets.{length-cleared, cleared-empty}
 
 -- n, n + 1, .., so many of them
 unfoldable pub upFrom : ℕ → ℕ → List ℕ
 upFrom n zero = []
 upFrom n (suc count) = n ∷ upFrom (suc n) count
 
-pub length-upFrom : (n count : ℕ) → length (upFrom n count) ≡ count
+length-upFrom : (n count : ℕ) → length (upFrom n count) ≡ count
 unfolding upFrom
 length-upFrom n zero = refl
 length-upFrom n (suc count) = ap suc (length-upFrom (suc n) count)
 
 -- the numbers between are there
-pub in-upFrom : (n count x : ℕ) → n ≤ x → x < n + count → In x (upFrom n count)
+in-upFrom : (n count x : ℕ) → n ≤ x → x < n + count → In x (upFrom n count)
 unfolding upFrom
 in-upFrom n zero x h l = absurd (omega arith)
 in-upFrom n (suc count) x h l =
@@ -57,10 +58,10 @@ link-free n (suc count) (suc i) behind rest e =
     rw (place, ← next) (link-free (suc n) count i behind rest (omega arith))
 
 -- the first entry of a free list that has one
-first-free : (count : ℕ) → 1 ≤ count → freeLink 0 count ≡ 1
+head-free : (count : ℕ) → 1 ≤ count → freeLink 0 count ≡ 1
 unfolding freeLink
-first-free zero h = absurd (omega arith)
-first-free (suc count) h = refl
+head-free zero h = absurd (omega arith)
+head-free (suc count) h = refl
 
 -- a free list from its links
 linked-free : (entries : List ℕ) (capacity n count : ℕ) → n + count ≡ capacity
@@ -116,10 +117,10 @@ module _ (capacity size : ℕ) (first second entries : List ℕ) (limits : withi
       (leb-true size (length first) (each .0), leb-true (capacity * 3) (length entries) (each .1))
 
   -- start keeps the lengths of the buffers
-  pub started-buckets-length : length (cleared size first) ≡ length first
+  started-buckets-length : length (cleared size first) ≡ length first
   started-buckets-length = length-cleared size first (fits .0)
 
-  pub started-entries-length : length (startedEntries capacity entries) ≡ length entries
+  started-entries-length : length (startedEntries capacity entries) ≡ length entries
   started-entries-length =
       omega (
         arith,
@@ -130,7 +131,7 @@ module _ (capacity size : ℕ) (first second entries : List ℕ) (limits : withi
       )
 
   -- the link of an entry of a new store
-  pub started-link : (n : ℕ) → 0 < n → n ≤ capacity → linkOf (startedEntries capacity entries) n ≡ freeLink n (capacity - n)
+  started-link : (n : ℕ) → 0 < n → n ≤ capacity → linkOf (startedEntries capacity entries) n ≡ freeLink n (capacity - n)
   unfolding linkOf
   started-link zero z k = absurd (omega arith)
   started-link (suc n) z k =
@@ -163,7 +164,7 @@ module _ (capacity size : ℕ) (first second entries : List ℕ) (limits : withi
   unfolding newState Live headAt startedAt Linked
   started-linked Place.free l =
       subst (λ (k : ℕ). Linked (startedEntries capacity entries) capacity k (upFrom 1 capacity))
-      (first-free capacity (within .0))
+      (head-free capacity (within .0))
       (linked-free (startedEntries capacity entries) capacity 0 capacity (omega arith) started-link)
   started-linked (Place.old b) l = cleared-empty size b first l
   started-linked (Place.new b) l = absurd (omega arith)
@@ -185,8 +186,8 @@ module _ (capacity size : ℕ) (first second entries : List ℕ) (limits : withi
             (only-free capacity n p i) tt;
         keys-distinct = λ n m p q l k a b i j e. absurd (no-bucket capacity n p a i);
         passed-empty = λ b l. absurd (omega arith);
-        old-count = sym (sum-none size);
-        new-count = sym (sum-none 0);
+        old-count = sym (sum-zero (λ b. 0) size (λ b l. refl));
+        new-count = sym (sum-zero (λ b. 0) 0 (λ b l. refl));
         free-count = omega (arith, length-upFrom 1 capacity);
       }
 

@@ -1,0 +1,9 @@
+-- What the readers and the writers keep, and what each of their steps gives.
+mod Naming
+mod Reading
+mod Words
+mod Ends
+mod Digits
+mod Writing
+mod Answering
+mod Running

@@ -1,0 +1,718 @@
+//! The fixed scripts: paper 01's cases and the edges of the script's form.
+
+use crate::cursor;
+use crate::program::MAX_SCRIPT;
+
+pub struct Case {
+    pub name: String,
+    pub script: Vec<u8>,
+    /// The answer as it follows from the paper by hand, where it is short or
+    /// regular; the twin's own model has to agree with it as well.
+    pub answer: Option<Vec<u8>>,
+}
+
+pub fn all() -> Vec<Case> {
+    let mut cases = paper();
+    cases.extend(states());
+    cases.extend(bad_and_odd_lines());
+    cases.extend(whole_scripts());
+    cases.extend(large());
+    cases
+}
+
+/// A script given line by line, each line beside its answer.
+fn dialogue(name: &str, lines: &[(&str, &str)]) -> Case {
+    let join = |side: fn(&(&str, &str)) -> String| {
+        let text: String = lines.iter().map(|line| side(line) + "\n").collect();
+        text.into_bytes()
+    };
+    Case {
+        name: name.to_string(),
+        script: join(|line| line.0.to_string()),
+        answer: Some(join(|line| line.1.to_string())),
+    }
+}
+
+fn printed(name: &str, script: impl Into<Vec<u8>>, answer: impl Into<Vec<u8>>) -> Case {
+    Case {
+        name: name.to_string(),
+        script: script.into(),
+        answer: Some(answer.into()),
+    }
+}
+
+/// A script whose answer only the model gives.
+pub fn modelled(name: &str, script: impl Into<Vec<u8>>) -> Case {
+    Case {
+        name: name.to_string(),
+        script: script.into(),
+        answer: None,
+    }
+}
+
+/// The worked examples and the cases of paper 01, in its order.
+fn paper() -> Vec<Case> {
+    vec![
+        dialogue(
+            "the printed script",
+            &[
+                ("N 8 4", "0"),
+                ("A 1 10", "0"),
+                ("A 5 50", "0"),
+                ("A 9 90", "0"),
+                ("C 1", "0 3 3 9 90 5 50 1 10"),
+                ("R 8", "0"),
+                ("S", "0 3 1"),
+                ("C 1", "0 3 3 1 10 9 90 5 50"),
+                ("S", "0 0 0"),
+            ],
+        ),
+        dialogue(
+            "walk of size 4, and cursors above the size",
+            &[
+                ("N 4 4", "0"),
+                ("A 0 10", "0"),
+                ("A 1 11", "0"),
+                ("A 2 12", "0"),
+                ("A 3 13", "0"),
+                ("C 0", "0 2 1 0 10"),
+                ("C 2", "0 1 1 2 12"),
+                ("C 1", "0 3 1 1 11"),
+                ("C 3", "0 0 1 3 13"),
+                ("C 5", "0 3 1 1 11"),
+                ("C 4294967295", "0 0 1 3 13"),
+            ],
+        ),
+        dialogue(
+            "walk of size 8",
+            &[
+                ("N 8 8", "0"),
+                ("A 7 17", "0"),
+                ("A 6 16", "0"),
+                ("A 5 15", "0"),
+                ("A 4 14", "0"),
+                ("A 3 13", "0"),
+                ("A 2 12", "0"),
+                ("A 1 11", "0"),
+                ("A 0 10", "0"),
+                ("C 0", "0 4 1 0 10"),
+                ("C 4", "0 2 1 4 14"),
+                ("C 2", "0 6 1 2 12"),
+                ("C 6", "0 1 1 6 16"),
+                ("C 1", "0 5 1 1 11"),
+                ("C 5", "0 3 1 5 15"),
+                ("C 3", "0 7 1 3 13"),
+                ("C 7", "0 0 1 7 17"),
+            ],
+        ),
+        dialogue(
+            "size 1: any cursor answers 0",
+            &[
+                ("N 2 1", "0"),
+                ("A 7 70", "0"),
+                ("A 4294967295 4294967295", "0"),
+                ("C 0", "0 0 2 4294967295 4294967295 7 70"),
+                ("C 1", "0 0 2 4294967295 4294967295 7 70"),
+                ("C 2147483648", "0 0 2 4294967295 4294967295 7 70"),
+                ("C 4294967295", "0 0 2 4294967295 4294967295 7 70"),
+            ],
+        ),
+        dialogue(
+            "sizes 4 and 8, cursor 2, growing",
+            &[
+                ("N 8 4", "0"),
+                ("A 2 20", "0"),
+                ("A 3 30", "0"),
+                ("R 8", "0"),
+                ("A 6 60", "0"),
+                ("A 10 100", "0"),
+                ("A 4 40", "0"),
+                ("C 2", "0 1 3 2 20 10 100 6 60"),
+            ],
+        ),
+        dialogue(
+            "sizes 4 and 8, cursor 2, shrinking",
+            &[
+                ("N 8 8", "0"),
+                ("A 2 20", "0"),
+                ("A 6 60", "0"),
+                ("A 3 30", "0"),
+                ("R 4", "0"),
+                ("A 10 100", "0"),
+                ("C 2", "0 1 3 10 100 2 20 6 60"),
+            ],
+        ),
+        dialogue(
+            "sizes 4 and 16, cursors 0 and 8",
+            &[
+                ("N 16 4", "0"),
+                ("A 32 1", "0"),
+                ("A 33 2", "0"),
+                ("R 16", "0"),
+                ("A 0 3", "0"),
+                ("A 4 4", "0"),
+                ("A 8 5", "0"),
+                ("A 12 6", "0"),
+                ("A 1 7", "0"),
+                ("C 0", "0 2 5 32 1 0 3 8 5 4 4 12 6"),
+                ("C 8", "0 2 4 32 1 8 5 4 4 12 6"),
+            ],
+        ),
+        dialogue(
+            "8 shrunk to 4, cursor 7",
+            &[
+                ("N 8 8", "0"),
+                ("A 3 30", "0"),
+                ("A 7 70", "0"),
+                ("R 4", "0"),
+                ("S", "0 1 1"),
+                ("S", "0 1 1"),
+                ("S", "0 0 0"),
+                ("C 7", "0 0 2 7 70 3 30"),
+            ],
+        ),
+        dialogue(
+            "sizes at and beyond the limits",
+            &[
+                ("N 1 4096", "0"),
+                ("N 1 4095", "6"),
+                ("N 1 8192", "6"),
+                ("N 1 0", "6"),
+                ("N 1 3", "6"),
+                ("N 1 4097", "6"),
+                ("N 1 2147483648", "6"),
+                ("N 1 4294967295", "6"),
+                ("N 1 1", "0"),
+                ("R 4095", "6"),
+                ("R 8192", "6"),
+                ("R 0", "6"),
+                ("R 1", "6"),
+                ("R 4096", "0"),
+            ],
+        ),
+        dialogue(
+            "capacities at and beyond the limits",
+            &[
+                ("N 4096 1", "0"),
+                ("N 4097 1", "6"),
+                ("N 0 1", "6"),
+                ("N 4294967295 1", "6"),
+                ("N 3 1", "0"),
+                ("N 1 1", "0"),
+            ],
+        ),
+        dialogue(
+            "capacity 1: full, freed and added again",
+            &[
+                ("N 1 1", "0"),
+                ("A 1 10", "0"),
+                ("A 2 20", "5"),
+                ("A 1 11", "4"),
+                ("F 1", "0 10"),
+                ("D 1", "0"),
+                ("A 2 20", "0"),
+                ("F 2", "0 20"),
+                ("F 1", "3"),
+                ("A 1 10", "5"),
+                ("C 0", "0 0 1 2 20"),
+            ],
+        ),
+    ]
+}
+
+/// Calls in every state of the store: none, resting, moving, renewed.
+fn states() -> Vec<Case> {
+    vec![
+        dialogue(
+            "calls before a good N",
+            &[
+                ("A 1 10", "1"),
+                ("V 1 10", "1"),
+                ("D 1", "1"),
+                ("F 1", "1"),
+                ("R 8", "1"),
+                ("R 3", "1"),
+                ("S", "1"),
+                ("C 0", "1"),
+                ("x", "10"),
+                ("N 0 4", "6"),
+                ("N 4 3", "6"),
+                ("F 1", "1"),
+                ("N 4 4", "0"),
+                ("F 1", "3"),
+            ],
+        ),
+        dialogue(
+            "a refused N keeps the old store",
+            &[
+                ("N 4 4", "0"),
+                ("A 1 10", "0"),
+                ("N 0 4", "6"),
+                ("N 4097 4", "6"),
+                ("N 4 5", "6"),
+                ("F 1", "0 10"),
+                ("R 8", "0"),
+                ("A 5 50", "0"),
+                ("N 4 8192", "6"),
+                ("C 1", "0 3 2 1 10 5 50"),
+                ("S", "0 1 1"),
+                ("N 4 0", "6"),
+                ("S", "0 0 0"),
+                ("S", "8"),
+            ],
+        ),
+        dialogue(
+            "a second good N is a new store",
+            &[
+                ("N 1 4", "0"),
+                ("A 1 10", "0"),
+                ("R 8", "0"),
+                ("N 2 2", "0"),
+                ("S", "8"),
+                ("F 1", "3"),
+                ("C 3", "0 0 0"),
+                ("A 3 30", "0"),
+                ("A 1 11", "0"),
+                ("A 5 50", "5"),
+                ("C 1", "0 0 2 1 11 3 30"),
+                ("R 2", "6"),
+                ("R 4", "0"),
+                ("S", "0 2 1"),
+                ("N 2 2", "0"),
+                ("C 1", "0 0 0"),
+                ("A 1 12", "0"),
+                ("C 0", "0 1 0"),
+            ],
+        ),
+        dialogue(
+            "an empty store answers cursor 0, moving or not",
+            &[
+                ("N 4 4", "0"),
+                ("C 1", "0 0 0"),
+                ("R 16", "0"),
+                ("C 7", "0 0 0"),
+                ("S", "0 0 0"),
+                ("A 1 1", "0"),
+                ("C 0", "0 8 0"),
+                ("D 1", "0"),
+                ("C 8", "0 0 0"),
+            ],
+        ),
+        dialogue(
+            "resize and step out of turn",
+            &[
+                ("N 4 4", "0"),
+                ("S", "8"),
+                ("R 4", "6"),
+                ("R 2", "0"),
+                ("R 2", "7"),
+                ("R 4", "7"),
+                ("R 3", "7"),
+                ("S", "0 0 0"),
+                ("S", "8"),
+                ("R 2", "6"),
+                ("R 4", "0"),
+            ],
+        ),
+        dialogue(
+            "adds during a move lie in the new table",
+            &[
+                ("N 8 4", "0"),
+                ("A 0 1", "0"),
+                ("A 3 2", "0"),
+                ("R 8", "0"),
+                ("S", "0 1 1"),
+                ("A 4 3", "0"),
+                ("A 8 4", "0"),
+                ("A 3 5", "4"),
+                ("A 0 5", "4"),
+                ("C 0", "0 2 3 8 4 0 1 4 3"),
+                ("S", "0 1 1"),
+                ("S", "0 0 0"),
+                ("C 0", "0 4 2 8 4 0 1"),
+                ("F 4", "0 3"),
+            ],
+        ),
+        dialogue(
+            "change, find and delete reach both tables",
+            &[
+                ("N 8 2", "0"),
+                ("A 1 10", "0"),
+                ("A 2 20", "0"),
+                ("R 4", "0"),
+                ("A 3 30", "0"),
+                ("V 1 11", "0"),
+                ("V 3 33", "0"),
+                ("V 5 55", "3"),
+                ("F 1", "0 11"),
+                ("F 3", "0 33"),
+                ("F 5", "3"),
+                ("D 1", "0"),
+                ("D 1", "3"),
+                ("D 3", "0"),
+                ("S", "0 1 1"),
+                ("S", "0 0 0"),
+                ("C 2", "0 1 1 2 20"),
+            ],
+        ),
+        dialogue(
+            "a move ends once its old keys are deleted",
+            &[
+                ("N 4 4", "0"),
+                ("A 1 10", "0"),
+                ("A 2 20", "0"),
+                ("R 1", "0"),
+                ("A 3 30", "0"),
+                ("D 2", "0"),
+                ("D 1", "0"),
+                ("S", "0 0 0"),
+                ("C 9", "0 0 1 3 30"),
+            ],
+        ),
+        dialogue(
+            "a chain is taken from its head, middle and end",
+            &[
+                ("N 5 1", "0"),
+                ("A 1 1", "0"),
+                ("A 2 2", "0"),
+                ("A 3 3", "0"),
+                ("A 4 4", "0"),
+                ("A 5 5", "0"),
+                ("D 3", "0"),
+                ("C 0", "0 0 4 5 5 4 4 2 2 1 1"),
+                ("D 5", "0"),
+                ("C 0", "0 0 3 4 4 2 2 1 1"),
+                ("D 1", "0"),
+                ("C 0", "0 0 2 4 4 2 2"),
+                ("A 3 6", "0"),
+                ("A 1 7", "0"),
+                ("A 5 8", "0"),
+                ("A 6 9", "5"),
+                ("C 0", "0 0 5 5 8 1 7 3 6 4 4 2 2"),
+            ],
+        ),
+        dialogue(
+            "full counts the keys of both tables",
+            &[
+                ("N 2 1", "0"),
+                ("A 1 1", "0"),
+                ("R 2", "0"),
+                ("A 2 2", "0"),
+                ("A 3 3", "5"),
+                ("A 1 3", "4"),
+                ("A 2 3", "4"),
+                ("S", "0 1 1"),
+                ("A 3 3", "5"),
+                ("S", "0 0 0"),
+                ("A 3 3", "5"),
+            ],
+        ),
+        dialogue(
+            "chains turn round with each move",
+            &[
+                ("N 4 1", "0"),
+                ("A 0 0", "0"),
+                ("A 4 1", "0"),
+                ("A 8 2", "0"),
+                ("A 2 3", "0"),
+                ("R 4", "0"),
+                ("S", "0 4 1"),
+                ("S", "0 0 0"),
+                ("C 0", "0 2 3 0 0 4 1 8 2"),
+                ("R 2", "0"),
+                ("S", "0 3 1"),
+                ("S", "0 1 1"),
+                ("S", "0 0 0"),
+                ("C 0", "0 1 4 2 3 8 2 4 1 0 0"),
+            ],
+        ),
+    ]
+}
+
+/// Single lines between good ones. None of them changes the store.
+fn bad_and_odd_lines() -> Vec<Case> {
+    let good: &[(&[u8], &str)] = &[
+        (b"F 1", "0 10"),
+        (b"F 01", "0 10"),
+        (b"F 0000000001", "0 10"),
+        (b"F 0", "3"),
+        (b"F 0000000000", "3"),
+        (b"F 1000000000", "3"),
+        (b"F 4294967295", "3"),
+        (b"A 0000000001 5", "4"),
+        (b"N 4294967295 4", "6"),
+        (b"R 4294967295", "6"),
+        (b"R 0000000004", "6"),
+        (b"S", "8"),
+        (b"C 4294967295", "0 0 0"),
+        (b"C 0000000001", "0 3 1 1 10"),
+    ];
+    let bad: &[&[u8]] = &[
+        // Spaces.
+        b" ",
+        b"  ",
+        b" F 1",
+        b"F 1 ",
+        b"F  1",
+        b"F ",
+        b"S ",
+        b" S",
+        b"A 2  20",
+        b"A  2 20",
+        b"A 2 20 ",
+        // Other white space, and line ends that are none here.
+        b"F\t1",
+        b"\tF 1",
+        b"F 1\t",
+        b"\t",
+        b"F 1\r",
+        b"S\r",
+        b"\r",
+        b"F 1\rF 1",
+        b"F\x0b1",
+        b"F 1\x0b",
+        b"F 1\x0c",
+        b"F\xc2\xa01",
+        b"F 1\xc2\xa0",
+        b"F 1\xc2\x85",
+        b"F 1\xe2\x80\xa8F 1",
+        // Letters.
+        b"F1",
+        b"FF 1",
+        b"X",
+        b"X 1",
+        b"1",
+        b"1 1",
+        b"f 1",
+        b"n 4 4",
+        b"a 2 20",
+        b"v 1 11",
+        b"d 1",
+        b"r 8",
+        b"s",
+        b"c 0",
+        b"SS",
+        b"S S",
+        b"# 1",
+        // Too few numbers, or too many.
+        b"N",
+        b"N 4",
+        b"N 4 4 4",
+        b"A",
+        b"A 2",
+        b"A 2 20 2",
+        b"V",
+        b"V 1",
+        b"V 1 1 1",
+        b"D",
+        b"D 1 1",
+        b"F",
+        b"F 1 1",
+        b"R",
+        b"R 8 8",
+        b"S 1",
+        b"C",
+        b"C 0 0",
+        // Numbers that are none, or too long, or too large. Some would be 1
+        // if they wrapped at 32 or 64 bits.
+        b"F 00000000001",
+        b"F 00000000000",
+        b"F 4294967296",
+        b"F 4294967297",
+        b"F 9999999999",
+        b"F 10000000000",
+        b"F 99999999999",
+        b"F 18446744073709551617",
+        b"A 4294967296 1",
+        b"A 2 4294967296",
+        b"V 1 4294967296",
+        b"D 4294967297",
+        b"N 4294967297 4",
+        b"N 4 4294967300",
+        b"R 4294967304",
+        b"C 4294967296",
+        b"F -1",
+        b"F +1",
+        b"F 0x1",
+        b"F 1.0",
+        b"F 1,0",
+        b"F 1_0",
+        b"F 1e0",
+        b"F a",
+        b"F /",
+        b"F :",
+        // Bytes that no text of this kind has.
+        b"\x00",
+        b"F 1\x00",
+        b"F\x001",
+        b"F \x001",
+        b"\x00F 1",
+        b"F 1\x1a",
+        b"F 1\x7f",
+        b"\x80",
+        b"\xff",
+        b"F \xff",
+        b"F 1\xff",
+        b"F \xb1",
+        b"\xc6 1",
+        b"\xd3",
+        b"F\xa01",
+        b"\xef\xbb\xbfF 1",
+        b"F \xd9\xa1",
+        b"F \xef\xbc\x91",
+    ];
+    let all = good
+        .iter()
+        .copied()
+        .chain(bad.iter().map(|&line| (line, "10")));
+    all.map(|(line, answer)| {
+        // Once in the middle, and once more at the end without a line feed.
+        let script = [b"N 4 4\nA 1 10\n", line, b"\nF 1\n", line].concat();
+        let answer = format!("0\n0\n{answer}\n0 10\n{answer}\n");
+        let name = format!("the line \"{}\"", line.escape_ascii());
+        printed(&name, script, answer)
+    })
+    .collect()
+}
+
+/// Scripts with something special about their bytes as a whole.
+fn whole_scripts() -> Vec<Case> {
+    let bytes = || (0..=u8::MAX).filter(|&byte| byte != b'\n');
+    let lone_bytes: Vec<u8> = bytes().flat_map(|byte| [byte, b'\n']).collect();
+    let lone_answer: String = bytes()
+        .map(|byte| if byte == b'S' { "1\n" } else { "10\n" })
+        .collect();
+    let with_byte = |before: &[u8], after: &[u8]| {
+        let mut script = b"N 4 4\nA 1 10\nR 8\n".to_vec();
+        for byte in bytes() {
+            script.extend([before, &[byte], after, b"\n"].concat());
+        }
+        script
+    };
+    vec![
+        printed("an empty script", "", ""),
+        printed("one line feed", "\n", "10\n"),
+        printed("line feeds only", "\n\n\n", "10\n10\n10\n"),
+        printed(
+            "a last line without its line feed",
+            "N 4 4\nC 0",
+            "0\n0 0 0\n",
+        ),
+        printed("one letter without a line feed", "S", "1\n"),
+        printed("an empty line at the end", "S\n\n", "1\n10\n"),
+        printed("an empty line at the beginning", "\nS\n", "10\n1\n"),
+        printed("empty lines between", "N 4 4\n\n\nS\n", "0\n10\n10\n8\n"),
+        printed("carriage returns", "N 4 4\r\nS\r\nS\n", "10\n10\n1\n"),
+        printed("every byte alone on a line", lone_bytes, lone_answer),
+        modelled("every byte as a letter", with_byte(b"", b" 1")),
+        modelled("every byte as a number", with_byte(b"F ", b"")),
+        modelled("every byte as a space", with_byte(b"F", b"1")),
+        modelled("every byte behind a number", with_byte(b"F 1", b"")),
+        modelled("every byte before a letter", with_byte(b"", b"F 1")),
+    ]
+}
+
+/// Scripts at and beyond the longest length, and those with large outputs.
+fn large() -> Vec<Case> {
+    let steps = "S\n".repeat(MAX_SCRIPT / 2);
+    let feeds = "\n".repeat(MAX_SCRIPT);
+    let digits = "1".repeat(MAX_SCRIPT - 2);
+    let one_line = format!("F {digits}");
+    vec![
+        printed(
+            "65,536 bytes of steps",
+            steps.clone(),
+            "1\n".repeat(MAX_SCRIPT / 2),
+        ),
+        printed(
+            "65,537 bytes: steps and one byte",
+            steps.clone() + "S",
+            "10\n",
+        ),
+        printed(
+            "65,537 bytes: steps and a line feed",
+            steps.clone() + "\n",
+            "10\n",
+        ),
+        printed(
+            "65,536 line feeds",
+            feeds.clone(),
+            "10\n".repeat(MAX_SCRIPT),
+        ),
+        printed("65,537 line feeds", feeds + "\n", "10\n"),
+        printed("65,536 bytes in one line", one_line.clone(), "10\n"),
+        printed("65,537 bytes in one line", one_line + "\n", "10\n"),
+        printed("twice the longest script", steps.repeat(2), "10\n"),
+        printed("a script of a million bytes", "S\n".repeat(500_000), "10\n"),
+        filled_to_the_last_entry(),
+        walk_of_the_largest_table(),
+        modelled("4,096 keys of one bucket moved to 4,096", {
+            let tail = "R 4096\nC 0\nS\nC 0\nC 1\nC 4095\nS\nC 0\nR 1\nS\nC 0\nS\nC 0\n";
+            fill("N 4096 1\n", 4096) + tail
+        }),
+        modelled("4,096 buckets moved into one, step by step", {
+            let step = "S\nC 0\n".repeat(40) + &"S\n".repeat(2000);
+            fill("N 4096 4096\n", 2000) + "R 1\n" + &step
+        }),
+        modelled("4,096 keys handed out as often as fits", {
+            let mut script = fill("N 4096 1\n", 4096);
+            let rest = MAX_SCRIPT - script.len();
+            script += &"C 0\n".repeat(rest / 4 - 1);
+            script + "C 0" + &"0".repeat(rest % 4) + "\n"
+        }),
+    ]
+}
+
+/// Adds the keys from 0 on, each with a value of one digit.
+fn fill(start: &str, keys: u32) -> String {
+    let adds = (0..keys).map(|key| format!("A {key} {}\n", key % 10));
+    start.to_string() + &adds.collect::<String>()
+}
+
+fn filled_to_the_last_entry() -> Case {
+    let script = fill("N 4096 4096\n", 4096)
+        + "A 4096 1\nA 4095 1\nD 17\nA 4096 1\nA 17 1\nF 4096\nF 17\nC 0\n";
+    let answer = "0\n".repeat(4097) + "5\n4\n0\n0\n5\n0 1\n3\n0 2048 2 4096 1 0 0\n";
+    printed("4,096 keys and one more", script, answer)
+}
+
+fn walk_of_the_largest_table() -> Case {
+    let mut script = fill("N 4096 4096\n", 1000);
+    let mut answer = "0\n".repeat(1001);
+    let mut cursor = 0;
+    loop {
+        let next = cursor::next(cursor, 4096);
+        script += &format!("C {cursor}\n");
+        answer += &if cursor < 1000 {
+            format!("0 {next} 1 {cursor} {}\n", cursor % 10)
+        } else {
+            format!("0 {next} 0\n")
+        };
+        cursor = next;
+        if cursor == 0 {
+            return printed("a whole walk of size 4,096", script, answer);
+        }
+    }
+}
+
+#[cfg(test)]
+mod tests {
+    use super::*;
+
+    #[test]
+    fn the_largest_output_comes_from_the_longest_script() {
+        let cases = all();
+        let last = cases.last().unwrap();
+        assert_eq!(last.script.len(), MAX_SCRIPT);
+        assert!(last.script.ends_with(b"\n"));
+    }
+
+    #[test]
+    fn names_are_unlike() {
+        let mut names: Vec<String> = all().into_iter().map(|case| case.name).collect();
+        let count = names.len();
+        names.sort();
+        names.dedup();
+        assert_eq!(names.len(), count);
+    }
+}

@@ -1,0 +1,420 @@
+//! Random scripts. The same seed always gives the same script.
+//!
+//! The generator runs the model beside the script that it writes, because a
+//! walk has to be handed the cursors that its calls are answered.
+
+use crate::program::{Command, Program, MAX_SCRIPT};
+use crate::store::{Aim, MAX_SIZE};
+
+/// The splitmix64 generator: small, quick, and good enough for scripts.
+pub struct Random(u64);
+
+impl Random {
+    pub fn new(seed: u64) -> Self {
+        Random(seed)
+    }
+
+    pub fn next(&mut self) -> u64 {
+        self.0 = self.0.wrapping_add(0x9e37_79b9_7f4a_7c15);
+        let mut mixed = self.0;
+        mixed = (mixed ^ (mixed >> 30)).wrapping_mul(0xbf58_476d_1ce4_e5b9);
+        mixed = (mixed ^ (mixed >> 27)).wrapping_mul(0x94d0_49bb_1331_11eb);
+        mixed ^ (mixed >> 31)
+    }
+
+    fn any(&mut self) -> u32 {
+        (self.next() >> 32) as u32
+    }
+
+    /// A number below `limit`.
+    fn below(&mut self, limit: u32) -> u32 {
+        self.any() % limit
+    }
+
+    fn one_in(&mut self, times: u32) -> bool {
+        self.below(times) == 0
+    }
+
+    fn index(&mut self, length: usize) -> usize {
+        self.below(length as u32) as usize
+    }
+
+    fn pick<T: Copy>(&mut self, choices: &[T]) -> T {
+        choices[self.index(choices.len())]
+    }
+}
+
+/// The seed of one script of a run, so that scripts do not hang together.
+pub fn script_seed(seed: u64, number: u64) -> u64 {
+    Random::new(seed).next() ^ Random::new(!number).next()
+}
+
+#[derive(Clone, Copy)]
+enum Action {
+    Start,
+    Add,
+    Update,
+    Delete,
+    Find,
+    Resize,
+    Step,
+    /// The next call of a walk from 0.
+    Walk,
+    /// A cursor that came from no walk.
+    Forge,
+    Wrong,
+}
+
+const ACTIONS: [Action; 10] = {
+    use Action::*;
+    [
+        Start, Add, Update, Delete, Find, Resize, Step, Walk, Forge, Wrong,
+    ]
+};
+
+/// How often each action comes up in a stretch of a script, in their order.
+type Mood = [u32; 10];
+
+const MOODS: [Mood; 5] = [
+    // Fill.
+    [1, 200, 6, 6, 6, 6, 12, 12, 2, 6],
+    // Drain.
+    [1, 12, 6, 160, 6, 6, 12, 12, 2, 6],
+    // Walk through resizes.
+    [1, 20, 4, 16, 2, 30, 50, 120, 6, 4],
+    // Look things up.
+    [1, 20, 60, 20, 60, 10, 20, 10, 20, 6],
+    // Anything, wrong lines above all.
+    [8, 20, 10, 10, 10, 20, 20, 20, 20, 60],
+];
+
+/// The keys of a script: few, and often of the same buckets.
+struct Keys {
+    base: u32,
+    stride: u32,
+    count: u32,
+}
+
+impl Keys {
+    fn choose(random: &mut Random) -> Self {
+        let any = random.any();
+        Keys {
+            base: random.pick(&[0, 0, 1, 65_536, u32::MAX - 40, any]),
+            stride: random.pick(&[1, 1, 1, 2, 4, 8, 16, 64, 4096, 65_536, 65_537, any | 1]),
+            count: random.pick(&[3, 6, 12, 24, 24, 60, 200]),
+        }
+    }
+
+    fn key(&self, random: &mut Random) -> u32 {
+        let place = random.below(self.count);
+        self.base.wrapping_add(self.stride.wrapping_mul(place))
+    }
+}
+
+struct Generator {
+    random: Random,
+    keys: Keys,
+    program: Program,
+    script: Vec<u8>,
+    /// The cursors that the walks under way are to be given next.
+    walks: Vec<u32>,
+}
+
+/// Writes one script of at most the longest length.
+pub fn script(seed: u64) -> Vec<u8> {
+    let mut random = Random::new(seed);
+    let keys = Keys::choose(&mut random);
+    let mut generator = Generator {
+        random,
+        keys,
+        program: Program::default(),
+        script: Vec::new(),
+        walks: Vec::new(),
+    };
+    generator.write();
+    generator.script
+}
+
+impl Generator {
+    fn write(&mut self) {
+        // Now and then a long script, without restarts so that it can fill up.
+        let long = self.random.one_in(60);
+        let mut lines = 20 + self.random.below(200);
+        if long {
+            lines = 5000;
+            self.keys.count = 5000;
+            self.push(b"N 4096 64");
+        } else if !self.random.one_in(10) {
+            self.act(Action::Start);
+        }
+        while lines > 0 {
+            let mood = self.random.pick(&MOODS);
+            let stretch = lines.min(10 + self.random.below(2 + lines / 3));
+            for _ in 0..stretch {
+                match self.choose(&mood) {
+                    Action::Start if long => {}
+                    action => self.act(action),
+                }
+            }
+            lines -= stretch;
+        }
+        self.finish_walks();
+        if self.random.one_in(4) {
+            self.script.pop();
+        }
+    }
+
+    fn choose(&mut self, mood: &Mood) -> Action {
+        let mut ticket = self.random.below(mood.iter().sum());
+        for (action, &weight) in ACTIONS.into_iter().zip(mood) {
+            if ticket < weight {
+                return action;
+            }
+            ticket -= weight;
+        }
+        unreachable!("the ticket is below the sum of the weights")
+    }
+
+    fn act(&mut self, action: Action) {
+        if let Action::Walk = action {
+            return self.walk();
+        }
+        let line = self.line(action);
+        self.push(&line);
+    }
+
+    /// Appends a line, if it still fits, and runs it on the model.
+    fn push(&mut self, line: &[u8]) -> Option<Vec<u32>> {
+        if self.script.len() + line.len() + 1 > MAX_SCRIPT {
+            return None;
+        }
+        self.script.extend(line);
+        self.script.push(b'\n');
+        let command = Command::parse(line)?;
+        self.program.run(command).ok()
+    }
+
+    /// Calls a walk under way with its next cursor, or begins a new one.
+    fn walk(&mut self) {
+        if self.walks.is_empty() || (self.walks.len() < 4 && self.random.one_in(6)) {
+            self.walks.push(0);
+        }
+        let index = self.random.index(self.walks.len());
+        let line = format!("C {}", self.number(self.walks[index]));
+        // A refused call leaves the walk at the cursor that it gave.
+        if let Some(results) = self.push(line.as_bytes()) {
+            self.walks[index] = results[0];
+            if results[0] == 0 {
+                self.walks.swap_remove(index);
+            }
+        }
+    }
+
+    /// Most walks should reach their end, or their promise is never tested.
+    fn finish_walks(&mut self) {
+        for _ in 0..200 {
+            if self.walks.is_empty() {
+                return;
+            }
+            if self.random.one_in(4) {
+                let action = self
+                    .random
+                    .pick(&[Action::Step, Action::Step, Action::Resize]);
+                self.act(action);
+            }
+            self.walk();
+        }
+    }
+
+    /// A line of its own for an action; a walk's line comes from its cursor.
+    fn line(&mut self, action: Action) -> Vec<u8> {
+        let (letter, numbers) = match action {
+            Action::Start => ("N", vec![self.capacity(), self.start_size()]),
+            Action::Add => ("A", vec![self.key(), self.value()]),
+            Action::Update => ("V", vec![self.key(), self.value()]),
+            Action::Delete => ("D", vec![self.key()]),
+            Action::Find => ("F", vec![self.key()]),
+            Action::Resize => ("R", vec![self.new_size()]),
+            Action::Step => ("S", vec![]),
+            Action::Walk | Action::Forge => ("C", vec![self.forged_cursor()]),
+            Action::Wrong => return self.wrong_line(),
+        };
+        let mut line = letter.to_string();
+        for number in numbers {
+            line.push(' ');
+            line += &self.number(number);
+        }
+        line.into_bytes()
+    }
+
+    /// A number's digits, at times with legal zeros in front.
+    fn number(&mut self, number: u32) -> String {
+        let width = if self.random.one_in(40) {
+            self.random.index(11)
+        } else {
+            0
+        };
+        format!("{number:0width$}")
+    }
+
+    fn key(&mut self) -> u32 {
+        if self.random.one_in(50) {
+            return self.random.any();
+        }
+        self.keys.key(&mut self.random)
+    }
+
+    fn value(&mut self) -> u32 {
+        let any = self.random.any();
+        self.random.pick(&[any % 10, any % 1000, any, u32::MAX])
+    }
+
+    fn capacity(&mut self) -> u32 {
+        let near = 1 + self.random.below(self.keys.count);
+        if self.random.one_in(12) {
+            return self.random.pick(&[0, 4097, 5000, u32::MAX]);
+        }
+        self.random
+            .pick(&[1, 2, 5, near, near, near, 4095, 4096, 4096])
+    }
+
+    fn start_size(&mut self) -> u32 {
+        if self.random.one_in(12) {
+            return self.illegal_size();
+        }
+        self.legal_size()
+    }
+
+    fn legal_size(&mut self) -> u32 {
+        // Small tables mostly: a walk of a large one fills a whole script.
+        let exponents = if self.random.one_in(12) { 13 } else { 6 };
+        1 << self.random.below(exponents)
+    }
+
+    fn illegal_size(&mut self) -> u32 {
+        let any = self.random.any();
+        self.random
+            .pick(&[0, 3, 5, 6, 12, 4095, 4097, 8192, 1 << 31, u32::MAX, any])
+    }
+
+    /// A size for a resize, by the size and the keys of the present store.
+    fn new_size(&mut self) -> u32 {
+        let legal = self.legal_size();
+        let illegal = self.illegal_size();
+        let Some(store) = self.program.store() else {
+            return legal;
+        };
+        let size = store.size();
+        let doubled = (2 * size).min(MAX_SIZE);
+        let choices = [
+            legal,
+            legal,
+            doubled,
+            doubled,
+            (4 * size).min(MAX_SIZE),
+            (size / 2).max(1),
+            (size / 2).max(1),
+            (size / 4).max(1),
+            store.suggested_size(Aim::Grow),
+            store.suggested_size(Aim::Shrink),
+            size,
+            illegal,
+        ];
+        self.random.pick(&choices)
+    }
+
+    fn forged_cursor(&mut self) -> u32 {
+        let any = self.random.any();
+        self.random.pick(&[
+            any % 8,
+            any % 64,
+            any % 4096,
+            any,
+            1 << (any % 32),
+            u32::MAX,
+        ])
+    }
+
+    /// A good line with something done to it. At times it is still a good one.
+    fn wrong_line(&mut self) -> Vec<u8> {
+        use Action::*;
+        let action = self
+            .random
+            .pick(&[Start, Add, Update, Delete, Find, Resize, Step, Forge]);
+        let mut line = self.line(action);
+        let place = self.random.index(line.len());
+        let stray = match self.random.any() as u8 {
+            // A line feed would make two lines of it.
+            b'\n' => b'\r',
+            byte => byte,
+        };
+        match self.random.below(14) {
+            0 => line.clear(),
+            1 => line.insert(0, b' '),
+            2 => line.push(b' '),
+            3 => line.push(b'\r'),
+            4 => line.insert(place, b' '),
+            5 => line.insert(place, stray),
+            6 => line[place] = stray,
+            7 => line.truncate(place),
+            8 => line.make_ascii_lowercase(),
+            9 => line.extend(b" 1"),
+            10 => {
+                // A last number that is too large by a bit or by a lot.
+                let last = line.iter().rposition(|&byte| byte == b' ');
+                line.truncate(last.unwrap_or(line.len()));
+                let excess = self.random.pick(&[0, 1, 4, u32::MAX]);
+                line.extend(format!(" {}", (1 << 32) + u64::from(excess)).bytes());
+            }
+            11 => line.extend(b"00000000000"),
+            12 => line[place] = b'\t',
+            _ => drop(line.remove(place)),
+        }
+        line
+    }
+}
+
+#[cfg(test)]
+mod tests {
+    use super::*;
+    use crate::program::replies;
+    use crate::walk::Witness;
+    use std::collections::BTreeMap;
+
+    #[test]
+    fn scripts_are_repeatable_and_unlike() {
+        assert_eq!(script(script_seed(1, 2)), script(script_seed(1, 2)));
+        assert_ne!(script(script_seed(1, 2)), script(script_seed(1, 3)));
+        assert_ne!(script(script_seed(1, 2)), script(script_seed(2, 2)));
+        assert_ne!(script(script_seed(1, 2)), script(script_seed(2, 1)));
+    }
+
+    /// Lazy scripts would agree with any program: every answer that a script
+    /// can bring about has to come up often, and so do walks through resizes.
+    #[test]
+    fn scripts_reach_every_answer() {
+        let mut answers: BTreeMap<u32, usize> = BTreeMap::new();
+        let mut ended = 0;
+        let mut resized = 0;
+        let mut longest = 0;
+        for number in 0..300 {
+            let script = script(script_seed(1, number));
+            longest = longest.max(script.len());
+            let mut witness = Witness::default();
+            for exchange in replies(&script) {
+                witness.observe(&exchange).unwrap();
+                let answer = exchange.reply.map_or_else(|refusal| refusal as u32, |_| 0);
+                *answers.entry(answer).or_default() += 1;
+            }
+            ended += witness.tally().ended;
+            resized += witness.tally().resized;
+        }
+        assert_eq!(
+            answers.keys().copied().collect::<Vec<_>>(),
+            [0, 1, 3, 4, 5, 6, 7, 8, 10]
+        );
+        assert!(answers.values().all(|&count| count > 200), "{answers:?}");
+        assert!(ended > 1000 && resized > 300, "{ended}, {resized}");
+        assert!(longest <= MAX_SCRIPT && longest > 20_000, "{longest}");
+    }
+}

@@ -1,0 +1,448 @@
+//! The store of paper 01, kept in ordinary Rust collections.
+//!
+//! Lent buffers, links and the free chain are left out on purpose: nothing of
+//! them shows in what the program writes. What does show is kept exactly: the
+//! order of every chain, the counts, the refusals and their order.
+
+use crate::cursor;
+use std::collections::VecDeque;
+
+pub const MAX_CAPACITY: u32 = 4096;
+pub const MAX_SIZE: u32 = 4096;
+
+/// The refusals that a script can bring about. The paper's 2 (damaged) and
+/// 9 (short) need memory that the program never lends.
+#[derive(Clone, Copy, Debug, PartialEq, Eq)]
+pub enum Refusal {
+    BadState = 1,
+    Absent = 3,
+    Present = 4,
+    Full = 5,
+    BadSize = 6,
+    Moving = 7,
+    NotMoving = 8,
+    BadLine = 10,
+}
+
+#[derive(Clone, Copy, Debug, PartialEq, Eq)]
+pub struct Entry {
+    pub key: u32,
+    pub value: u32,
+}
+
+pub fn is_legal_capacity(capacity: u32) -> bool {
+    (1..=MAX_CAPACITY).contains(&capacity)
+}
+
+pub fn is_legal_size(size: u32) -> bool {
+    size.is_power_of_two() && size <= MAX_SIZE
+}
+
+/// One hash table. The front of a bucket's queue is the head of its chain.
+struct Table {
+    buckets: Vec<VecDeque<Entry>>,
+    held: usize,
+}
+
+impl Table {
+    fn new(size: u32) -> Self {
+        Table {
+            buckets: (0..size).map(|_| VecDeque::new()).collect(),
+            held: 0,
+        }
+    }
+
+    fn size(&self) -> u32 {
+        self.buckets.len() as u32
+    }
+
+    /// The bucket of a key, and of a cursor too: the hash of a key is the key.
+    fn index(&self, hash: u32) -> usize {
+        (hash % self.size()) as usize
+    }
+
+    fn chain(&self, hash: u32) -> &VecDeque<Entry> {
+        &self.buckets[self.index(hash)]
+    }
+
+    fn insert(&mut self, entry: Entry) {
+        let index = self.index(entry.key);
+        self.buckets[index].push_front(entry);
+        self.held += 1;
+    }
+
+    fn find(&self, key: u32) -> Option<&Entry> {
+        self.chain(key).iter().find(|entry| entry.key == key)
+    }
+
+    fn find_mut(&mut self, key: u32) -> Option<&mut Entry> {
+        let index = self.index(key);
+        self.buckets[index]
+            .iter_mut()
+            .find(|entry| entry.key == key)
+    }
+
+    fn remove(&mut self, key: u32) -> Option<Entry> {
+        let index = self.index(key);
+        let chain = &mut self.buckets[index];
+        let place = chain.iter().position(|entry| entry.key == key)?;
+        self.held -= 1;
+        chain.remove(place)
+    }
+
+    /// The first bucket with keys, from bucket `start` on.
+    fn first_filled(&self, start: usize) -> Option<usize> {
+        (start..self.buckets.len()).find(|&index| !self.buckets[index].is_empty())
+    }
+
+    fn take_chain(&mut self, index: usize) -> VecDeque<Entry> {
+        let chain = std::mem::take(&mut self.buckets[index]);
+        self.held -= chain.len();
+        chain
+    }
+}
+
+/// A move under way: the table that is filled, and the old table's next bucket.
+struct Rehash {
+    target: Table,
+    next: usize,
+}
+
+#[derive(Debug, PartialEq, Eq)]
+pub struct Step {
+    pub moved: usize,
+    pub moving: bool,
+}
+
+#[derive(Debug, PartialEq, Eq)]
+pub struct Scan {
+    pub next: u32,
+    pub entries: Vec<Entry>,
+}
+
+/// What a suggested size is for.
+#[derive(Clone, Copy, Debug)]
+pub enum Aim {
+    Grow,
+    Shrink,
+}
+
+pub struct Store {
+    capacity: u32,
+    /// The only table, or during a move the old one.
+    table: Table,
+    rehash: Option<Rehash>,
+}
+
+impl Store {
+    pub fn start(capacity: u32, size: u32) -> Result<Self, Refusal> {
+        if !is_legal_capacity(capacity) || !is_legal_size(size) {
+            return Err(Refusal::BadSize);
+        }
+        Ok(Store {
+            capacity,
+            table: Table::new(size),
+            rehash: None,
+        })
+    }
+
+    /// The number of keys held in both tables together.
+    pub fn held(&self) -> usize {
+        self.table.held + self.rehash.as_ref().map_or(0, |rehash| rehash.target.held)
+    }
+
+    /// The size of the only table, or during a move of the old one.
+    pub fn size(&self) -> u32 {
+        self.table.size()
+    }
+
+    pub fn find(&self, key: u32) -> Result<u32, Refusal> {
+        self.table
+            .find(key)
+            .or_else(|| self.rehash.as_ref()?.target.find(key))
+            .map(|entry| entry.value)
+            .ok_or(Refusal::Absent)
+    }
+
+    pub fn update(&mut self, key: u32, value: u32) -> Result<(), Refusal> {
+        let entry = self
+            .table
+            .find_mut(key)
+            .or_else(|| self.rehash.as_mut()?.target.find_mut(key))
+            .ok_or(Refusal::Absent)?;
+        entry.value = value;
+        Ok(())
+    }
+
+    pub fn add(&mut self, key: u32, value: u32) -> Result<(), Refusal> {
+        if self.find(key).is_ok() {
+            return Err(Refusal::Present);
+        }
+        if self.held() == self.capacity as usize {
+            return Err(Refusal::Full);
+        }
+        // During a move the old table may only lose keys: a key put into a
+        // bucket that was already passed would never be moved.
+        let table = match &mut self.rehash {
+            Some(rehash) => &mut rehash.target,
+            None => &mut self.table,
+        };
+        table.insert(Entry { key, value });
+        Ok(())
+    }
+
+    pub fn delete(&mut self, key: u32) -> Result<(), Refusal> {
+        self.table
+            .remove(key)
+            .or_else(|| self.rehash.as_mut()?.target.remove(key))
+            .map(|_| ())
+            .ok_or(Refusal::Absent)
+    }
+
+    /// Begins a move to a table of `size` buckets; moves nothing yet.
+    pub fn resize(&mut self, size: u32) -> Result<(), Refusal> {
+        if self.rehash.is_some() {
+            return Err(Refusal::Moving);
+        }
+        if !is_legal_size(size) || size == self.size() {
+            return Err(Refusal::BadSize);
+        }
+        self.rehash = Some(Rehash {
+            target: Table::new(size),
+            next: 0,
+        });
+        Ok(())
+    }
+
+    /// Moves the next filled bucket, or ends the move when none is left.
+    pub fn step(&mut self) -> Result<Step, Refusal> {
+        match self.rehash.take() {
+            None => Err(Refusal::NotMoving),
+            Some(rehash) if self.table.held == 0 => {
+                self.table = rehash.target;
+                Ok(Step {
+                    moved: 0,
+                    moving: false,
+                })
+            }
+            Some(mut rehash) => {
+                let index = self
+                    .table
+                    .first_filled(rehash.next)
+                    .expect("the old table's keys lie at or after the next bucket");
+                let chain = self.table.take_chain(index);
+                let moved = chain.len();
+                for entry in chain {
+                    rehash.target.insert(entry);
+                }
+                rehash.next = index + 1;
+                self.rehash = Some(rehash);
+                Ok(Step {
+                    moved,
+                    moving: true,
+                })
+            }
+        }
+    }
+
+    /// One call of the walk: the keys of the cursor's buckets in chain order.
+    pub fn scan(&self, cursor: u32) -> Scan {
+        if self.held() == 0 {
+            return Scan {
+                next: 0,
+                entries: Vec::new(),
+            };
+        }
+        let Some(rehash) = &self.rehash else {
+            return Scan {
+                next: cursor::next(cursor, self.size()),
+                entries: self.table.chain(cursor).iter().copied().collect(),
+            };
+        };
+        let (small, large) = if self.size() < rehash.target.size() {
+            (&self.table, &rehash.target)
+        } else {
+            (&rehash.target, &self.table)
+        };
+        let group = cursor::group(cursor, small.size(), large.size());
+        let mut entries = Vec::new();
+        entries.extend(small.chain(group.small));
+        for bucket in group.large {
+            entries.extend(large.chain(bucket));
+        }
+        Scan {
+            next: group.next,
+            entries,
+        }
+    }
+
+    pub fn suggested_size(&self, aim: Aim) -> u32 {
+        let wanted = match aim {
+            Aim::Grow => 2 * self.held() as u32,
+            Aim::Shrink => self.held() as u32,
+        };
+        // No keys: the smallest power of two not below 0 is 1.
+        wanted.next_power_of_two().min(MAX_SIZE)
+    }
+}
+
+#[cfg(test)]
+mod tests {
+    use super::*;
+
+    fn store(capacity: u32, size: u32, keys: impl IntoIterator<Item = u32>) -> Store {
+        let mut store = Store::start(capacity, size).unwrap();
+        for key in keys {
+            store.add(key, 10 * key).unwrap();
+        }
+        store
+    }
+
+    fn keys(scan: &Scan) -> Vec<u32> {
+        scan.entries.iter().map(|entry| entry.key).collect()
+    }
+
+    fn finish(store: &mut Store) {
+        while store.step().unwrap().moving {}
+    }
+
+    #[test]
+    fn limits_of_start() {
+        assert!(Store::start(4096, 4096).is_ok());
+        assert!(Store::start(1, 1).is_ok());
+        for (capacity, size) in [
+            (1, 4095),
+            (1, 8192),
+            (1, 0),
+            (1, 3),
+            (0, 1),
+            (4097, 1),
+            (u32::MAX, 1),
+            (1, 1 << 31),
+        ] {
+            assert_eq!(Store::start(capacity, size).err(), Some(Refusal::BadSize));
+        }
+    }
+
+    #[test]
+    fn capacity_one_is_used_again() {
+        let mut store = store(1, 1, [1]);
+        assert_eq!(store.add(1, 0), Err(Refusal::Present));
+        assert_eq!(store.add(2, 20), Err(Refusal::Full));
+        assert_eq!(store.delete(1), Ok(()));
+        assert_eq!(store.add(2, 20), Ok(()));
+        assert_eq!(store.find(2), Ok(20));
+        assert_eq!(store.find(1), Err(Refusal::Absent));
+    }
+
+    #[test]
+    fn suggested_sizes() {
+        let size = |held: u32, aim| store(4096, 1, 0..held).suggested_size(aim);
+        assert_eq!((size(5, Aim::Grow), size(5, Aim::Shrink)), (16, 8));
+        assert_eq!((size(0, Aim::Grow), size(0, Aim::Shrink)), (1, 1));
+        assert_eq!((size(1, Aim::Grow), size(1, Aim::Shrink)), (2, 1));
+        assert_eq!((size(8, Aim::Grow), size(8, Aim::Shrink)), (16, 8));
+        assert_eq!(
+            (size(2049, Aim::Grow), size(2049, Aim::Shrink)),
+            (4096, 4096)
+        );
+    }
+
+    #[test]
+    fn suggested_size_counts_both_tables() {
+        let mut store = store(16, 4, 0..3);
+        store.resize(8).unwrap();
+        store.add(3, 0).unwrap();
+        store.add(4, 0).unwrap();
+        assert_eq!(store.suggested_size(Aim::Grow), 16);
+        store.step().unwrap();
+        assert_eq!(store.suggested_size(Aim::Shrink), 8);
+    }
+
+    #[test]
+    fn two_table_groups_hand_out_in_order() {
+        let mut store = store(16, 4, [32, 34]);
+        store.resize(16).unwrap();
+        for key in [0, 8, 4, 12, 1, 2] {
+            store.add(key, 0).unwrap();
+        }
+        let scan = store.scan(0);
+        assert_eq!((scan.next, keys(&scan)), (2, vec![32, 0, 8, 4, 12]));
+        let scan = store.scan(8);
+        assert_eq!((scan.next, keys(&scan)), (2, vec![32, 8, 4, 12]));
+    }
+
+    #[test]
+    fn the_smaller_table_comes_first_when_shrinking_too() {
+        let mut store = store(16, 8, [2, 6, 3]);
+        store.resize(4).unwrap();
+        store.add(10, 0).unwrap();
+        let scan = store.scan(2);
+        assert_eq!((scan.next, keys(&scan)), (1, vec![10, 2, 6]));
+    }
+
+    #[test]
+    fn a_shrunk_table_gives_a_bucket_again() {
+        let mut store = store(8, 8, [3, 7]);
+        store.resize(4).unwrap();
+        finish(&mut store);
+        let scan = store.scan(7);
+        assert_eq!((scan.next, keys(&scan)), (0, vec![7, 3]));
+    }
+
+    #[test]
+    fn adds_during_a_move_go_to_the_new_table() {
+        let mut store = store(8, 4, [0, 1]);
+        store.resize(8).unwrap();
+        assert_eq!(
+            store.step(),
+            Ok(Step {
+                moved: 1,
+                moving: true
+            })
+        );
+        store.add(4, 40).unwrap();
+        assert_eq!(
+            store.step(),
+            Ok(Step {
+                moved: 1,
+                moving: true
+            })
+        );
+        assert_eq!(
+            store.step(),
+            Ok(Step {
+                moved: 0,
+                moving: false
+            })
+        );
+        assert_eq!(store.find(4), Ok(40));
+        assert_eq!(store.step(), Err(Refusal::NotMoving));
+    }
+
+    #[test]
+    fn a_move_ends_when_the_old_keys_are_deleted() {
+        let mut store = store(8, 4, [0, 1]);
+        store.resize(2).unwrap();
+        store.delete(0).unwrap();
+        store.delete(1).unwrap();
+        assert_eq!(
+            store.step(),
+            Ok(Step {
+                moved: 0,
+                moving: false
+            })
+        );
+        assert_eq!(store.size(), 2);
+    }
+
+    #[test]
+    fn order_of_the_refusals_of_resize() {
+        let mut store = store(8, 4, []);
+        assert_eq!(store.resize(4), Err(Refusal::BadSize));
+        assert_eq!(store.resize(3), Err(Refusal::BadSize));
+        assert_eq!(store.resize(8192), Err(Refusal::BadSize));
+        store.resize(4096).unwrap();
+        assert_eq!(store.resize(3), Err(Refusal::Moving));
+    }
+}

@@ -11,7 +11,7 @@ use Rattle.script.specs.Lines.{space, lineFeed}
 use Rattle.script.specs.Answers.{spaced, answerLine, Wrote}
 use Rattle.script.proofs.Writing.{wrote-then, room-then}
 
-number-line : (number : ℕ) → answerLine number [] ≡ decimal number ++ 10 ∷ []
+pub number-line : (number : ℕ) → answerLine number [] ≡ decimal number ++ 10 ∷ []
 unfolding answerLine spaced lineFeed
 number-line zero = ap (λ (l : List ℕ). l ++ 10 ∷ []) (append-nil (decimal 0))
 number-line (suc number) = refl

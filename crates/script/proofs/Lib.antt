@@ -3,7 +3,6 @@ mod Naming
 mod Reading
 mod Words
 mod Ends
-mod Digits
+pub mod Digits
 mod Writing
-mod Answering
-mod Running
+pub mod Answering

@@ -3,5 +3,4 @@ pub mod Numbers
 pub mod Lines
 pub mod Answers
 pub mod Program
-pub mod Running
 pub mod Places

@@ -11,7 +11,7 @@ ghost use Rattle.script.specs.Lines.{space};
 ghost use Rattle.script.specs.Answers.{spaced, answerLine, Wrote};
 
 // Paper 01: the number of a refusal.
-pub(crate) fn error_number(e: Error) -> u32
+pub fn error_number(e: Error) -> u32
     ensures { λ r. ⌜ r ≡ errorNumber e ⌝ }
 {
     match e {
@@ -57,7 +57,7 @@ fn write_values(out: &mut [u8], at: usize, values: &[u32]) -> usize
 }
 
 // A number alone, from the front of the buffer: what a refusal writes, and a call that answers 0 and nothing more.
-pub(crate) fn write_number_line(out: &mut [u8], number: u32) -> usize
+pub fn write_number_line(out: &mut [u8], number: u32) -> usize
     requires { ⌜ length (answerLine number []) ≤ length (now out) ⌝ }
     ensures { λ r. ⌜ Wrote (now (out .entry)) 0 (answerLine number []) (now (out .exit)) r ⌝ }
 {
@@ -66,7 +66,7 @@ pub(crate) fn write_number_line(out: &mut [u8], number: u32) -> usize
 }
 
 // 0 and the result's values, which come in two parts.
-pub(crate) fn write_result_line(out: &mut [u8], values: &[u32], more: &[u32]) -> usize
+pub fn write_result_line(out: &mut [u8], values: &[u32], more: &[u32]) -> usize
     requires { ⌜ length (answerLine 0 (now values ++ now more)) ≤ length (now out) ⌝ }
     ensures { λ r. ⌜ Wrote (now (out .entry)) 0 (answerLine 0 (now (values .entry) ++ now (more .entry))) (now (out .exit)) r ⌝ }
 {

@@ -1,6 +1,5 @@
 // A script's lines in, their answers out, over byte slices (paper 01: the program).
 
-mod answer;
+pub mod answer;
 pub mod line;
 pub mod number;
-pub mod run;

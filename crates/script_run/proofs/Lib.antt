@@ -1,0 +1,4 @@
+-- From what a call of the store answers and the line that is written to what the definitions say of a line.
+mod Running
+mod Handing
+mod Commands

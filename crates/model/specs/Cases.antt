@@ -1,4 +1,4 @@
--- Paper 01, "Cases": those that are marked to be proved, as one table. The statement over it is in proofs/Cases.antt.
+-- Paper 01, "Cases": those that are marked to be proved, as one table with one statement over it, `AllHold cases`.
 use Prim.Native.Nat.{ℕ}
 use mathlib.Core.Path.{_≡_}
 use mathlib.Core.Bool.{Bool, true, false}

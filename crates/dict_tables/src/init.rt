@@ -29,7 +29,7 @@ fn link_free(entries: &mut [u32], capacity: u32)
 }
 
 // The state that a refused start hands back.
-fn no_state() -> State
+pub fn no_state() -> State
     ensures { λ r. ⌜ r ≡ calls.noState ⌝ }
 {
     State {

@@ -13,16 +13,6 @@ use Rattle.script.specs.Program.{Ran, answered, handedOut, runCommand, runLine}
 use Rattle.script_run.specs.Runs.{lineRoom, Answers, Runs}
 use Rattle.script_run.proofs.Running.{number-room}
 
-pub line-room : (out : List ℕ) → length out ≡ 90136 → lineRoom ≤ length out
-unfolding lineRoom
-line-room out h = omega arith
-
-pub bad-room : (out : List ℕ) (number : ℕ) → length out ≡ 90136 → length (answerLine number []) ≤ length out
-bad-room out number h = number-room out number (line-room out h)
-
-pub pairs-room : (pairs : List ℕ) → length pairs ≡ 8192 → length pairs ≤ 8192
-pairs-room pairs h = omega arith
-
 module _ (w : World) (lent line : List ℕ) (c : Command) (e : c ≡ command line) (w′ : World) (before out : List ℕ) (n : ℕ) where
   runs : (k : Command) (ran : Ran) (lent′ : List ℕ) → c ≡ k → ran ≡ runCommand w lent k → Runs ran w′ lent′ before out n
       → Runs (runLine w lent line) w′ lent′ before out n

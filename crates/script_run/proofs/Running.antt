@@ -29,7 +29,6 @@ use Rattle.script.proofs.Answering.{number-line}
 -- Room
 
 pub number-room : (out : List ℕ) (number : ℕ) → lineRoom ≤ length out → length (answerLine number []) ≤ length out
-unfolding lineRoom
 number-room out number h =
     omega (arith, ap length (number-line number), length-append (decimal number) (10 ∷ []), decimal-few number)
 
@@ -41,7 +40,7 @@ spaced-few (value ∷ values) =
 
 pub result-fits : (out values more : List ℕ) → lineRoom ≤ length out → length values + length more ≤ 8194
     → length (answerLine 0 (values ++ more)) ≤ length out
-unfolding lineRoom answerLine
+unfolding answerLine
 result-fits out values more h k =
     omega (
       arith,

@@ -8,7 +8,7 @@ use Rattle.script.specs.Answers.{answerLine, Wrote}
 use Rattle.script.specs.Program.{Ran}
 
 -- room for 0, a cursor, a number of keys and 4,096 pairs, each number with its space, and the line feed
-unfoldable pub lineRoom : ℕ
+abbrev pub lineRoom : ℕ
 lineRoom = 90136
 
 abbrev pub worldOf : State → List ℕ → List ℕ → List ℕ → World

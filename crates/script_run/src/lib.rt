@@ -272,11 +272,12 @@ pub fn run_line(
     first: &mut [u32],
     second: &mut [u32],
     entries: &mut [u32],
-    pairs: &mut [u32; PAIR_ROOM],
-    out: &mut [u8; LINE_ROOM],
+    pairs: &mut [u32],
+    out: &mut [u8],
     s: State,
     line: &[u8],
 ) -> LineAnswer
+    requires { ⌜ (lineRoom ≤ length (now out)) × (length (now pairs) ≤ 8192) ⌝ }
     ensures { λ r. ⌜ Runs
         (runLine (worldOf s (now (first .entry)) (now (second .entry)) (now (entries .entry))) (now (pairs .entry)) (now (line .entry)))
         (worldOf (r .state) (now (first .exit)) (now (second .exit)) (now (entries .exit)))

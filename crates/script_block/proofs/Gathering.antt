@@ -1,0 +1,210 @@
+-- What a block has, and what is still to be written, as lines run.
+-- Assumes nothing.
+use Prim.Native.Nat.{ℕ, zero, suc, _+_, _-_, _*_, _^_, _≤_, _<_}
+use mathlib.Core.Path.{_≡_, refl, sym, ap, _∙_, subst}
+use mathlib.Core.Bool.{Bool, true, false}
+use mathlib.Core.Logic.{_⊎_, inl, inr}
+use mathlib.Core.List.{List, [], _∷_, _++_, append-nil, append-assoc}
+use native.Mathlib.Nat.{add-zero, add-suc, suc-add}
+use native.Mathlib.Numerals.{add-one}
+use native.Mathlib.Omega.{arith}
+use lib.ListN.{length, take, drop, set, length-set, length-append, length-take, length-drop}
+use lib.Seq.{length-take-le, take-length, take-append-le, take-append-seam, take-append-add, take-suc-set, append-snoc}
+use lib.Dec.{ltb}
+use borrow.Author.Tests.{ltb-true, ltb-false}
+use mir.Syntax.{w64}
+use mir.Val.{Fits}
+use Rattle.model.specs.Sequences.{World}
+use Rattle.script.specs.declared.line.NextLine.{NextLine}
+use Rattle.script.specs.Lines.{linesOf}
+use Rattle.script.specs.Answers.{put, Wrote}
+use Rattle.script.specs.Places.{linesFrom, Reaches}
+use Rattle.script.specs.Program.{Ran, runLine, runLines}
+use Rattle.script_run.specs.Runs.{lineRoom, Runs}
+use Rattle.script_block.specs.Blocks.{answersFrom, Room, LineAt, RunsInto, RunsOne, RunsBlock}
+use Rattle.script_block.proofs.Longest.{written-fits, lent-long}
+
+-- Bytes at the front of a buffer
+
+put-length : (out : List ℕ) (at : ℕ) (xs : List ℕ) → length (put out at xs) ≡ length out
+unfolding put
+put-length out at [] = refl
+put-length out at (x ∷ xs) = put-length (set out at x) (suc at) xs ∙ length-set out at x
+
+put-front : (out : List ℕ) (at : ℕ) (xs : List ℕ) → at + length xs ≤ length out
+    → take (at + length xs) (put out at xs) ≡ take at out ++ xs
+unfolding put
+put-front out at [] h = rw (add-zero at) (sym (append-nil (take at out)))
+put-front out at (x ∷ xs) h =
+    ap (λ (n : ℕ). take n (put (set out at x) (suc at) xs)) (add-suc at (length xs) ∙ sym (suc-add at (length xs)))
+    ∙ put-front (set out at x) (suc at) xs (omega (arith, length-set out at x))
+    ∙ ap (λ (l : List ℕ). l ++ xs) (take-suc-set out at x (omega arith))
+    ∙ append-snoc (take at out) x xs
+
+-- A line
+
+module _ (block : List ℕ) (filled : ℕ) (lent : List ℕ) (room : Room block filled lent) where
+  part : List ℕ
+  part = take (length block - filled) (drop filled block)
+
+  pub part-room : lineRoom ≤ length (take (length block - filled) (drop filled block))
+  part-room =
+      let r = room .answer in
+      omega (
+        arith,
+        length-drop filled block,
+        length-take-le (length block - filled) (drop filled block) (omega (arith, length-drop filled block)),
+      )
+
+  module _ (w : World) (line : List ℕ) (w′ : World) (lent′ out : List ℕ) (n : ℕ)
+      (ran : Runs (runLine w lent line) w′ lent′ (take (length block - filled) (drop filled block)) out n) where
+    few : n ≤ lineRoom
+    few = omega (arith, ran .line .behind, written-fits w lent line (room .pairs))
+
+    out-long : length out ≡ length part
+    unfolding part
+    out-long = ap length (ran .line .buffer) ∙ put-length part 0 (runLine w lent line .written)
+
+    written : take n out ≡ runLine w lent line .written
+    unfolding part
+    written =
+        ap (λ (k : ℕ). take k out) (ran .line .behind)
+        ∙ ap (take (0 + length (runLine w lent line .written))) (ran .line .buffer)
+        ∙ put-front part 0 (runLine w lent line .written) (omega (arith, few, part-room, ran .line .behind))
+
+    pub ran-into : (post : List ℕ) → RunsInto (runLine w lent line) w′ lent′ block filled (take filled block ++ (out ++ post)) n
+    unfolding part
+    ran-into post =
+        let r = room .answer in
+        let l : length (take filled block) ≡ filled = length-take-le filled block (omega arith) in
+        record {
+          answer =
+              ap (λ (k : ℕ). take (k + n) (take filled block ++ (out ++ post))) (sym l)
+              ∙ take-append-add (take filled block) (out ++ post) n
+              ∙ ap (λ (k : List ℕ). take filled block ++ k)
+              (take-append-le n out post (omega (arith, few, part-room, out-long)) ∙ written);
+          within =
+              omega (
+                arith,
+                few,
+                part-room,
+                out-long,
+                length-append (take filled block) (out ++ post),
+                length-append out post,
+              );
+          short = few;
+          world = ran .world;
+          lent = ran .handed;
+        }
+
+-- A line of a script
+
+module _ (script : List ℕ) (from end : ℕ) (line : LineAt script from end) where
+  rest : List (List ℕ)
+  rest = linesOf (drop (suc end) script)
+
+  module _ (w : World) (lent : List ℕ) (w′ : World) (lent′ before : List ℕ) (filled : ℕ) (block : List ℕ) (n : ℕ) where
+    joined : (ran : Ran) → RunsInto ran w′ lent′ before filled block n
+        → take filled before ++ (ran .written ++ runLines (ran .world) (ran .lent) rest)
+        ≡ take (filled + n) block ++ runLines w′ lent′ rest
+    joined ran a =
+        sym (append-assoc (take filled before) (ran .written) (runLines (ran .world) (ran .lent) rest))
+        ∙ ap (λ (l : List ℕ). l ++ runLines (ran .world) (ran .lent) rest) (sym (a .answer))
+        ∙ ap (λ (v : World). take (filled + n) block ++ runLines v (ran .lent) rest) (sym (a .world))
+        ∙ ap (λ (l : List ℕ). take (filled + n) block ++ runLines w′ l rest) (sym (a .lent))
+
+    pub ran-one : RunsInto (runLine w lent (take (end - from) (drop from script))) w′ lent′ before filled block n
+        → RunsOne script w lent from end before filled w′ lent′ block n
+    unfolding answersFrom runLines rest
+    ran-one a =
+        record {
+          answers =
+              ap (λ (ls : List (List ℕ)). take filled before ++ runLines w lent ls) (line .lines)
+              ∙ joined (runLine w lent (take (end - from) (drop from script))) a
+              ∙ ap (λ (k : ℕ). take (filled + n) block ++ runLines w′ lent′ (linesOf (drop k script))) (sym (add-one end));
+          within = a .within;
+          short = a .short;
+        }
+
+-- Lines, one a turn
+
+pub record Gathering (script : List ℕ) (w : World) (lent : List ℕ) (from : ℕ) (w′ : World) (lent′ block : List ℕ) (next filled : ℕ)
+    : Type 0 where
+  pub answers : answersFrom w lent script from ≡ take filled block ++ answersFrom w′ lent′ script next
+  pub within : filled ≤ length block
+  pub first : length (w′ .first) ≡ length (w .first)
+  pub second : length (w′ .second) ≡ length (w .second)
+  pub entries : length (w′ .entries) ≡ length (w .entries)
+  pub bounded : length script * 1 < 2 ^ 63
+  pub reached : from ≤ next
+  pub idle : next ≡ from → filled ≡ 0
+
+pub gathering-start : (script : List ℕ) (w : World) (lent : List ℕ) (from : ℕ) (block : List ℕ) → length script * 1 < 2 ^ 63
+    → Gathering script w lent from w lent block from 0
+gathering-start script w lent from block b =
+    record {
+      answers = refl;
+      within = omega arith;
+      first = refl;
+      second = refl;
+      entries = refl;
+      bounded = b;
+      reached = omega arith;
+      idle = λ h. refl;
+    }
+
+pub room-left : (block : List ℕ) (filled : ℕ) (lent : List ℕ) → filled ≤ 180272 - 90136 → length block ≡ 180272 → length lent ≡ 8192
+    → Room block filled lent
+room-left block filled lent r b p = record { answer = omega arith; pairs = omega arith }
+
+module _ (script : List ℕ) (next : ℕ) (found : NextLine) (end : ℕ) (reaches : Reaches (length script) next found)
+    (e : found ≡ NextLine.Until end) where
+  ends : (next ≤ end) × (end ≤ length script)
+  unfolding Reaches
+  ends = subst (Reaches (length script) next) e reaches
+
+  pub line-at : linesOf (drop next script) ≡ linesFrom script next found → LineAt script next end
+  unfolding linesFrom
+  line-at lines = record { lines = lines ∙ ap (linesFrom script next) e; starts = ends .0; ends = ends .1 }
+
+  pub turn-less : suc (length script) - (end + 1) < suc (length script) - next
+  turn-less = omega (arith, ends .0, ends .1)
+
+module _ (script : List ℕ) (w : World) (lent : List ℕ) (from : ℕ) (w′ : World) (lent′ block : List ℕ) (next filled : ℕ)
+    (h : Gathering script w lent from w′ lent′ block next filled) where
+  further : (length script ≤ next) ⊎ (0 < filled) → from < length script → (b : Bool) → ltb from next ≡ b → from < next
+  further e more true t = ltb-true from next t
+  further (inl e) more false t = omega (arith, h .reached, ltb-false from next t)
+  further (inr e) more false t = absurd (omega (arith, h .idle (omega (arith, h .reached, ltb-false from next t))))
+
+  ended : (length script ≤ next) ⊎ (0 < filled) → RunsBlock script w lent from w′ lent′ next block filled
+  ended e = record { answers = h .answers; within = h .within; further = λ more. further e more (ltb from next) refl }
+
+  pub block-full : 180272 - 90136 < filled → RunsBlock script w lent from w′ lent′ next block filled
+  block-full f = ended (inr (omega arith))
+
+  pub block-last : (found : NextLine) → Reaches (length script) next found → found ≡ NextLine.None
+      → RunsBlock script w lent from w′ lent′ next block filled
+  unfolding Reaches
+  block-last found reaches e = ended (inl (subst (Reaches (length script) next) e reaches))
+
+  module _ (found : NextLine) (end : ℕ) (reaches : Reaches (length script) next found) (e : found ≡ NextLine.Until end) where
+    pub next-fits : Fits w64 (end + 1)
+    next-fits = omega (arith, ends script next found end reaches e .1, h .bounded)
+
+    pub gathering-next : (w″ : World) (lent″ block″ : List ℕ) (n : ℕ)
+        → RunsOne script w′ lent′ next end block filled w″ lent″ block″ n
+        → length (w″ .first) ≡ length (w′ .first) → length (w″ .second) ≡ length (w′ .second)
+        → length (w″ .entries) ≡ length (w′ .entries) → Gathering script w lent from w″ lent″ block″ (end + 1) (filled + n)
+    gathering-next w″ lent″ block″ n one f s e′ =
+        let r = ends script next found end reaches e .0 in
+        record {
+          answers = h .answers ∙ one .answers;
+          within = one .within;
+          first = f ∙ h .first;
+          second = s ∙ h .second;
+          entries = e′ ∙ h .entries;
+          bounded = h .bounded;
+          reached = omega (arith, h .reached);
+          idle = λ k. absurd (omega (arith, h .reached));
+        }

@@ -1,0 +1,49 @@
+-- A script's answers in blocks: what a block has, and what is then still to be written.
+use Prim.Native.Nat.{ℕ, suc, _+_, _-_, _≤_, _<_}
+use mathlib.Core.Path.{_≡_}
+use mathlib.Core.List.{List, _∷_, _++_}
+use lib.ListN.{length, take, drop}
+use Rattle.model.specs.Sequences.{World}
+use Rattle.script.specs.Lines.{linesOf}
+use Rattle.script.specs.Program.{Ran, runLines}
+use Rattle.script_run.specs.Runs.{lineRoom}
+
+-- the answers to the lines of a script from a place on
+unfoldable pub answersFrom : World → List ℕ → List ℕ → ℕ → List ℕ
+answersFrom w lent script from = runLines w lent (linesOf (drop from script))
+
+-- Some lines have run, and their answers stand in the block, from its front. What the block has and what is still to be
+-- written are the answers that were due; if there was a line, one has run.
+pub record RunsBlock (script : List ℕ) (w : World) (lent : List ℕ) (from : ℕ) (after : World) (handed : List ℕ) (next : ℕ)
+    (block : List ℕ) (filled : ℕ) : Type 0 where
+  pub answers : answersFrom w lent script from ≡ take filled block ++ answersFrom after handed script next
+  pub within : filled ≤ length block
+  pub further : from < length script → from < next
+
+-- The line that starts at a place ends at another, and the next one starts behind that.
+pub record LineAt (script : List ℕ) (from end : ℕ) : Type 0 where
+  pub lines : linesOf (drop from script) ≡ take (end - from) (drop from script) ∷ linesOf (drop (suc end) script)
+  pub starts : from ≤ end
+  pub ends : end ≤ length script
+
+-- There is room in the block for the longest answer, and a walk call is lent no more than that is long for.
+pub record Room (block : List ℕ) (filled : ℕ) (lent : List ℕ) : Type 0 where
+  pub answer : filled + lineRoom ≤ length block
+  pub pairs : length lent ≤ 8192
+
+-- A line has run: the world and the lent list are as it leaves them, and its answer, so many bytes, is in the block behind
+-- those that it had.
+pub record RunsInto (ran : Ran) (after : World) (handed before : List ℕ) (filled : ℕ) (block : List ℕ) (count : ℕ) : Type 0 where
+  pub answer : take (filled + count) block ≡ take filled before ++ ran .written
+  pub within : filled + count ≤ length block
+  pub short : count ≤ lineRoom
+  pub world : after ≡ ran .world
+  pub lent : handed ≡ ran .lent
+
+-- The same of a line of a script, from a place until another.
+pub record RunsOne (script : List ℕ) (w : World) (lent : List ℕ) (from end : ℕ) (before : List ℕ) (filled : ℕ) (after : World)
+    (handed block : List ℕ) (count : ℕ) : Type 0 where
+  pub answers :
+      take filled before ++ answersFrom w lent script from ≡ take (filled + count) block ++ answersFrom after handed script (end + 1)
+  pub within : filled + count ≤ length block
+  pub short : count ≤ lineRoom

@@ -1,0 +1,128 @@
+// A script's answers, gathered in blocks, so that a program needs no system call for each line (paper 01: the program).
+use model::State;
+use script::line::NextLine;
+use script::line::next_line;
+use script_run::LINE_ROOM;
+use script_run::LineAnswer;
+use script_run::PAIR_ROOM;
+use script_run::run_line;
+ghost use Rattle.script.specs.Program.{runLine};
+ghost use Rattle.script_run.specs.Runs.{worldOf};
+ghost use Rattle.script_block.specs.Blocks.{Room, LineAt, RunsInto, RunsOne, RunsBlock};
+
+// The bytes of a block: two of the longest answers. A line runs while there is room for the longest, so a block that is
+// written before the script ends is at least half full.
+pub const BLOCK_ROOM: usize = 180272;
+
+// How far a script has run: the state for its next line, where that starts, and how many bytes of the block are filled.
+pub struct Progress {
+    pub state: State,
+    pub next: usize,
+    pub filled: usize,
+}
+
+// Runs a line, and puts its answer into the block behind those that it has.
+fn run_into(
+    first: &mut [u32],
+    second: &mut [u32],
+    entries: &mut [u32],
+    pairs: &mut [u32],
+    block: &mut [u8],
+    s: State,
+    line: &[u8],
+    filled: usize,
+) -> LineAnswer
+    requires { ⌜ Room (now block) filled (now pairs) ⌝ }
+    ensures { λ r. ⌜ RunsInto
+        (runLine (worldOf s (now (first .entry)) (now (second .entry)) (now (entries .entry))) (now (pairs .entry)) (now (line .entry)))
+        (worldOf (r .state) (now (first .exit)) (now (second .exit)) (now (entries .exit))) (now (pairs .exit))
+        (now (block .entry)) filled (now (block .exit)) (r .length) ⌝ }
+{
+    run_line(first, second, entries, pairs, &mut block[filled..], s, line)
+}
+
+// Runs the line that the script has from a place until another.
+fn run_one(
+    first: &mut [u32],
+    second: &mut [u32],
+    entries: &mut [u32],
+    pairs: &mut [u32],
+    block: &mut [u8],
+    s: State,
+    script: &[u8],
+    from: usize,
+    end: usize,
+    filled: usize,
+) -> LineAnswer
+    requires { ⌜ Room (now block) filled (now pairs) ⌝ }
+    requires { ⌜ LineAt (now script) from end ⌝ }
+    ensures { λ r. ⌜ RunsOne (now (script .entry))
+        (worldOf s (now (first .entry)) (now (second .entry)) (now (entries .entry))) (now (pairs .entry)) from end (now (block .entry)) filled
+        (worldOf (r .state) (now (first .exit)) (now (second .exit)) (now (entries .exit))) (now (pairs .exit)) (now (block .exit)) (r .length) ⌝ }
+{
+    run_into(
+        first,
+        second,
+        entries,
+        pairs,
+        block,
+        s,
+        &script[from..end],
+        filled,
+    )
+}
+
+// Runs lines from a place on, until none is left or the block may be too small for another's answer.
+pub fn run_block(
+    first: &mut [u32],
+    second: &mut [u32],
+    entries: &mut [u32],
+    pairs: &mut [u32; PAIR_ROOM],
+    block: &mut [u8; BLOCK_ROOM],
+    s: State,
+    script: &[u8],
+    from: usize,
+) -> Progress
+    ensures { λ r. ⌜ RunsBlock (now (script .entry))
+        (worldOf s (now (first .entry)) (now (second .entry)) (now (entries .entry))) (now (pairs .entry)) from
+        (worldOf (r .state) (now (first .exit)) (now (second .exit)) (now (entries .exit))) (now (pairs .exit)) (r .next)
+        (now (block .exit)) (r .filled) ⌝ }
+{
+    let mut state = s;
+    let mut next = from;
+    let mut filled = 0;
+    while filled <= BLOCK_ROOM - LINE_ROOM {
+        let found = next_line(script, next);
+        match found {
+            NextLine::None => {
+                return Progress {
+                    state,
+                    next,
+                    filled,
+                };
+            }
+            NextLine::Until(end) => {
+                let ran = run_one(
+                    first,
+                    second,
+                    entries,
+                    pairs,
+                    block,
+                    state,
+                    script,
+                    next,
+                    end,
+                    filled,
+                );
+                state = ran.state;
+                next = end + 1;
+                filled += ran.length;
+            }
+        }
+    }
+    Progress {
+        state,
+        next,
+        filled,
+    }
+}

@@ -1,0 +1,2 @@
+-- A block's front, and how a script is used up.
+mod Writing

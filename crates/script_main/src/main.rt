@@ -1,0 +1,81 @@
+// The program of paper 01: a script from standard input, its answers to standard output.
+use dict_tables::init::no_state;
+use libc::STDIN_FILENO;
+use libc::STDOUT_FILENO;
+use script_block::BLOCK_ROOM;
+use script_block::run_block;
+use script_run::PAIR_ROOM;
+ghost use Prim.Native.Nat.{_≤_};
+ghost use lib.ListN.{length};
+
+// The bytes of the longest script.
+const LONGEST_SCRIPT: usize = 65536;
+
+// The most buckets of a table and the most entries of a store, each entry three numbers.
+const BUCKET_ROOM: usize = 4096;
+
+const ENTRY_ROOM: usize = 12288;
+
+// Writes the front of a block, and answers whether that could be done. If not it says why.
+fn write_front(block: &[u8], filled: usize) -> bool
+    requires { ⌜ filled ≤ length (now block) ⌝ }
+{
+    let is_written = io::write_all(STDOUT_FILENO, &block[..filled]);
+    if !is_written {
+        os::fail(&[b'w', b'r', b'i', b't', b'e']);
+    }
+    is_written
+}
+
+// Runs a script, and writes its answers a block at a time.
+fn write_answers(
+    first: &mut [u32],
+    second: &mut [u32],
+    entries: &mut [u32],
+    pairs: &mut [u32; PAIR_ROOM],
+    block: &mut [u8; BLOCK_ROOM],
+    script: &[u8],
+) {
+    // Before a good `N` the state is zeros.
+    let mut state = no_state();
+    let mut from = 0;
+    while from < script.len() {
+        let ran = run_block(first, second, entries, pairs, block, state, script, from);
+        if !write_front(block, ran.filled) {
+            return;
+        }
+        state = ran.state;
+        from = ran.next;
+    }
+}
+
+fn run_script(script: &[u8]) {
+    let mut first = [0u32; BUCKET_ROOM];
+    let mut second = [0u32; BUCKET_ROOM];
+    let mut entries = [0u32; ENTRY_ROOM];
+    let mut pairs = [0u32; PAIR_ROOM];
+    let mut block = [0u8; BLOCK_ROOM];
+    write_answers(
+        &mut first,
+        &mut second,
+        &mut entries,
+        &mut pairs,
+        &mut block,
+        script,
+    );
+}
+
+fn main() {
+    // One byte more than a script may have, so that one that is too long shows.
+    let mut text = [0u8; LONGEST_SCRIPT + 1];
+    let length = io::read_full(STDIN_FILENO, &mut text);
+    if os::errno() != 0 {
+        os::fail(&[b'r', b'e', b'a', b'd']);
+        return;
+    }
+    if LONGEST_SCRIPT < length {
+        io::write_all(STDOUT_FILENO, &[b'1', b'0', b'\n']);
+        return;
+    }
+    run_script(&text[..length]);
+}

@@ -20,8 +20,8 @@ use Rattle.script.specs.Lines.{linesOf}
 use Rattle.script.specs.Answers.{put, Wrote}
 use Rattle.script.specs.Places.{linesFrom, Reaches}
 use Rattle.script.specs.Program.{Ran, runLine, runLines}
-use Rattle.script_run.specs.Runs.{lineRoom, Runs}
-use Rattle.script_block.specs.Blocks.{answersFrom, Room, LineAt, RunsInto, RunsOne, RunsBlock}
+use Rattle.script_run.specs.Runs.{pairRoom, lineRoom, Runs}
+use Rattle.script_block.specs.Blocks.{blockRoom, answersFrom, Room, LineAt, RunsInto, RunsOne, RunsBlock}
 use Rattle.script_block.proofs.Longest.{written-fits, lent-long}
 
 -- Bytes at the front of a buffer
@@ -153,7 +153,7 @@ gathering-start script w lent from block b =
       idle = λ h. refl;
     }
 
-pub room-left : (block : List ℕ) (filled : ℕ) (lent : List ℕ) → filled ≤ 180272 - 90136 → length block ≡ 180272 → length lent ≡ 8192
+pub room-left : (block : List ℕ) (filled : ℕ) (lent : List ℕ) → filled ≤ blockRoom - lineRoom → length block ≡ blockRoom → length lent ≡ pairRoom
     → Room block filled lent
 room-left block filled lent r b p = record { answer = omega arith; pairs = omega arith }
 
@@ -180,7 +180,7 @@ module _ (script : List ℕ) (w : World) (lent : List ℕ) (from : ℕ) (w′ : 
   ended : (length script ≤ next) ⊎ (0 < filled) → RunsBlock script w lent from w′ lent′ next block filled
   ended e = record { answers = h .answers; within = h .within; further = λ more. further e more (ltb from next) refl }
 
-  pub block-full : 180272 - 90136 < filled → RunsBlock script w lent from w′ lent′ next block filled
+  pub block-full : blockRoom - lineRoom < filled → RunsBlock script w lent from w′ lent′ next block filled
   block-full f = ended (inr (omega arith))
 
   pub block-last : (found : NextLine) → Reaches (length script) next found → found ≡ NextLine.None

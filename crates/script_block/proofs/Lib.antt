@@ -1,3 +1,4 @@
--- How long an answer is at most, and what a block has as lines run.
+-- How long an answer is at most, what a block has as lines run, and what the blocks of a script are.
 mod Longest
 mod Gathering
+pub mod Whole

@@ -7,7 +7,7 @@ use mathlib.Core.Option.{Option, none, some}
 use mathlib.Core.List.{List, [], _∷_, _++_}
 use native.Mathlib.Omega.{arith}
 use lib.ListN.{length, take, drop, getD, length-append, length-take, length-drop}
-use lib.Dec.{lit<, leb, eqb}
+use lib.Dec.{leb, eqb}
 use borrow.Author.Tests.{leb-true}
 use Rattle.model.specs.declared.State.{State}
 use Rattle.model.specs.declared.Error.{Error}
@@ -27,31 +27,11 @@ use Rattle.model.specs.Walk as walk
 use Rattle.model.specs.Sequences.{Call, World, Outcome, perform, kept, left}
 use Rattle.model.specs.Sequences as sequences
 use Rattle.script.specs.declared.line.Command.{Command}
-use Rattle.script.specs.Numbers.{decimal}
-use Rattle.script.specs.Lines.{space, lineFeed, command}
-use Rattle.script.specs.Answers.{spaced, answerLine, badLine}
+use Rattle.script.specs.Lines.{command}
+use Rattle.script.specs.Answers.{badLine}
 use Rattle.script.specs.Program.{answered, handedOut, runCommand, runLine}
-use Rattle.script.proofs.Digits.{decimal-one, decimal-few}
-use Rattle.script.proofs.Answering.{number-line}
-use Rattle.script_run.specs.Runs.{lineRoom}
-
-spaced-few : (values : List ℕ) → length (spaced values) ≤ length values * 11
-unfolding spaced
-spaced-few [] = omega arith
-spaced-few (value ∷ values) =
-    omega (arith, length-append (space ∷ decimal value) (spaced values), decimal-few value, spaced-few values)
-
-line-few : (number : ℕ) (values : List ℕ) → length values ≤ 8194 → length (answerLine number values) ≤ lineRoom
-unfolding answerLine
-line-few zero values h =
-    omega (
-      arith,
-      length-append (decimal 0 ++ spaced values) (lineFeed ∷ []),
-      length-append (decimal 0) (spaced values),
-      ap length (decimal-one 0 (lit< tt)),
-      spaced-few values,
-    )
-line-few (suc number) values h = omega (arith, length-append (decimal (suc number)) (lineFeed ∷ []), decimal-few (suc number))
+use Rattle.script_calls.proofs.Room.{line-few}
+use Rattle.script_run.specs.Runs.{pairRoom, lineRoom}
 
 -- every reply has at most two values
 
@@ -174,7 +154,7 @@ module _ (w : World) (lent : List ℕ) where
   unfolding answered
   few o h = line-few (o .reply .number) (o .reply .values) (omega arith)
 
-  handed-few : (o : Outcome) → length (o .reply .values) ≤ 2 → length (o .lent) ≤ 8192
+  handed-few : (o : Outcome) → length (o .reply .values) ≤ 2 → length (o .lent) ≤ pairRoom
       → length (handedOut w o .written) ≤ lineRoom
   unfolding handedOut
   handed-few o h k =
@@ -185,7 +165,7 @@ module _ (w : World) (lent : List ℕ) where
         length-take (getD (o .reply .values) 1 0 * 2) (o .lent),
       ))
 
-  command-fits : (c : Command) → length lent ≤ 8192 → length (runCommand w lent c .written) ≤ lineRoom
+  command-fits : (c : Command) → length lent ≤ pairRoom → length (runCommand w lent c .written) ≤ lineRoom
   unfolding runCommand perform kept answered handedOut
   command-fits Command.Bad h = line-few badLine [] (omega arith)
   command-fits (Command.Init capacity size) h =
@@ -219,7 +199,7 @@ module _ (w : World) (lent : List ℕ) where
             (scan-long (w .state) (w .entries) lent cursor (w .first) (w .second)),
       ))
 
-  pub written-fits : (line : List ℕ) → length lent ≤ 8192 → length (runLine w lent line .written) ≤ lineRoom
+  pub written-fits : (line : List ℕ) → length lent ≤ pairRoom → length (runLine w lent line .written) ≤ lineRoom
   unfolding runLine
   written-fits line h = command-fits (command line) h
 

@@ -1,12 +1,16 @@
 -- A script's answers in blocks: what a block has, and what is then still to be written.
 use Prim.Native.Nat.{ℕ, suc, _+_, _-_, _≤_, _<_}
 use mathlib.Core.Path.{_≡_}
-use mathlib.Core.List.{List, _∷_, _++_}
+use mathlib.Core.List.{List, [], _∷_, _++_}
 use lib.ListN.{length, take, drop}
 use Rattle.model.specs.Sequences.{World}
 use Rattle.script.specs.Lines.{linesOf}
 use Rattle.script.specs.Program.{Ran, runLines}
-use Rattle.script_run.specs.Runs.{lineRoom}
+use Rattle.script_run.specs.Runs.{pairRoom, lineRoom}
+
+-- the block has room for two of the longest answers
+abbrev pub blockRoom : ℕ
+blockRoom = lineRoom + lineRoom
 
 -- the answers to the lines of a script from a place on
 unfoldable pub answersFrom : World → List ℕ → List ℕ → ℕ → List ℕ
@@ -20,6 +24,13 @@ pub record RunsBlock (script : List ℕ) (w : World) (lent : List ℕ) (from : �
   pub within : filled ≤ length block
   pub further : from < length script → from < next
 
+-- What a program writes that takes block after block until the script is used up.
+pub data Blocks (script : List ℕ) : World → List ℕ → ℕ → List ℕ → Type 0 where
+  done : {w : World} {lent : List ℕ} {from : ℕ} → length script ≤ from → Blocks script w lent from []
+  more : {w : World} {lent : List ℕ} {from : ℕ} {after : World} {handed : List ℕ} {next : ℕ} {rest : List ℕ}
+      (block : List ℕ) (filled : ℕ) → RunsBlock script w lent from after handed next block filled
+      → Blocks script after handed next rest → Blocks script w lent from (take filled block ++ rest)
+
 -- The line that starts at a place ends at another, and the next one starts behind that.
 pub record LineAt (script : List ℕ) (from end : ℕ) : Type 0 where
   pub lines : linesOf (drop from script) ≡ take (end - from) (drop from script) ∷ linesOf (drop (suc end) script)
@@ -29,7 +40,7 @@ pub record LineAt (script : List ℕ) (from end : ℕ) : Type 0 where
 -- There is room in the block for the longest answer, and a walk call is lent no more than that is long for.
 pub record Room (block : List ℕ) (filled : ℕ) (lent : List ℕ) : Type 0 where
   pub answer : filled + lineRoom ≤ length block
-  pub pairs : length lent ≤ 8192
+  pub pairs : length lent ≤ pairRoom
 
 -- A line has run: the world and the lent list are as it leaves them, and its answer, so many bytes, is in the block behind
 -- those that it had.

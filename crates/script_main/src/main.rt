@@ -22,7 +22,7 @@ fn write_front(block: &[u8], filled: usize) -> bool
 {
     let is_written = io::write_all(STDOUT_FILENO, &block[..filled]);
     if !is_written {
-        os::fail(&[b'w', b'r', b'i', b't', b'e']);
+        os::fail(b"write");
     }
     is_written
 }
@@ -70,11 +70,11 @@ fn main() {
     let mut text = [0u8; LONGEST_SCRIPT + 1];
     let length = io::read_full(STDIN_FILENO, &mut text);
     if os::errno() != 0 {
-        os::fail(&[b'r', b'e', b'a', b'd']);
+        os::fail(b"read");
         return;
     }
     if LONGEST_SCRIPT < length {
-        io::write_all(STDOUT_FILENO, &[b'1', b'0', b'\n']);
+        write_front(b"10\n", 3);
         return;
     }
     run_script(&text[..length]);

@@ -5,13 +5,14 @@ use mathlib.Core.Path.{_≡_, refl, sym, ap, _∙_, subst}
 use mathlib.Core.List.{List, []}
 use native.Mathlib.Omega.{arith}
 use lib.ListN.{length}
+use Rattle.model.specs.declared.State.{State}
 use Rattle.model.specs.Sequences.{Call, World, perform}
 use Rattle.script.specs.declared.line.Command.{Command}
 use Rattle.script.specs.Lines.{command}
-use Rattle.script.specs.Answers.{answerLine, badLine, Wrote}
+use Rattle.script.specs.Answers.{badLine}
 use Rattle.script.specs.Program.{Ran, answered, handedOut, runCommand, runLine}
-use Rattle.script_run.specs.Runs.{lineRoom, Answers, Runs}
-use Rattle.script_run.proofs.Running.{number-room}
+use Rattle.script_calls.specs.Calls.{Told, Answers}
+use Rattle.script_run.specs.Runs.{lineRoom, worldOf, Runs}
 
 module _ (w : World) (lent line : List ℕ) (c : Command) (e : c ≡ command line) (w′ : World) (before out : List ℕ) (n : ℕ) where
   runs : (k : Command) (ran : Ran) (lent′ : List ℕ) → c ≡ k → ran ≡ runCommand w lent k → Runs ran w′ lent′ before out n
@@ -67,10 +68,13 @@ module _ (w : World) (lent line : List ℕ) (c : Command) (e : c ≡ command lin
   unfolding runCommand
   scan-runs cursor lent′ h r = runs (Command.Scan cursor) (handedOut w (perform w (Call.scan cursor lent))) lent′ h refl r
 
-module _ (w : World) (lent line : List ℕ) (c : Command) (e : c ≡ command line) where
-  pub bad-runs : (before out : List ℕ) (n : ℕ) → c ≡ Command.Bad → Wrote before 0 (answerLine 10 []) out n
-      → Runs (runLine w lent line) w lent before out n
+module _ (s : State) (first second entries lent line : List ℕ) (c : Command) (e : c ≡ command line) where
+  abbrev w : World
+  w = worldOf s first second entries
+
+  pub bad-runs : (u : State) (before out : List ℕ) (n : ℕ) → c ≡ Command.Bad → Told 10 [] s before out u n
+      → Runs (runLine w lent line) (worldOf u first second entries) lent before out n
   unfolding runCommand badLine
-  bad-runs before out n h l =
-      runs w lent line c e w before out n Command.Bad (runCommand w lent Command.Bad) lent h refl
-      (record { line = l; world = refl; handed = refl })
+  bad-runs u before out n h l =
+      runs w lent line c e (worldOf u first second entries) before out n Command.Bad (runCommand w lent Command.Bad) lent h refl
+      (record { line = l .line; world = ap (λ (t : State). worldOf t first second entries) (l .state); handed = refl })

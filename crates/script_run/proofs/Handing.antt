@@ -21,8 +21,10 @@ use Rattle.model.specs.Sequences.{Call, World, Outcome, perform, carry, carried
 use Rattle.model.specs.Sequences as sequences
 use Rattle.script.specs.Answers.{answerLine, Wrote}
 use Rattle.script.specs.Program.{handedOut}
-use Rattle.script_run.specs.Runs.{lineRoom, worldOf, Runs}
-use Rattle.script_run.proofs.Running.{result-fits, refused-line, refused-state}
+use Rattle.script_calls.specs.Calls.{Told}
+use Rattle.script_run.specs.Runs.{pairRoom, lineRoom, worldOf, Runs}
+use Rattle.script_calls.proofs.Room.{result-fits}
+use Rattle.script_calls.proofs.Running.{refused}
 
 -- the keys that are handed out have two places each
 Fit : ℕ → Handed → Type 0
@@ -78,36 +80,40 @@ module _ (s : State) (first second entries lent : List ℕ) (cursor : ℕ) (a : 
     pub pairs-taken : keys * 2 ≡ length (take (keys * 2) lent′)
     pairs-taken = sym (length-take-le (keys * 2) lent′ pairs-fit)
 
-    pub pairs-room : (out : List ℕ) → lineRoom ≤ length out → length lent ≤ 8192
+    pub pairs-room : (out : List ℕ) → lineRoom ≤ length out → length lent ≤ pairRoom
         → length (answerLine 0 (next ∷ keys ∷ take (keys * 2) lent′)) ≤ length out
     pairs-room out r l =
         result-fits out (next ∷ keys ∷ []) (take (keys * 2) lent′) r (omega (arith, pairs-taken, keys-fit))
 
-  module _ (before out : List ℕ) (n : ℕ) where
-    abbrev Done : Outcome → Type 0
-    Done o = Runs (handedOut w o) w lent′ before out n
+  module _ (before out : List ℕ) (u : State) (n : ℕ) where
+    -- what is told of an answer and the keys that it hands out
+    Tells : ScanAnswer → Type 0
+    Tells b = let o = sequences.handedOut w (Handed.handed b lent′) in
+        Told (o .reply .number) (o .reply .values ++ take (getD (o .reply .values) 1 0 * 2) lent′)
+        (carry w o .state) before out u n
+
+    runs : (b : ScanAnswer) → a ≡ b → Tells b
+        → Runs (handedOut w (perform w (Call.scan cursor lent))) (worldOf u first second entries) lent′ before out n
+    unfolding Tells handedOut sequences.handedOut carry
+    runs b h l =
+        subst (λ (o : Outcome). Runs (handedOut w o) (worldOf u first second entries) lent′ before out n)
+        (ap (λ (k : ScanAnswer). sequences.handedOut w (Handed.handed k lent′)) (sym h) ∙ outcome)
+        (record { line = l .line; world = ap (λ (t : State). worldOf t first second entries) (l .state); handed = refl })
 
     pub scan-done : (next keys : ℕ) → a ≡ ScanAnswer.Scanned next keys
-        → Wrote before 0 (answerLine 0 (next ∷ keys ∷ take (keys * 2) lent′)) out n → Done (perform w (Call.scan cursor lent))
-    unfolding handedOut sequences.handedOut scanReply carry carriedState
-    scan-done next keys h l =
-        subst Done (ap (λ (b : ScanAnswer). sequences.handedOut w (Handed.handed b lent′)) (sym h) ∙ outcome)
-        (record { line = l; world = refl; handed = refl })
+        → Told 0 (next ∷ keys ∷ take (keys * 2) lent′) s before out u n
+        → Runs (handedOut w (perform w (Call.scan cursor lent))) (worldOf u first second entries) lent′ before out n
+    unfolding Tells sequences.handedOut scanReply carry carriedState
+    scan-done next keys h l = runs (ScanAnswer.Scanned next keys) h l
 
-    pub scan-short : (keys : ℕ) → a ≡ ScanAnswer.Short keys → Wrote before 0 (answerLine 9 []) out n
-        → Done (perform w (Call.scan cursor lent))
-    unfolding handedOut sequences.handedOut scanReply carry carriedState shortNumber answerLine
-    scan-short keys h l =
-        subst Done (ap (λ (b : ScanAnswer). sequences.handedOut w (Handed.handed b lent′)) (sym h) ∙ outcome)
-        (record { line = l; world = refl; handed = refl })
+    pub scan-short : (keys : ℕ) → a ≡ ScanAnswer.Short keys → Told 9 [] s before out u n
+        → Runs (handedOut w (perform w (Call.scan cursor lent))) (worldOf u first second entries) lent′ before out n
+    unfolding Tells sequences.handedOut scanReply carry carriedState shortNumber answerLine
+    scan-short keys h l = runs (ScanAnswer.Short keys) h (record { line = l .line; state = l .state })
 
-    pub scan-refused : (e : Error) → a ≡ ScanAnswer.Refused e → Wrote before 0 (answerLine (errorNumber e) []) out n
-        → Done (perform w (Call.scan cursor lent))
-    unfolding handedOut sequences.handedOut scanReply carry
+    pub scan-refused : (e : Error) → a ≡ ScanAnswer.Refused e → Told (errorNumber e) [] s before out u n
+        → Runs (handedOut w (perform w (Call.scan cursor lent))) (worldOf u first second entries) lent′ before out n
+    unfolding Tells sequences.handedOut scanReply carry
     scan-refused e h l =
-        subst Done (ap (λ (b : ScanAnswer). sequences.handedOut w (Handed.handed b lent′)) (sym h) ∙ outcome)
-        (record {
-          line = rw (refused-line e ((0 ∷ 0 ∷ []) ++ take (0 * 2) lent′)) at l;
-          world = ap (λ (t : State). worldOf t first second entries) (refused-state e s s);
-          handed = refl;
-        })
+        runs (ScanAnswer.Refused e) h
+        (refused s first second entries before out u n e ((0 ∷ 0 ∷ []) ++ take (0 * 2) lent′) s l)

@@ -1,13 +1,9 @@
 -- `script_run::run_line` meets its contract: each command is a clause of the definition.
 -- Assumes nothing.
 use borrow.Author.Needs.{needs}
-use Rattle.script_run.proofs.Running.{number-room}
 use Rattle.script_run.proofs.Commands.{bad-runs, init-runs, add-runs, update-runs, delete-runs, find-runs, resize-runs, step-runs, scan-runs}
 use Rattle.script_run.proofs.run_line.Statement.{statement}
 use Rattle.script_run.proofs.run_line.Tie as tie
-
-write-number-line-requires : tie.Need-write-number-line-requires
-write-number-line-requires c κs = search number-room
 
 returns : tie.Need-returns
 returns c = search bad-runs
@@ -42,7 +38,7 @@ run-line-spec =
     (tie.spec
     (λ c κs. search needs)
     (λ c. search needs)
-    write-number-line-requires
+    (λ c κs. search needs)
     (λ c. search needs)
     (λ c κs. search needs)
     (λ c. search needs)

@@ -1,0 +1,264 @@
+// The rounds of each kind of work. A call that is refused adds nothing to the sum, and so shows in it.
+use crate::keys::key_at;
+use crate::keys::next_key;
+use crate::keys::next_place;
+use crate::keys::path_of;
+use crate::order::Work;
+use dict_add::add::add;
+use dict_find::find::find;
+use dict_scan::scan::scan;
+use dict_tables::init::init;
+use model::AddAnswer;
+use model::FindAnswer;
+use model::InitAnswer;
+use model::ScanAnswer;
+use model::State;
+use std::num::wrapping_add_u32;
+
+// A full store in a table of its own size: one key to a bucket, on the average.
+const CAPACITY: u32 = 4096;
+
+const SIZE: u32 = 4096;
+
+// What the first order of the keys and the first values are made of.
+const SEED: u32 = 123456789;
+
+// A walk over one table has as many calls as that has buckets. The loop counts them, since a proved loop has to end.
+const CALLS: usize = 4096;
+
+fn new_store(first: &mut [u32], second: &mut [u32], entries: &mut [u32]) -> State {
+    let answer = init(first, second, entries, CAPACITY, SIZE);
+    match answer {
+        InitAnswer::Ready(s) => s,
+        InitAnswer::Refused(_, s) => s,
+    }
+}
+
+// The same state as long as zero is 0, which it is: but no compiler knows that, so none can drop a test of a state whose
+// start it has seen. Where a caller keeps the state between calls none could either.
+fn hide(s: State, zero: u8) -> State {
+    let on = zero != 0;
+    let bits = zero as u32;
+    State {
+        second_is_current: s.second_is_current | on,
+        old_size: s.old_size ^ bits,
+        new_size: s.new_size ^ bits,
+        old_used: s.old_used ^ bits,
+        new_used: s.new_used ^ bits,
+        rehashing: s.rehashing | on,
+        rehash_index: s.rehash_index ^ bits,
+        free_head: s.free_head ^ bits,
+        capacity: s.capacity ^ bits,
+    }
+}
+
+fn add_key(
+    first: &mut [u32],
+    second: &mut [u32],
+    entries: &mut [u32],
+    s: State,
+    key: u32,
+    value: u32,
+) -> State {
+    let answer = add(first, second, entries, s, key, value);
+    match answer {
+        AddAnswer::Added(t) => t,
+        AddAnswer::Refused(_) => s,
+    }
+}
+
+// Every key in the seed's order, with values that count up from the seed: no two rounds are alike.
+fn add_all(
+    first: &mut [u32],
+    second: &mut [u32],
+    entries: &mut [u32],
+    keys: &[u32],
+    s: State,
+    seed: u32,
+) -> State {
+    let mut t = s;
+    let mut p = path_of(seed);
+    let mut value = seed;
+    let mut left = keys.len();
+    while 0 < left {
+        left -= 1;
+        t = add_key(first, second, entries, t, key_at(keys, p), value);
+        p = next_place(p);
+        value = wrapping_add_u32(value, 1);
+    }
+    t
+}
+
+fn fill(
+    first: &mut [u32],
+    second: &mut [u32],
+    entries: &mut [u32],
+    keys: &[u32],
+    seed: u32,
+    zero: u8,
+) -> State {
+    let s = hide(new_store(first, second, entries), zero);
+    add_all(first, second, entries, keys, s, seed)
+}
+
+// The sum, with the value of a key.
+fn find_key(first: &[u32], second: &[u32], entries: &[u32], s: State, key: u32, sum: u32) -> u32 {
+    let answer = find(first, second, entries, s, key);
+    match answer {
+        FindAnswer::Found(value) => wrapping_add_u32(sum, value),
+        FindAnswer::Refused(_) => sum,
+    }
+}
+
+// The sum, with the value of every key, in the seed's order.
+fn find_all(
+    first: &[u32],
+    second: &[u32],
+    entries: &[u32],
+    keys: &[u32],
+    s: State,
+    seed: u32,
+    sum: u32,
+) -> u32 {
+    let mut total = sum;
+    let mut p = path_of(seed);
+    let mut left = keys.len();
+    while 0 < left {
+        left -= 1;
+        total = find_key(first, second, entries, s, key_at(keys, p), total);
+        p = next_place(p);
+    }
+    total
+}
+
+// The sum, with all numbers of a list.
+fn sum_list(list: &[u32], sum: u32) -> u32 {
+    let mut total = sum;
+    for i in 0..list.len() {
+        total = wrapping_add_u32(total, list[i]);
+    }
+    total
+}
+
+// The sum, with the pairs at the front of a list. No call hands out more than the list has room for.
+fn sum_pairs(list: &[u32], count: u32, sum: u32) -> u32 {
+    let end = count as usize * 2;
+    if end <= list.len() {
+        sum_list(&list[0..end], sum)
+    } else {
+        sum
+    }
+}
+
+// Where a walk goes on, and the sum so far.
+struct Walk {
+    cursor: u32,
+    sum: u32,
+}
+
+// One walk call. A refused one ends the walk.
+fn walk_on(
+    first: &[u32],
+    second: &[u32],
+    entries: &[u32],
+    list: &mut [u32],
+    s: State,
+    w: Walk,
+) -> Walk {
+    let answer = scan(first, second, entries, list, s, w.cursor);
+    match answer {
+        ScanAnswer::Scanned(next, count) => {
+            let sum = sum_pairs(list, count, w.sum);
+            Walk { cursor: next, sum }
+        }
+        ScanAnswer::Short(_) => Walk {
+            cursor: 0,
+            sum: w.sum,
+        },
+        ScanAnswer::Refused(_) => Walk {
+            cursor: 0,
+            sum: w.sum,
+        },
+    }
+}
+
+// The sum, with every key and value that a whole walk hands out.
+fn walk_all(
+    first: &[u32],
+    second: &[u32],
+    entries: &[u32],
+    list: &mut [u32],
+    s: State,
+    sum: u32,
+) -> u32 {
+    let mut w = Walk { cursor: 0, sum };
+    let mut left = CALLS;
+    while 0 < left {
+        left -= 1;
+        w = walk_on(first, second, entries, list, s, w);
+        if w.cursor == 0 {
+            break;
+        }
+    }
+    w.sum
+}
+
+// What a round hands on to the next one.
+struct Round {
+    state: State,
+    sum: u32,
+}
+
+fn one_round(
+    first: &mut [u32],
+    second: &mut [u32],
+    entries: &mut [u32],
+    list: &mut [u32],
+    keys: &[u32],
+    work: Work,
+    before: Round,
+    seed: u32,
+    zero: u8,
+) -> Round {
+    let s = before.state;
+    let sum = before.sum;
+    match work {
+        Work::Adds => {
+            let state = fill(first, second, entries, keys, seed, zero);
+            Round { state, sum }
+        }
+        Work::Finds => {
+            let sum = find_all(first, second, entries, keys, s, seed, sum);
+            Round { state: s, sum }
+        }
+        Work::Walks => {
+            let sum = walk_all(first, second, entries, list, s, sum);
+            Round { state: s, sum }
+        }
+    }
+}
+
+// The rounds on a full store, each with a seed of its own, and then a walk, so that the sum also tells what the store
+// has come to hold.
+pub fn all_rounds(
+    first: &mut [u32],
+    second: &mut [u32],
+    entries: &mut [u32],
+    list: &mut [u32],
+    keys: &[u32],
+    work: Work,
+    rounds: u32,
+    zero: u8,
+) -> u32 {
+    let state = fill(first, second, entries, keys, SEED, zero);
+    let mut last = Round { state, sum: 0 };
+    let mut seed = SEED;
+    let mut left = rounds;
+    while 0 < left {
+        left -= 1;
+        seed = next_key(seed);
+        last = one_round(first, second, entries, list, keys, work, last, seed, zero);
+    }
+    let s = last.state;
+    walk_all(first, second, entries, list, s, last.sum)
+}

@@ -1,0 +1,430 @@
+//! The store of paper 01 in plain Rust: the same lent buffers, links and tests
+//! as the proved one, for the calls that are timed.
+
+pub const MAX_CAPACITY: u32 = 4096;
+pub const MAX_SIZE: u32 = 4096;
+
+/// The places of an entry's fields: link, key, value.
+const FIELDS: usize = 3;
+
+#[derive(Clone, Copy, Debug, Default, PartialEq, Eq)]
+pub struct State {
+    pub second_is_current: bool,
+    pub old_size: u32,
+    pub new_size: u32,
+    pub old_used: u32,
+    pub new_used: u32,
+    pub rehashing: bool,
+    pub rehash_index: u32,
+    pub free_head: u32,
+    pub capacity: u32,
+}
+
+#[derive(Clone, Copy, Debug, PartialEq, Eq)]
+pub enum Error {
+    BadState,
+    Damaged,
+    Absent,
+    Present,
+    Full,
+    BadSize,
+    /// A walk's list has too little room for this many keys.
+    Short(u32),
+}
+
+/// What a walk call answers beside the pairs in its list.
+#[derive(Clone, Copy, Debug, PartialEq, Eq)]
+pub struct Scanned {
+    pub next: u32,
+    pub count: u32,
+}
+
+pub struct Store<'a> {
+    pub state: State,
+    first: &'a mut [u32],
+    second: &'a mut [u32],
+    entries: &'a mut [u32],
+}
+
+/// One live table: its buckets, as many as its size, and the keys it holds.
+#[derive(Clone, Copy)]
+struct Table<'a> {
+    buckets: &'a [u32],
+    size: u32,
+    used: u32,
+}
+
+impl Table<'_> {
+    fn head(&self, hash: u32) -> u32 {
+        self.buckets[bucket(hash, self.size)]
+    }
+}
+
+fn is_legal_size(size: u32) -> bool {
+    size.is_power_of_two() && size <= MAX_SIZE
+}
+
+fn is_legal_capacity(capacity: u32) -> bool {
+    (1..=MAX_CAPACITY).contains(&capacity)
+}
+
+/// The bucket of a key, and of a cursor too: the hash of a key is the key.
+fn bucket(hash: u32, size: u32) -> usize {
+    (hash & (size - 1)) as usize
+}
+
+/// The cursor after `cursor` in a table of `size` buckets (a power of two).
+fn next_cursor(cursor: u32, size: u32) -> u32 {
+    let filled = cursor | !(size - 1);
+    filled.reverse_bits().wrapping_add(1).reverse_bits()
+}
+
+/// Where an entry begins; they are numbered from 1.
+fn start_of(entry: u32) -> usize {
+    (entry as usize - 1) * FIELDS
+}
+
+impl<'a> Store<'a> {
+    /// A store that is not started: every call refuses its state.
+    pub fn new(first: &'a mut [u32], second: &'a mut [u32], entries: &'a mut [u32]) -> Self {
+        Store {
+            state: State::default(),
+            first,
+            second,
+            entries,
+        }
+    }
+
+    pub fn init(&mut self, capacity: u32, size: u32) -> Result<(), Error> {
+        if !is_legal_capacity(capacity) || !is_legal_size(size) {
+            return Err(Error::BadSize);
+        }
+        let fields = capacity as usize * FIELDS;
+        if self.first.len() < size as usize || self.entries.len() < fields {
+            return Err(Error::BadState);
+        }
+        self.first[..size as usize].fill(0);
+        for (entry, link) in self.entries[..fields].chunks_exact_mut(FIELDS).zip(2..) {
+            entry.copy_from_slice(&[link, 0, 0]);
+        }
+        self.entries[fields - FIELDS] = 0;
+        self.state = State {
+            old_size: size,
+            free_head: 1,
+            capacity,
+            ..State::default()
+        };
+        Ok(())
+    }
+
+    pub fn find(&self, key: u32) -> Result<u32, Error> {
+        self.check_state()?;
+        match self.look_up(key)? {
+            Some(entry) => Ok(self.value(entry)),
+            None => Err(Error::Absent),
+        }
+    }
+
+    pub fn add(&mut self, key: u32, value: u32) -> Result<(), Error> {
+        self.check_state()?;
+        if self.look_up(key)?.is_some() {
+            return Err(Error::Present);
+        }
+        let State {
+            capacity,
+            free_head: free,
+            ..
+        } = self.state;
+        if self.state.old_used + self.state.new_used == capacity {
+            return Err(Error::Full);
+        }
+        if free == 0 {
+            return Err(Error::Damaged);
+        }
+        let next_free = self.link(free);
+        if next_free > capacity {
+            return Err(Error::Damaged);
+        }
+        self.push(free, key, value);
+        self.state.free_head = next_free;
+        Ok(())
+    }
+
+    /// One walk call. The pairs go to the front of `list`.
+    pub fn scan(&self, cursor: u32, list: &mut [u32]) -> Result<Scanned, Error> {
+        self.check_state()?;
+        let state = &self.state;
+        if state.old_used + state.new_used == 0 {
+            return Ok(Scanned { next: 0, count: 0 });
+        }
+        let old = self.old_table();
+        if !state.rehashing {
+            return self.scan_one(old, cursor, list);
+        }
+        let new = self.new_table();
+        if old.size < new.size {
+            self.scan_two(old, new, cursor, list)
+        } else {
+            self.scan_two(new, old, cursor, list)
+        }
+    }
+
+    fn scan_one(&self, table: Table, cursor: u32, list: &mut [u32]) -> Result<Scanned, Error> {
+        let head = table.head(cursor);
+        let count = self.chain_length(head, table.used)?;
+        if list.len() < count as usize * 2 {
+            return Err(Error::Short(count));
+        }
+        self.write_chain(head, list);
+        Ok(Scanned {
+            next: next_cursor(cursor, table.size),
+            count,
+        })
+    }
+
+    fn scan_two(
+        &self,
+        small: Table,
+        large: Table,
+        cursor: u32,
+        list: &mut [u32],
+    ) -> Result<Scanned, Error> {
+        let mut count = self.chain_length(small.head(cursor), small.used)?;
+        let mut at = cursor;
+        loop {
+            count += self.chain_length(large.head(at), large.used)?;
+            at = next_cursor(at, large.size);
+            if at < small.size {
+                break;
+            }
+        }
+        if list.len() < count as usize * 2 {
+            return Err(Error::Short(count));
+        }
+
+        let mut written = self.write_chain(small.head(cursor), list);
+        let mut at = cursor;
+        loop {
+            written += self.write_chain(large.head(at), &mut list[written..]);
+            at = next_cursor(at, large.size);
+            if at < small.size {
+                break;
+            }
+        }
+        Ok(Scanned { next: at, count })
+    }
+
+    /// The pairs of a tested chain to the front of `list`; answers how many
+    /// places they take.
+    fn write_chain(&self, head: u32, list: &mut [u32]) -> usize {
+        let mut at = head;
+        let mut to = 0;
+        while at != 0 {
+            list[to] = self.key(at);
+            list[to + 1] = self.value(at);
+            to += 2;
+            at = self.link(at);
+        }
+        to
+    }
+
+    /// A free entry to the head of the key's bucket.
+    fn push(&mut self, entry: u32, key: u32, value: u32) {
+        let state = &mut self.state;
+        let (size, used) = if state.rehashing {
+            (state.new_size, &mut state.new_used)
+        } else {
+            (state.old_size, &mut state.old_used)
+        };
+        *used += 1;
+        let buckets = if state.second_is_current != state.rehashing {
+            &mut self.second
+        } else {
+            &mut self.first
+        };
+        let head = &mut buckets[bucket(key, size)];
+        let start = start_of(entry);
+        self.entries[start..start + FIELDS].copy_from_slice(&[*head, key, value]);
+        *head = entry;
+    }
+
+    /// The first entry with the key, the old table's before the new one's.
+    /// Both chains are read to their ends.
+    fn look_up(&self, key: u32) -> Result<Option<u32>, Error> {
+        let old = self.search(self.old_table(), key)?;
+        if !self.state.rehashing {
+            return Ok(old);
+        }
+        let new = self.search(self.new_table(), key)?;
+        Ok(old.or(new))
+    }
+
+    fn search(&self, table: Table, key: u32) -> Result<Option<u32>, Error> {
+        let mut found = None;
+        let mut at = table.head(key);
+        let mut left = table.used;
+        while at != 0 {
+            if left == 0 || at > self.state.capacity {
+                return Err(Error::Damaged);
+            }
+            if found.is_none() && self.key(at) == key {
+                found = Some(at);
+            }
+            at = self.link(at);
+            left -= 1;
+        }
+        Ok(found)
+    }
+
+    fn chain_length(&self, head: u32, used: u32) -> Result<u32, Error> {
+        let mut count = 0;
+        let mut at = head;
+        while at != 0 {
+            if count == used || at > self.state.capacity {
+                return Err(Error::Damaged);
+            }
+            at = self.link(at);
+            count += 1;
+        }
+        Ok(count)
+    }
+
+    fn check_state(&self) -> Result<(), Error> {
+        if self.is_sound() {
+            Ok(())
+        } else {
+            Err(Error::BadState)
+        }
+    }
+
+    fn is_sound(&self) -> bool {
+        let state = &self.state;
+        let held = u64::from(state.old_used) + u64::from(state.new_used);
+        let (current, other) = self.buffers();
+        is_legal_capacity(state.capacity)
+            && state.capacity as usize * FIELDS <= self.entries.len()
+            && held <= u64::from(state.capacity)
+            && state.free_head <= state.capacity
+            && is_legal_size(state.old_size)
+            && state.old_size as usize <= current.len()
+            && if state.rehashing {
+                is_legal_size(state.new_size)
+                    && state.new_size as usize <= other.len()
+                    && state.old_size != state.new_size
+                    && state.rehash_index <= state.old_size
+            } else {
+                state.new_size == 0 && state.new_used == 0 && state.rehash_index == 0
+            }
+    }
+
+    /// The current bucket buffer and the other one.
+    fn buffers(&self) -> (&[u32], &[u32]) {
+        if self.state.second_is_current {
+            (self.second, self.first)
+        } else {
+            (self.first, self.second)
+        }
+    }
+
+    fn old_table(&self) -> Table<'_> {
+        Table {
+            buckets: self.buffers().0,
+            size: self.state.old_size,
+            used: self.state.old_used,
+        }
+    }
+
+    fn new_table(&self) -> Table<'_> {
+        Table {
+            buckets: self.buffers().1,
+            size: self.state.new_size,
+            used: self.state.new_used,
+        }
+    }
+
+    fn link(&self, entry: u32) -> u32 {
+        self.entries[start_of(entry)]
+    }
+
+    fn key(&self, entry: u32) -> u32 {
+        self.entries[start_of(entry) + 1]
+    }
+
+    fn value(&self, entry: u32) -> u32 {
+        self.entries[start_of(entry) + 2]
+    }
+}
+
+#[cfg(test)]
+mod tests {
+    use super::*;
+
+    const PAIRS: [u32; 6] = [9, 90, 5, 50, 1, 10];
+
+    /// Runs `test` on a store of capacity 8 and size 4 with three keys in one bucket.
+    fn with_store(test: impl FnOnce(&mut Store)) {
+        let (mut first, mut second, mut entries) = ([7; 4], [7; 8], [7; 24]);
+        let mut store = Store::new(&mut first, &mut second, &mut entries);
+        assert_eq!(store.find(1), Err(Error::BadState));
+        assert_eq!(store.init(8, 3), Err(Error::BadSize));
+        assert_eq!(store.init(9, 4), Err(Error::BadState));
+        assert_eq!(store.init(8, 4), Ok(()));
+        for (key, value) in [(1, 10), (5, 50), (9, 90)] {
+            assert_eq!(store.add(key, value), Ok(()));
+        }
+        test(&mut store);
+    }
+
+    #[test]
+    fn keys_are_found_and_handed_out() {
+        with_store(|store| {
+            assert_eq!(store.add(5, 0), Err(Error::Present));
+            assert_eq!(store.find(5), Ok(50));
+            assert_eq!(store.find(13), Err(Error::Absent));
+            let mut list = [0; 6];
+            let answer = Scanned { next: 3, count: 3 };
+            assert_eq!(store.scan(1, &mut list), Ok(answer));
+            assert_eq!(list, PAIRS);
+            assert_eq!(store.scan(1, &mut list[..5]), Err(Error::Short(3)));
+        });
+    }
+
+    #[test]
+    fn a_full_store_refuses() {
+        with_store(|store| {
+            for key in 20..25 {
+                assert_eq!(store.add(key, 0), Ok(()));
+            }
+            assert_eq!(store.add(30, 0), Err(Error::Full));
+        });
+    }
+
+    #[test]
+    fn a_chain_that_loops_is_damaged() {
+        with_store(|store| {
+            store.entries[start_of(1)] = 3;
+            assert_eq!(store.find(1), Err(Error::Damaged));
+            store.entries[start_of(1)] = 9;
+            assert_eq!(store.find(1), Err(Error::Damaged));
+            assert_eq!(store.find(2), Err(Error::Absent));
+        });
+    }
+
+    #[test]
+    fn two_tables_are_one_store() {
+        with_store(|store| {
+            store.second.fill(0);
+            store.state.new_size = 8;
+            store.state.rehashing = true;
+            assert_eq!(store.add(13, 130), Ok(()));
+            assert_eq!(store.state.new_used, 1);
+            assert_eq!(store.find(13), Ok(130));
+            assert_eq!(store.find(9), Ok(90));
+            let mut list = [0; 8];
+            let answer = Scanned { next: 3, count: 4 };
+            assert_eq!(store.scan(1, &mut list), Ok(answer));
+            assert_eq!(list[..6], PAIRS);
+            assert_eq!(list[6..], [13, 130]);
+        });
+    }
+}

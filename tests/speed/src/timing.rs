@@ -1,0 +1,211 @@
+//! Both programs as processes: first compared, then timed in turns.
+
+use crate::work::{Order, Work, KEYS};
+use std::fmt;
+use std::io::{self, Read, Write};
+use std::path::Path;
+use std::process::{Command, Stdio};
+use std::time::{Duration, Instant};
+
+/// How long one timed run should take, about.
+const RUN_TIME: Duration = Duration::from_millis(300);
+
+/// How many runs of each program are timed for each kind of work.
+const RUNS: usize = 11;
+
+/// How many runs find out how many rounds fill that time.
+const TRIALS: usize = 3;
+
+/// Rounds at which the sums are compared before anything is timed.
+const COMPARED: [u32; 6] = [0, 1, 2, 3, 10, 100];
+
+/// Orders that both programs refuse.
+const BAD: [&str; 8] = [
+    "",
+    "A",
+    "A ",
+    "X 1",
+    "A  1",
+    "A 1 ",
+    "A 4294967296",
+    "F 1\n\n",
+];
+
+pub enum Failure {
+    Differs(String),
+    Io(io::Error),
+}
+
+impl From<io::Error> for Failure {
+    fn from(error: io::Error) -> Self {
+        Failure::Io(error)
+    }
+}
+
+impl fmt::Display for Failure {
+    fn fmt(&self, f: &mut fmt::Formatter) -> fmt::Result {
+        match self {
+            Failure::Differs(difference) => f.write_str(difference),
+            Failure::Io(error) => error.fmt(f),
+        }
+    }
+}
+
+/// A program and the argument that makes it answer orders.
+pub struct Program<'a> {
+    pub path: &'a Path,
+    pub arguments: &'a [&'a str],
+}
+
+impl Program<'_> {
+    /// What the program writes for an order, and how long it ran.
+    fn run(&self, order: &str) -> Result<(String, Duration), Failure> {
+        let start = Instant::now();
+        let mut child = Command::new(self.path)
+            .args(self.arguments)
+            .stdin(Stdio::piped())
+            .stdout(Stdio::piped())
+            .spawn()?;
+        let mut input = child.stdin.take().expect("standard input is piped");
+        input.write_all(order.as_bytes())?;
+        drop(input);
+        let mut text = String::new();
+        let mut output = child.stdout.take().expect("standard output is piped");
+        output.read_to_string(&mut text)?;
+        let status = child.wait()?;
+        let time = start.elapsed();
+        if status.success() {
+            Ok((text, time))
+        } else {
+            let path = self.path.display();
+            Err(Failure::Differs(format!("{path} ends with {status}")))
+        }
+    }
+}
+
+/// The proved program and the plain one.
+pub struct Race<'a> {
+    pub proved: Program<'a>,
+    pub plain: Program<'a>,
+}
+
+/// The times of one kind of work, in turns.
+struct Times {
+    proved: Vec<Duration>,
+    plain: Vec<Duration>,
+}
+
+/// The median and the least of some times.
+struct Summary {
+    median: f64,
+    least: f64,
+}
+
+impl Summary {
+    /// In nanoseconds, divided by a number.
+    fn new(times: &[Duration], divisor: f64) -> Summary {
+        let mut sorted = times.to_vec();
+        sorted.sort();
+        let each = |time: Duration| time.as_secs_f64() * 1e9 / divisor;
+        Summary {
+            median: each(sorted[sorted.len() / 2]),
+            least: each(sorted[0]),
+        }
+    }
+}
+
+impl Race<'_> {
+    /// Compares both programs, then times them and prints a table.
+    pub fn run(&self) -> Result<(), Failure> {
+        self.compare()?;
+        println!("{KEYS} keys; median and least of {RUNS} runs of each program, in turns\n");
+        println!("| work | rounds | proved, ns | least | plain Rust, ns | least | ratio | of the least |");
+        println!("|---|---|---|---|---|---|---|---|");
+        for work in Work::ALL {
+            let rounds = self.rounds_for(work)?;
+            let times = self.time(Order { work, rounds }, RUNS)?;
+            let operations = f64::from(rounds) * f64::from(KEYS);
+            print_row(work.name(), rounds, &times, operations);
+        }
+        self.print_start()
+    }
+
+    /// A run of 0 rounds, whatever the work, which the times above contain:
+    /// the start of a process, one fill and one walk.
+    fn print_start(&self) -> Result<(), Failure> {
+        let (work, rounds) = (Work::Adds, 0);
+        let times = self.time(Order { work, rounds }, RUNS)?;
+        let milliseconds = 1e6;
+        let proved = Summary::new(&times.proved, milliseconds);
+        let plain = Summary::new(&times.plain, milliseconds);
+        println!(
+            "\n0 rounds: proved {:.2} ms, least {:.2}; plain Rust {:.2} ms, least {:.2}",
+            proved.median, proved.least, plain.median, plain.least,
+        );
+        Ok(())
+    }
+
+    /// Runs both on bad orders and on a few rounds of each kind of work.
+    pub fn compare(&self) -> Result<(), Failure> {
+        for bad in BAD {
+            self.time_once(bad)?;
+        }
+        for work in Work::ALL {
+            for rounds in COMPARED {
+                self.time_once(&Order { work, rounds }.to_string())?;
+            }
+        }
+        println!("speed: the sums agree");
+        Ok(())
+    }
+
+    /// One run of each. Their answers must be the same.
+    fn time_once(&self, order: &str) -> Result<(Duration, Duration), Failure> {
+        let (proved, proved_time) = self.proved.run(order)?;
+        let (plain, plain_time) = self.plain.run(order)?;
+        if proved == plain {
+            Ok((proved_time, plain_time))
+        } else {
+            let difference = format!("at {order:?}: proved {proved:?}, plain {plain:?}");
+            Err(Failure::Differs(difference))
+        }
+    }
+
+    /// As many rounds as take the slower program about the wanted time.
+    fn rounds_for(&self, work: Work) -> Result<u32, Failure> {
+        let mut rounds = 64;
+        loop {
+            let times = self.time(Order { work, rounds }, TRIALS)?;
+            let least = |times: &[Duration]| times.iter().min().copied().unwrap_or_default();
+            let time = least(&times.proved).max(least(&times.plain));
+            if time * 4 >= RUN_TIME {
+                let wanted = f64::from(rounds) * RUN_TIME.as_secs_f64() / time.as_secs_f64();
+                return Ok(wanted as u32);
+            }
+            rounds *= 2;
+        }
+    }
+
+    fn time(&self, order: Order, runs: usize) -> Result<Times, Failure> {
+        let text = order.to_string();
+        let pairs: Vec<_> = (0..runs)
+            .map(|_| self.time_once(&text))
+            .collect::<Result<_, _>>()?;
+        let (proved, plain) = pairs.into_iter().unzip();
+        Ok(Times { proved, plain })
+    }
+}
+
+fn print_row(name: &str, rounds: u32, times: &Times, operations: f64) {
+    let proved = Summary::new(&times.proved, operations);
+    let plain = Summary::new(&times.plain, operations);
+    println!(
+        "| {name} | {rounds} | {:.1} | {:.1} | {:.1} | {:.1} | {:.2} | {:.2} |",
+        proved.median,
+        proved.least,
+        plain.median,
+        plain.least,
+        proved.median / plain.median,
+        proved.least / plain.least,
+    );
+}

@@ -1,0 +1,224 @@
+//! The work that is timed, the same as that of the proved program
+//! (`crates/speed`): its orders, its keys, its rounds and its sums.
+
+use crate::store::{Scanned, Store};
+use std::fmt;
+use std::hint::black_box;
+
+/// As many keys as the store can hold, and as many buckets.
+pub const KEYS: u32 = 4096;
+
+/// What the first order of the keys and the first values are made of.
+const SEED: u32 = 123456789;
+
+/// The generator of Park and Miller, "minimal standard".
+const MULTIPLIER: u64 = 48271;
+const PRIME: u64 = 2147483647;
+
+#[derive(Clone, Copy, Debug, PartialEq, Eq)]
+pub enum Work {
+    Adds,
+    Finds,
+    Walks,
+}
+
+impl Work {
+    pub const ALL: [Work; 3] = [Work::Adds, Work::Finds, Work::Walks];
+
+    fn letter(self) -> char {
+        match self {
+            Work::Adds => 'A',
+            Work::Finds => 'F',
+            Work::Walks => 'W',
+        }
+    }
+
+    pub fn name(self) -> &'static str {
+        match self {
+            Work::Adds => "add",
+            Work::Finds => "find",
+            Work::Walks => "walk call",
+        }
+    }
+}
+
+#[derive(Clone, Copy, Debug, PartialEq, Eq)]
+pub struct Order {
+    pub work: Work,
+    pub rounds: u32,
+}
+
+impl fmt::Display for Order {
+    fn fmt(&self, f: &mut fmt::Formatter) -> fmt::Result {
+        write!(f, "{} {}", self.work.letter(), self.rounds)
+    }
+}
+
+impl Order {
+    fn parse(text: &str) -> Option<Order> {
+        let line = text.strip_suffix('\n').unwrap_or(text);
+        let (letter, digits) = line.split_once(' ')?;
+        let work = Work::ALL
+            .into_iter()
+            .find(|work| work.letter().to_string() == letter)?;
+        // `parse` alone would take a sign and any number of zeros.
+        let plain = digits.len() <= 10 && digits.bytes().all(|b| b.is_ascii_digit());
+        let rounds = digits.parse().ok().filter(|_| plain)?;
+        Some(Order { work, rounds })
+    }
+
+    fn run(self) -> u32 {
+        let size = KEYS as usize;
+        let (mut first, mut second) = (vec![0; size], vec![0; size]);
+        let (mut entries, mut list) = (vec![0; size * 3], vec![0; size * 2]);
+        let mut store = Store::new(&mut first, &mut second, &mut entries);
+        let keys: Vec<u32> = numbers(1).take(size).collect();
+
+        fill(&mut store, &keys, SEED);
+        let seeds = numbers(SEED).take(self.rounds as usize);
+        let sum = match self.work {
+            Work::Adds => {
+                seeds.for_each(|seed| fill(&mut store, &keys, seed));
+                0
+            }
+            Work::Finds => seeds.fold(0, |sum, seed| find_all(&store, &keys, seed, sum)),
+            Work::Walks => seeds.fold(0, |sum, _| walk_all(&store, &mut list, sum)),
+        };
+        // At the end the sum also tells what the store has come to hold.
+        walk_all(&store, &mut list, sum)
+    }
+}
+
+/// What the program writes for the text of an order.
+pub fn answer(text: &str) -> String {
+    match Order::parse(text) {
+        Some(order) => format!("{}\n", order.run()),
+        None => "bad order\n".to_string(),
+    }
+}
+
+/// The numbers that the generator makes after one of them.
+fn numbers(seed: u32) -> impl Iterator<Item = u32> {
+    let mut number = u64::from(seed);
+    std::iter::repeat_with(move || {
+        number = number * MULTIPLIER % PRIME;
+        number as u32
+    })
+}
+
+/// Every key once: from one place on, the same odd step again and again, both
+/// made of the seed.
+fn ordered(keys: &[u32], seed: u32) -> impl Iterator<Item = u32> + '_ {
+    let mut at = seed % KEYS;
+    let step = (seed / KEYS % KEYS) | 1;
+    keys.iter().map(move |_| {
+        let key = keys[at as usize];
+        at = (at + step) % KEYS;
+        key
+    })
+}
+
+/// A new store with every key, in the seed's order and with values that count
+/// up from the seed.
+fn fill(store: &mut Store, keys: &[u32], seed: u32) {
+    // A refusal shows in the sums. What the state holds is hidden from the
+    // compiler, as it is where a caller keeps it between calls.
+    let _ = store.init(KEYS, KEYS);
+    store.state = black_box(store.state);
+    let mut value = seed;
+    for key in ordered(keys, seed) {
+        let _ = store.add(key, value);
+        value = value.wrapping_add(1);
+    }
+}
+
+/// The sum, with the value of every key, in the seed's order.
+fn find_all(store: &Store, keys: &[u32], seed: u32, sum: u32) -> u32 {
+    ordered(keys, seed).fold(sum, |sum, key| match store.find(key) {
+        Ok(value) => sum.wrapping_add(value),
+        Err(_) => sum,
+    })
+}
+
+/// The sum, with every key and value that a whole walk hands out.
+fn walk_all(store: &Store, list: &mut [u32], sum: u32) -> u32 {
+    let mut total = sum;
+    let mut cursor = 0;
+    while let Ok(Scanned { next, count }) = store.scan(cursor, list) {
+        let pairs = &list[..count as usize * 2];
+        total = pairs.iter().fold(total, |sum, &n| sum.wrapping_add(n));
+        cursor = next;
+        if cursor == 0 {
+            break;
+        }
+    }
+    total
+}
+
+#[cfg(test)]
+mod tests {
+    use super::*;
+
+    #[test]
+    fn bad_orders_are_refused() {
+        for text in [
+            "",
+            "\n",
+            "A",
+            "A ",
+            "A  1",
+            "A 1 ",
+            "X 1",
+            "AA 1",
+            "A +1",
+            "A 1\n\n",
+            "A 4294967296",
+            "A 00000000001",
+        ] {
+            assert_eq!(Order::parse(text), None, "{text:?}");
+        }
+    }
+
+    #[test]
+    fn every_key_is_found_and_walked() {
+        let keys: Vec<u32> = numbers(1).take(KEYS as usize).collect();
+        let sum = |numbers: &[u32]| numbers.iter().fold(0, |sum: u32, n| sum.wrapping_add(*n));
+        let values: Vec<u32> = (SEED..SEED + KEYS).collect();
+        let both = sum(&keys).wrapping_add(sum(&values));
+        let twice = both.wrapping_add(both);
+        assert_eq!(answer("A 0"), format!("{both}\n"));
+        assert_eq!(answer("W 1\n"), format!("{twice}\n"));
+        let found = both.wrapping_add(sum(&values));
+        assert_eq!(answer("F 1"), format!("{found}\n"));
+    }
+
+    #[test]
+    fn an_order_has_every_key_once() {
+        let keys: Vec<u32> = numbers(1).take(KEYS as usize).collect();
+        let mut sorted = keys.clone();
+        sorted.sort();
+        for seed in numbers(SEED).take(100) {
+            let mut visited: Vec<u32> = ordered(&keys, seed).collect();
+            assert_ne!(visited, keys);
+            visited.sort();
+            assert_eq!(visited, sorted);
+        }
+    }
+
+    /// Chains as a random table has them: a third of the buckets are empty,
+    /// and a few have five keys or more.
+    #[test]
+    fn chains_have_many_lengths() {
+        let mut lengths = vec![0; KEYS as usize];
+        for key in numbers(1).take(KEYS as usize) {
+            lengths[(key % KEYS) as usize] += 1;
+        }
+        let count = |least, most| {
+            let within = lengths.iter().filter(|n| (least..=most).contains(*n));
+            within.count()
+        };
+        assert!((1400..1600).contains(&count(0, 0)));
+        assert!((1400..1600).contains(&count(1, 1)));
+        assert!((5..40).contains(&count(5, 4096)));
+    }
+}

@@ -11,7 +11,7 @@ use Rattle.script.specs.declared.line.Command.{Command}
 use Rattle.script.specs.Lines.{command, linesOf}
 use Rattle.script.specs.Answers.{answerLine, badLine}
 
--- what one line writes, and what it leaves: the world, and the list that walk calls are lent
+-- what a line or some lines write, and what they leave: the world, and the list that walk calls are lent
 pub record Ran : Type 0 where
   pub written : List ℕ
   pub world : World
@@ -47,9 +47,13 @@ runLine w lent line = runCommand w lent (command line)
 
 -- A script. Each line finds what the one before left.
 
-unfoldable pub runLines : World → List ℕ → List (List ℕ) → List ℕ
-runLines w lent [] = []
-runLines w lent (line ∷ lines) = let r = runLine w lent line in r .written ++ runLines (r .world) (r .lent) lines
+-- one thing run after another: both have written, and the second leaves what there is
+unfoldable pub andThen : Ran → Ran → Ran
+andThen r q = record { written = r .written ++ q .written; world = q .world; lent = q .lent }
+
+unfoldable pub runLines : World → List ℕ → List (List ℕ) → Ran
+runLines w lent [] = record { written = []; world = w; lent = lent }
+runLines w lent (line ∷ lines) = let r = runLine w lent line in andThen r (runLines (r .world) (r .lent) lines)
 
 unfoldable pub longestScript : ℕ
 longestScript = 65536
@@ -71,4 +75,4 @@ unfoldable pub runScript : List ℕ → List ℕ
 runScript script =
     cond (ltb longestScript (length script))
     (answerLine badLine [])
-    (runLines firstWorld (replicate (programRoom * 2) 0) (linesOf script))
+    (runLines firstWorld (replicate (programRoom * 2) 0) (linesOf script) .written)

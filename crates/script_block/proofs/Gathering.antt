@@ -19,10 +19,11 @@ use Rattle.script.specs.declared.line.NextLine.{NextLine}
 use Rattle.script.specs.Lines.{linesOf}
 use Rattle.script.specs.Answers.{put, Wrote}
 use Rattle.script.specs.Places.{linesFrom, Reaches}
-use Rattle.script.specs.Program.{Ran, runLine, runLines}
+use Rattle.script.specs.Program.{Ran, andThen, runLine, runLines}
 use Rattle.script_run.specs.Runs.{pairRoom, lineRoom, Runs}
-use Rattle.script_block.specs.Blocks.{blockRoom, answersFrom, Room, LineAt, RunsInto, RunsOne, RunsBlock}
-use Rattle.script_block.proofs.Longest.{written-fits, lent-long}
+use Rattle.script_block.specs.Blocks.{blockRoom, Room, LineAt, RunsInto, RunsBlock}
+use Rattle.script_block.proofs.Longest.{written-fits}
+use Rattle.script_block.proofs.Lines.{one-more}
 
 -- Bytes at the front of a buffer
 
@@ -97,40 +98,15 @@ module _ (block : List ℕ) (filled : ℕ) (lent : List ℕ) (room : Room block 
           lent = ran .handed;
         }
 
--- A line of a script
-
-module _ (script : List ℕ) (from end : ℕ) (line : LineAt script from end) where
-  rest : List (List ℕ)
-  rest = linesOf (drop (suc end) script)
-
-  module _ (w : World) (lent : List ℕ) (w′ : World) (lent′ before : List ℕ) (filled : ℕ) (block : List ℕ) (n : ℕ) where
-    joined : (ran : Ran) → RunsInto ran w′ lent′ before filled block n
-        → take filled before ++ (ran .written ++ runLines (ran .world) (ran .lent) rest)
-        ≡ take (filled + n) block ++ runLines w′ lent′ rest
-    joined ran a =
-        sym (append-assoc (take filled before) (ran .written) (runLines (ran .world) (ran .lent) rest))
-        ∙ ap (λ (l : List ℕ). l ++ runLines (ran .world) (ran .lent) rest) (sym (a .answer))
-        ∙ ap (λ (v : World). take (filled + n) block ++ runLines v (ran .lent) rest) (sym (a .world))
-        ∙ ap (λ (l : List ℕ). take (filled + n) block ++ runLines w′ l rest) (sym (a .lent))
-
-    pub ran-one : RunsInto (runLine w lent (take (end - from) (drop from script))) w′ lent′ before filled block n
-        → RunsOne script w lent from end before filled w′ lent′ block n
-    unfolding answersFrom runLines rest
-    ran-one a =
-        record {
-          answers =
-              ap (λ (ls : List (List ℕ)). take filled before ++ runLines w lent ls) (line .lines)
-              ∙ joined (runLine w lent (take (end - from) (drop from script))) a
-              ∙ ap (λ (k : ℕ). take (filled + n) block ++ runLines w′ lent′ (linesOf (drop k script))) (sym (add-one end));
-          within = a .within;
-          short = a .short;
-        }
-
 -- Lines, one a turn
 
 pub record Gathering (script : List ℕ) (w : World) (lent : List ℕ) (from : ℕ) (w′ : World) (lent′ block : List ℕ) (next filled : ℕ)
     : Type 0 where
-  pub answers : answersFrom w lent script from ≡ take filled block ++ answersFrom w′ lent′ script next
+  pub lines : List (List ℕ)
+  pub rest : linesOf (drop from script) ≡ lines ++ linesOf (drop next script)
+  pub answers : take filled block ≡ runLines w lent lines .written
+  pub world : w′ ≡ runLines w lent lines .world
+  pub list : lent′ ≡ runLines w lent lines .lent
   pub within : filled ≤ length block
   pub first : length (w′ .first) ≡ length (w .first)
   pub second : length (w′ .second) ≡ length (w .second)
@@ -141,9 +117,14 @@ pub record Gathering (script : List ℕ) (w : World) (lent : List ℕ) (from : �
 
 pub gathering-start : (script : List ℕ) (w : World) (lent : List ℕ) (from : ℕ) (block : List ℕ) → length script * 1 < 2 ^ 63
     → Gathering script w lent from w lent block from 0
+unfolding runLines
 gathering-start script w lent from block b =
     record {
+      lines = [];
+      rest = refl;
       answers = refl;
+      world = refl;
+      list = refl;
       within = omega arith;
       first = refl;
       second = refl;
@@ -178,7 +159,16 @@ module _ (script : List ℕ) (w : World) (lent : List ℕ) (from : ℕ) (w′ : 
   further (inr e) more false t = absurd (omega (arith, h .idle (omega (arith, h .reached, ltb-false from next t))))
 
   ended : (length script ≤ next) ⊎ (0 < filled) → RunsBlock script w lent from w′ lent′ next block filled
-  ended e = record { answers = h .answers; within = h .within; further = λ more. further e more (ltb from next) refl }
+  ended e =
+      record {
+        lines = h .lines;
+        rest = h .rest;
+        answers = h .answers;
+        world = h .world;
+        list = h .list;
+        within = h .within;
+        further = λ more. further e more (ltb from next) refl;
+      }
 
   pub block-full : blockRoom - lineRoom < filled → RunsBlock script w lent from w′ lent′ next block filled
   block-full f = ended (inr (omega arith))
@@ -192,19 +182,39 @@ module _ (script : List ℕ) (w : World) (lent : List ℕ) (from : ℕ) (w′ : 
     pub next-fits : Fits w64 (end + 1)
     next-fits = omega (arith, ends script next found end reaches e .1, h .bounded)
 
-    pub gathering-next : (w″ : World) (lent″ block″ : List ℕ) (n : ℕ)
-        → RunsOne script w′ lent′ next end block filled w″ lent″ block″ n
+    pub gathering-next : linesOf (drop next script) ≡ linesFrom script next found → (w″ : World) (lent″ block″ : List ℕ) (n : ℕ)
+        → RunsInto (runLine w′ lent′ (take (end - next) (drop next script))) w″ lent″ block filled block″ n
         → length (w″ .first) ≡ length (w′ .first) → length (w″ .second) ≡ length (w′ .second)
         → length (w″ .entries) ≡ length (w′ .entries) → Gathering script w lent from w″ lent″ block″ (end + 1) (filled + n)
-    gathering-next w″ lent″ block″ n one f s e′ =
-        let r = ends script next found end reaches e .0 in
+    unfolding andThen
+    gathering-next at w″ lent″ block″ n one f s e′ =
+        let line = take (end - next) (drop next script) in
+        let r = runLines w lent (h .lines) in
+        let q = runLine (r .world) (r .lent) line in
+        let behind = linesOf (drop (end + 1) script) in
+        let ran : RunsInto q w″ lent″ block filled block″ n =
+        subst (λ (l : List ℕ). RunsInto (runLine (r .world) l line) w″ lent″ block filled block″ n) (h .list)
+        (subst (λ (v : World). RunsInto (runLine v lent′ line) w″ lent″ block filled block″ n) (h .world) one)
+        in
+        let all : andThen r q ≡ runLines w lent (h .lines ++ line ∷ []) = one-more w lent (h .lines) line in
         record {
-          answers = h .answers ∙ one .answers;
+          lines = h .lines ++ line ∷ [];
+          rest =
+              h .rest
+              ∙ ap (λ (ls : List (List ℕ)). h .lines ++ ls)
+              (line-at script next found end reaches e at .lines
+              ∙ ap (λ (k : ℕ). line ∷ linesOf (drop k script)) (sym (add-one end)))
+              ∙ sym (append-assoc (h .lines) (line ∷ []) behind);
+          answers =
+              ran .answer ∙ ap (λ (l : List ℕ). l ++ q .written) (h .answers)
+              ∙ ap (λ (a : Ran). a .written) all;
+          world = ran .world ∙ ap (λ (a : Ran). a .world) all;
+          list = ran .lent ∙ ap (λ (a : Ran). a .lent) all;
           within = one .within;
           first = f ∙ h .first;
           second = s ∙ h .second;
           entries = e′ ∙ h .entries;
           bounded = h .bounded;
-          reached = omega (arith, h .reached);
-          idle = λ k. absurd (omega (arith, h .reached));
+          reached = omega (arith, h .reached, ends script next found end reaches e .0);
+          idle = λ k. absurd (omega (arith, h .reached, ends script next found end reaches e .0));
         }

@@ -202,21 +202,3 @@ module _ (w : World) (lent : List ℕ) where
   pub written-fits : (line : List ℕ) → length lent ≤ pairRoom → length (runLine w lent line .written) ≤ lineRoom
   unfolding runLine
   written-fits line h = command-fits (command line) h
-
-  command-long : (c : Command) → length (runCommand w lent c .lent) ≡ length lent
-  unfolding runCommand perform answered handedOut
-  command-long Command.Bad = refl
-  command-long (Command.Init capacity size) = refl
-  command-long (Command.Add key value) = refl
-  command-long (Command.Update key value) = refl
-  command-long (Command.Delete key) = refl
-  command-long (Command.Find key) = refl
-  command-long (Command.Resize size) = refl
-  command-long Command.RehashStep = refl
-  command-long (Command.Scan cursor) =
-      walked-long (length lent) w (walk.scan (w .state) (w .first) (w .second) (w .entries) lent cursor)
-      (scan-long (w .state) (w .entries) lent cursor (w .first) (w .second))
-
-  pub lent-long : (line : List ℕ) → length (runLine w lent line .lent) ≡ length lent
-  unfolding runLine
-  lent-long line = command-long (command line)

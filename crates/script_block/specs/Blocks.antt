@@ -12,15 +12,16 @@ use Rattle.script_run.specs.Runs.{pairRoom, lineRoom}
 abbrev pub blockRoom : ℕ
 blockRoom = lineRoom + lineRoom
 
--- the answers to the lines of a script from a place on
-unfoldable pub answersFrom : World → List ℕ → List ℕ → ℕ → List ℕ
-answersFrom w lent script from = runLines w lent (linesOf (drop from script))
-
--- Some lines have run, and their answers stand in the block, from its front. What the block has and what is still to be
--- written are the answers that were due; if there was a line, one has run.
+-- Some lines of the script have run, and their answers stand in the block, from its front: what the block has there, the
+-- world and the list that walk calls are lent are what those lines write and leave. If there was a line, one has run.
+-- What the block has behind the answers is left free.
 pub record RunsBlock (script : List ℕ) (w : World) (lent : List ℕ) (from : ℕ) (after : World) (handed : List ℕ) (next : ℕ)
     (block : List ℕ) (filled : ℕ) : Type 0 where
-  pub answers : answersFrom w lent script from ≡ take filled block ++ answersFrom after handed script next
+  pub lines : List (List ℕ)
+  pub rest : linesOf (drop from script) ≡ lines ++ linesOf (drop next script)
+  pub answers : take filled block ≡ runLines w lent lines .written
+  pub world : after ≡ runLines w lent lines .world
+  pub list : handed ≡ runLines w lent lines .lent
   pub within : filled ≤ length block
   pub further : from < length script → from < next
 
@@ -50,11 +51,3 @@ pub record RunsInto (ran : Ran) (after : World) (handed before : List ℕ) (fill
   pub short : count ≤ lineRoom
   pub world : after ≡ ran .world
   pub lent : handed ≡ ran .lent
-
--- The same of a line of a script, from a place until another.
-pub record RunsOne (script : List ℕ) (w : World) (lent : List ℕ) (from end : ℕ) (before : List ℕ) (filled : ℕ) (after : World)
-    (handed block : List ℕ) (count : ℕ) : Type 0 where
-  pub answers :
-      take filled before ++ answersFrom w lent script from ≡ take (filled + count) block ++ answersFrom after handed script (end + 1)
-  pub within : filled + count ≤ length block
-  pub short : count ≤ lineRoom

@@ -6,9 +6,11 @@ use script_run::LINE_ROOM;
 use script_run::LineAnswer;
 use script_run::PAIR_ROOM;
 use script_run::run_line;
+ghost use Prim.Native.Nat.{_-_};
+ghost use lib.ListN.{take, drop};
 ghost use Rattle.script.specs.Program.{runLine};
 ghost use Rattle.script_run.specs.Runs.{worldOf};
-ghost use Rattle.script_block.specs.Blocks.{Room, LineAt, RunsInto, RunsOne, RunsBlock};
+ghost use Rattle.script_block.specs.Blocks.{Room, LineAt, RunsInto, RunsBlock};
 
 // The bytes of a block: two of the longest answers. A line runs while there is room for the longest, so a block that is
 // written before the script ends is at least half full.
@@ -56,9 +58,11 @@ fn run_one(
 ) -> LineAnswer
     requires { ⌜ Room (now block) filled (now pairs) ⌝ }
     requires { ⌜ LineAt (now script) from end ⌝ }
-    ensures { λ r. ⌜ RunsOne (now (script .entry))
-        (worldOf s (now (first .entry)) (now (second .entry)) (now (entries .entry))) (now (pairs .entry)) from end (now (block .entry)) filled
-        (worldOf (r .state) (now (first .exit)) (now (second .exit)) (now (entries .exit))) (now (pairs .exit)) (now (block .exit)) (r .length) ⌝ }
+    ensures { λ r. ⌜ RunsInto
+        (runLine (worldOf s (now (first .entry)) (now (second .entry)) (now (entries .entry))) (now (pairs .entry))
+        (take (end - from) (drop from (now (script .entry)))))
+        (worldOf (r .state) (now (first .exit)) (now (second .exit)) (now (entries .exit))) (now (pairs .exit))
+        (now (block .entry)) filled (now (block .exit)) (r .length) ⌝ }
 {
     run_into(
         first,

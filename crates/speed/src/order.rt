@@ -2,13 +2,13 @@
 use script::number::Number;
 use script::number::parse_number;
 
-pub enum Work {
+pub(crate) enum Work {
     Adds,
     Finds,
     Walks,
 }
 
-pub enum Order {
+pub(crate) enum Order {
     Bad,
     Repeat(Work, u32),
 }
@@ -38,7 +38,7 @@ fn parse_words(text: &[u8]) -> Order {
 }
 
 // The line feed may be left out.
-pub fn parse_order(text: &[u8]) -> Order {
+pub(crate) fn parse_order(text: &[u8]) -> Order {
     if text.len() == 0 {
         return Order::Bad;
     }

@@ -240,7 +240,7 @@ fn one_round(
 
 // The rounds on a full store, each with a seed of its own, and then a walk, so that the sum also tells what the store
 // has come to hold.
-pub fn all_rounds(
+pub(crate) fn all_rounds(
     first: &mut [u32],
     second: &mut [u32],
     entries: &mut [u32],

@@ -1,7 +1,7 @@
 -- What find answers, from the test of the state and the lookup.
 -- Assumes nothing.
 use Prim.Native.Nat.{ℕ}
-use mathlib.Core.Path.{_≡_, refl, sym, ap, _∙_}
+use mathlib.Core.Path.{_≡_, ap, _∙_}
 use mathlib.Core.Bool.{Bool, true, false}
 use mathlib.Core.List.{List}
 use lib.ListN.{length}
@@ -10,7 +10,7 @@ use Rattle.model.specs.declared.Error.{Error}
 use Rattle.model.specs.declared.Lookup.{Lookup}
 use Rattle.model.specs.declared.FindAnswer.{FindAnswer}
 use Rattle.model.specs.Memory.{soundState, valueOf}
-use Rattle.model.specs.Calls.{lookup, found, findIn, find, oriented}
+use Rattle.model.specs.Calls.{lookup, found, findIn}
 use Rattle.lookup.proofs.Tested.{tested}
 
 module _ (s : State) (current other entries : List ℕ) (key : ℕ) (t : Bool)

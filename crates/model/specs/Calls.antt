@@ -1,6 +1,6 @@
 -- Paper 01, "The calls": what each answers and leaves, for any state and any memory.
 use Prim.Native.Nat.{ℕ, zero, suc, _+_, _*_, _-_, _^_}
-use mathlib.Core.Bool.{Bool, true, false, _&&_, _||_, not, cond}
+use mathlib.Core.Bool.{Bool, true, false, _&&_, not, cond}
 use mathlib.Core.List.{List, [], _∷_, _++_}
 use mathlib.Core.Option.{Option, none, some}
 use lib.ListN.{length, getD, set, take, drop, replicate}
@@ -18,7 +18,7 @@ use Rattle.model.specs.declared.StepAnswer.{StepAnswer}
 use Rattle.model.specs.declared.SizeAnswer.{SizeAnswer}
 use Rattle.model.specs.Keys.{bucketOf}
 use Rattle.model.specs.Limits.{largestCapacity, largestExponent, legalSize}
-use Rattle.model.specs.Memory.{linkOf, keyOf, valueOf, setLink, setValue, setEntry, soundState, chain, bucketChain}
+use Rattle.model.specs.Memory.{linkOf, keyOf, valueOf, setLink, setValue, setEntry, soundState, bucketChain}
 
 -- What a call answers, and the three lent buffers after it: the first bucket buffer, the second, the entry buffer. For a
 -- definition on the current and the other bucket buffer: the current, the other, the entry buffer.

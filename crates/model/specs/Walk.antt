@@ -1,6 +1,6 @@
 -- Paper 01, "The walk": what one walk call answers and hands out. The next cursor and the group are those of cursor.
 use Prim.Native.Nat.{ℕ, _*_}
-use mathlib.Core.Bool.{Bool, cond}
+use mathlib.Core.Bool.{cond}
 use mathlib.Core.List.{List, [], _∷_, _++_}
 use mathlib.Core.Option.{Option, none, some}
 use lib.ListN.{length, drop}

@@ -1,7 +1,7 @@
 -- The plain map's pairs: which value a key has, and how many pairs there are, once a pair is put in front, changed or taken
 -- away; and that no key then has two.
 -- Assumes nothing.
-use Prim.Native.Nat.{ℕ, suc, _-_}
+use Prim.Native.Nat.{ℕ, suc}
 use mathlib.Core.Path.{_≡_, refl, sym, ap, subst, _∙_}
 use mathlib.Core.Logic.{inl, inr}
 use mathlib.Core.Bool.{Bool, cond}

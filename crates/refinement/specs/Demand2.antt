@@ -2,12 +2,12 @@
 -- out exactly the keys of its group, in order, with the published next cursor.
 use Prim.Native.Nat.{ℕ, zero, suc, _*_}
 use mathlib.Core.Path.{_≡_}
-use mathlib.Core.Bool.{Bool, true, false, cond}
+use mathlib.Core.Bool.{Bool, true, false}
 use mathlib.Core.List.{List, [], _∷_, _++_, map}
 use mathlib.Core.Option.{some}
 use lib.ListN.{length, drop}
 use lib.Dec.{ltb}
-use Rattle.cursor.specs.Member.{In, Distinct}
+use Rattle.cursor.specs.Member.{Distinct}
 use Rattle.cursor.specs.Group.{Group}
 use Rattle.model.specs.declared.State.{State}
 use Rattle.model.specs.Memory.{Place, entriesAt, keyOf}

@@ -7,12 +7,12 @@ use mathlib.Core.List.{List, [], _∷_, map}
 use mathlib.Core.Logic.{_⊎_}
 use mathlib.Core.Option.{Option, none, some}
 use lib.ListN.{length, drop}
-use lib.Dec.{ltb, leb, eqb}
+use lib.Dec.{ltb, eqb}
 use Rattle.cursor.specs.Member.{In, Distinct}
 use Rattle.cursor.specs.Next.{next}
 use Rattle.cursor.specs.Group.{Group, oneTable, twoTables}
 use Rattle.model.specs.Keys.{bucketOf}
-use Rattle.model.specs.Sequences.{World, Call, Outcome, carry, run, Event, event, events, Pair, PlainMap, MapReply, valueFor, mapInit, mapReply, mapStep, Tables, tablesStep}
+use Rattle.model.specs.Sequences.{World, Call, Outcome, carry, run, Event, events, Pair, PlainMap, MapReply, valueFor, mapInit, mapReply, mapStep, Tables, tablesStep}
 use Rattle.refinement.specs.Worlds.{UndamagedAt, Holds}
 use Rattle.refinement.specs.Demand2.{HandsOut}
 

@@ -1,7 +1,6 @@
 -- A store at one moment: its live tables by the state's flag, whether it is undamaged, and the pairs that it holds.
 use Prim.Native.Nat.{ℕ}
 use mathlib.Core.Path.{_≡_}
-use mathlib.Core.Bool.{true, false}
 use mathlib.Core.List.{List, [], _∷_}
 use mathlib.Core.Option.{some}
 use lib.ListN.{length}

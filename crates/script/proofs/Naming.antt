@@ -1,8 +1,7 @@
 -- Numbers from their words, and a command from its letter and its numbers.
 -- Assumes nothing.
 use Prim.Native.Nat.{ℕ}
-use mathlib.Core.Path.{_≡_, refl}
-use lib.Dec.{eqb}
+use mathlib.Core.Path.{_≡_}
 use borrow.Author.Tests.{ne-eqb}
 use Rattle.script.specs.declared.line.Arguments.{Arguments}
 use Rattle.script.specs.declared.line.Command.{Command}

@@ -1,6 +1,6 @@
 -- What a block has, and what is still to be written, as lines run.
 -- Assumes nothing.
-use Prim.Native.Nat.{ℕ, zero, suc, _+_, _-_, _*_, _^_, _≤_, _<_}
+use Prim.Native.Nat.{ℕ, suc, _+_, _-_, _*_, _^_, _≤_, _<_}
 use mathlib.Core.Path.{_≡_, refl, sym, ap, _∙_, subst}
 use mathlib.Core.Bool.{Bool, true, false}
 use mathlib.Core.Logic.{_⊎_, inl, inr}
@@ -8,8 +8,8 @@ use mathlib.Core.List.{List, [], _∷_, _++_, append-nil, append-assoc}
 use native.Mathlib.Nat.{add-zero, add-suc, suc-add}
 use native.Mathlib.Numerals.{add-one}
 use native.Mathlib.Omega.{arith}
-use lib.ListN.{length, take, drop, set, length-set, length-append, length-take, length-drop}
-use lib.Seq.{length-take-le, take-length, take-append-le, take-append-seam, take-append-add, take-suc-set, append-snoc}
+use lib.ListN.{length, take, drop, set, length-set, length-append, length-drop}
+use lib.Seq.{length-take-le, take-append-le, take-append-add, take-suc-set, append-snoc}
 use lib.Dec.{ltb}
 use borrow.Author.Tests.{ltb-true, ltb-false}
 use mir.Syntax.{w64}
@@ -17,7 +17,7 @@ use mir.Val.{Fits}
 use Rattle.model.specs.Sequences.{World}
 use Rattle.script.specs.declared.line.NextLine.{NextLine}
 use Rattle.script.specs.Lines.{linesOf}
-use Rattle.script.specs.Answers.{put, Wrote}
+use Rattle.script.specs.Answers.{put}
 use Rattle.script.specs.Places.{linesFrom, Reaches}
 use Rattle.script.specs.Program.{Ran, andThen, runLine, runLines}
 use Rattle.script_run.specs.Runs.{pairRoom, lineRoom, Runs}

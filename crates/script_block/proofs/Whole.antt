@@ -1,10 +1,9 @@
 -- The blocks of a script, one after another, are its answers.
 -- Assumes nothing.
 use Prim.Native.Nat.{ℕ, _*_, _≤_}
-use mathlib.Core.Path.{_≡_, refl, sym, ap, _∙_}
+use mathlib.Core.Path.{_≡_, sym, ap, _∙_}
 use mathlib.Core.List.{List, [], _++_}
 use lib.ListN.{length, take, drop, drop-of-length-le, replicate}
-use lib.Dec.{ltb}
 use borrow.Author.Tests.{le-ltb}
 use Rattle.model.specs.Sequences.{World}
 use Rattle.script.specs.Lines.{linesOf, split, closed, lineFeed}

@@ -1,10 +1,8 @@
 -- A line's run from its command's: the buffers that are lent have room, and each command is a clause of the definition.
 -- Assumes nothing.
-use Prim.Native.Nat.{ℕ, _≤_}
+use Prim.Native.Nat.{ℕ}
 use mathlib.Core.Path.{_≡_, refl, sym, ap, _∙_, subst}
 use mathlib.Core.List.{List, []}
-use native.Mathlib.Omega.{arith}
-use lib.ListN.{length}
 use Rattle.model.specs.declared.State.{State}
 use Rattle.model.specs.Sequences.{Call, World, perform}
 use Rattle.script.specs.declared.line.Command.{Command}
@@ -12,7 +10,7 @@ use Rattle.script.specs.Lines.{command}
 use Rattle.script.specs.Answers.{badLine}
 use Rattle.script.specs.Program.{Ran, answered, handedOut, runCommand, runLine}
 use Rattle.script_calls.specs.Calls.{Told, Answers}
-use Rattle.script_run.specs.Runs.{lineRoom, worldOf, Runs}
+use Rattle.script_run.specs.Runs.{worldOf, Runs}
 
 module _ (w : World) (lent line : List ℕ) (c : Command) (e : c ≡ command line) (w′ : World) (before out : List ℕ) (n : ℕ) where
   runs : (k : Command) (ran : Ran) (lent′ : List ℕ) → c ≡ k → ran ≡ runCommand w lent k → Runs ran w′ lent′ before out n

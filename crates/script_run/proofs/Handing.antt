@@ -1,6 +1,6 @@
 -- A walk's line: its keys fit the lent list, and what is written is what was handed out.
 -- Assumes nothing.
-use Prim.Native.Nat.{ℕ, zero, suc, _+_, _*_, _≤_}
+use Prim.Native.Nat.{ℕ, _*_, _≤_}
 use mathlib.Core.Path.{_≡_, refl, sym, ap, _∙_, subst}
 use mathlib.Core.Bool.{Bool, true, false, cond}
 use mathlib.Core.List.{List, [], _∷_, _++_}
@@ -13,13 +13,13 @@ use borrow.Author.Tests.{leb-true}
 use Rattle.model.specs.declared.State.{State}
 use Rattle.model.specs.declared.Error.{Error}
 use Rattle.model.specs.declared.ScanAnswer.{ScanAnswer}
-use Rattle.model.specs.Answers.{Reply, errorNumber, shortNumber, scanReply}
+use Rattle.model.specs.Answers.{errorNumber, shortNumber, scanReply}
 use Rattle.model.specs.Calls.{oriented, sound, keysHeld}
 use Rattle.model.specs.Walk.{Handed, handOut, scanIn}
 use Rattle.model.specs.Walk as walk
 use Rattle.model.specs.Sequences.{Call, World, Outcome, perform, carry, carriedState}
 use Rattle.model.specs.Sequences as sequences
-use Rattle.script.specs.Answers.{answerLine, Wrote}
+use Rattle.script.specs.Answers.{answerLine}
 use Rattle.script.specs.Program.{handedOut}
 use Rattle.script_calls.specs.Calls.{Told}
 use Rattle.script_run.specs.Runs.{pairRoom, lineRoom, worldOf, Runs}

@@ -1,8 +1,7 @@
 -- The stores of specs/LeftOpen are excluded by demand 1, or by the definition of the call that they change.
 -- Assumes nothing.
-use Prim.Native.Nat.{ℕ}
 use mathlib.Core.Path.{refl, ap}
-use mathlib.Core.List.{List, [], _∷_}
+use mathlib.Core.List.{[], _∷_}
 use lib.ListN.{getD}
 use borrow.Author.Tests.{eqb-false}
 use Rattle.model.specs.Sequences.{World, Call, Outcome, run}

@@ -1,9 +1,8 @@
 -- The stores of specs/Steps are excluded.
 -- Assumes nothing.
-use Prim.Native.Nat.{ℕ}
-use mathlib.Core.Path.{_≡_, refl}
+use mathlib.Core.Path.{refl}
 use mathlib.Core.List.{List, [], _∷_}
-use Rattle.model.specs.Sequences.{World, Call}
+use Rattle.model.specs.Sequences.{Call}
 use Rattle.refinement.specs.Demand3.{Demand3}
 use Rattle.wrong_stores.specs.Steps.{stepsNowhere, countsOneMore, moreSteps, movesAll}
 use Rattle.wrong_stores.proofs.Start.{computing, at, differ}

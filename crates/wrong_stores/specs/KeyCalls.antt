@@ -1,13 +1,13 @@
 -- Wrong stores by a call on a key, and the one that refuses every call.
 use Prim.Native.Nat.{ℕ}
 use mathlib.Core.Bool.{false}
-use mathlib.Core.List.{List, [], _∷_}
+use mathlib.Core.List.{[]}
 use Rattle.model.specs.declared.State.{State}
 use Rattle.model.specs.declared.Error.{Error}
 use Rattle.model.specs.declared.FindAnswer.{FindAnswer}
 use Rattle.model.specs.Answers.{findReply, addReply}
 use Rattle.model.specs.Calls.{orientedBack, pushed}
-use Rattle.model.specs.Sequences.{World, Call, Outcome, kept, left, perform}
+use Rattle.model.specs.Sequences.{World, Call, Outcome, kept, left}
 use Rattle.wrong_stores.specs.OneCall.{butFind, butUpdate, butAdd, butDelete, ifDone}
 
 -- refuses every call

@@ -1,5 +1,5 @@
 -- Wrong stores that demand 3 does not exclude. Demand 1 does, or the definition of the call, which its contract promises.
-use Prim.Native.Nat.{ℕ, suc, _*_}
+use Prim.Native.Nat.{suc, _*_}
 use mathlib.Core.Path.{_≡_}
 use mathlib.Core.Bool.{cond}
 use lib.ListN.{length}

@@ -1,7 +1,6 @@
 -- Ours, but for the calls of one kind: those answer and leave something else, made from what ours answers and leaves.
 use Prim.Native.Nat.{ℕ, zero, suc}
 use mathlib.Core.List.{List}
-use Rattle.model.specs.Answers.{Reply}
 use Rattle.model.specs.Sequences.{World, Call, Outcome, perform}
 
 unfoldable pub changed : (find update delete resize step : World → Outcome → Outcome) (add : World → ℕ → ℕ → Outcome → Outcome)

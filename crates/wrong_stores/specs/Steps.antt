@@ -1,6 +1,6 @@
 -- Wrong stores by a step.
 use Prim.Native.Nat.{ℕ, zero, suc, _+_}
-use mathlib.Core.List.{List, [], _∷_}
+use mathlib.Core.List.{[], _∷_}
 use lib.ListN.{getD}
 use Rattle.model.specs.Sequences.{World, Call, Outcome, kept, perform, carry}
 use Rattle.wrong_stores.specs.OneCall.{butStep, ifDone, answering}

@@ -1,7 +1,7 @@
 -- Wrong stores by a walk call.
 use Prim.Native.Nat.{ℕ, zero, suc, _+_, _*_, _/_, _%_}
 use mathlib.Core.Bool.{Bool, true, false, cond}
-use mathlib.Core.List.{List, [], _∷_, _++_, map, reverse}
+use mathlib.Core.List.{List, [], _∷_, _++_, reverse}
 use mathlib.Core.Option.{some}
 use lib.ListN.{length, set, replicate}
 use lib.Dec.{ltb}
@@ -11,7 +11,7 @@ use Rattle.model.specs.declared.State.{State}
 use Rattle.model.specs.declared.Error.{Error}
 use Rattle.model.specs.declared.ScanAnswer.{ScanAnswer}
 use Rattle.model.specs.Memory.{Place, entriesAt}
-use Rattle.model.specs.Walk.{Handed, handOut, group, groupEntries}
+use Rattle.model.specs.Walk.{Handed, handOut, groupEntries}
 use Rattle.model.specs.Sequences.{World, Call, Outcome, perform, handedOut}
 use Rattle.refinement.specs.Worlds.{current, other}
 use Rattle.refinement.specs.Demand2.{groupPlaces, entriesIn}

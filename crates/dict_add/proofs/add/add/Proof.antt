@@ -1,7 +1,6 @@
 -- `dict_add::add::add` meets its contract: the state in the answer is the one given, with a count and the free list changed.
 -- Assumes nothing.
 use borrow.Author.Needs.{needs}
-use native.Mathlib.Omega.{arith}
 use Rattle.model.specs.Calls.{addedOld, addedNew}
 use Rattle.dict_add.proofs.Pushing.{add-refused, add-old, add-new, old-fits, new-fits}
 use Rattle.dict_add.proofs.add.add.Statement.{statement}

@@ -1,7 +1,6 @@
 -- `script::line::parse_arguments` meets its contract: one word, two, or more.
 -- Assumes nothing.
 use borrow.Author.Needs.{needs}
-use lib.Seq.{length-take-le}
 use Rattle.script.proofs.Words.{word-length, one-word, many-words, two-words}
 use Rattle.script.proofs.line.parse_arguments.Statement.{statement}
 use Rattle.script.proofs.line.parse_arguments.Tie as tie

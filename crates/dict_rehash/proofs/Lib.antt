@@ -1,4 +1,3 @@
 -- What the loops keep and what each turn gives, and what the parts of a call come to.
-mod Linking
 mod Moving
 mod Stepping

@@ -12,8 +12,8 @@ use Rattle.model.specs.Keys.{bucketOf}
 use Rattle.model.specs.Memory.{linkOf, keyOf, setLink}
 use Rattle.model.specs.Calls.{firstFilled, movedBuckets, movedEntries}
 use Rattle.model.proofs.Fields.{length-setLink}
-use Rattle.dict_rehash.specs.Move.{Linked, ChainOf, ChainMoved, EntryMoved, filledAt}
-use Rattle.dict_rehash.proofs.Linking.{linked-unique, linked-kept}
+use Rattle.model.proofs.Linked.{Linked, room, linked-unique, linked-distinct, linked-head, linked-first, linked-kept, link-set-other}
+use Rattle.dict_rehash.specs.Move.{ChainOf, ChainMoved, EntryMoved, filledAt}
 
 -- ---- the first filled bucket
 
@@ -64,16 +64,25 @@ entry-moved size buckets entries n next key b entries′ l k e r =
     let place : b ≡ bucketOf (keyOf entries n) size = rw k at e in
     record { link = l; table = rw place; relinked = rw place at r }
 
+-- no chain repeats an entry, so linking its first entry anew leaves the rest as it was
+rest-linked : (entries : List ℕ) (most at link : ℕ) (ns : List ℕ) → Linked entries most at (at ∷ ns)
+    → Linked (setLink entries at link) most (linkOf entries at) ns
+unfolding Linked
+rest-linked entries most at link ns h =
+    let alone = linked-distinct entries most at (at ∷ ns) h .0 in
+    linked-kept entries (setLink entries at link) most (linkOf entries at) ns
+    (λ k i. link-set-other entries at k link (λ e. alone (rw e at i))) (h .3)
+
 -- moving the rest of the chain gives what moving the whole of it gives
 pub record RestMoves (size : ℕ) (buckets₀ entries₀ : List ℕ) (head : ℕ) (buckets entries rest : List ℕ) : Type 0 where
-  pub table : (ns : List ℕ) → Linked entries₀ head ns
+  pub table : (ns : List ℕ) → Linked entries₀ (room entries₀) head ns
       → movedBuckets size buckets entries rest ≡ movedBuckets size buckets₀ entries₀ ns
-  pub relinked : (ns : List ℕ) → Linked entries₀ head ns
+  pub relinked : (ns : List ℕ) → Linked entries₀ (room entries₀) head ns
       → movedEntries size buckets entries rest ≡ movedEntries size buckets₀ entries₀ ns
 
 pub record Moving (size : ℕ) (buckets₀ entries₀ : List ℕ) (head count : ℕ) (buckets entries : List ℕ) (at counter : ℕ) : Type 0 where
   pub rest : List ℕ
-  pub linked : Linked entries at rest
+  pub linked : Linked entries (room entries₀) at rest
   pub left : counter + length rest ≡ count
   pub same-length : length buckets ≡ length buckets₀
   pub same-entries : length entries ≡ length entries₀
@@ -82,7 +91,7 @@ pub record Moving (size : ℕ) (buckets₀ entries₀ : List ℕ) (head count : 
 module _ (size : ℕ) (buckets₀ entries₀ : List ℕ) (head count : ℕ) where
   pub moving-start : ChainOf entries₀ head count → Moving size buckets₀ entries₀ head count buckets₀ entries₀ head 0
   moving-start h =
-      let one : (ns : List ℕ) → Linked entries₀ head ns → h .ns ≡ ns = λ ns l. linked-unique entries₀ head (h .ns) ns (h .linked) l in
+      let one = linked-unique entries₀ (room entries₀) head (h .ns) in
       record {
         rest = h .ns;
         linked = h .linked;
@@ -91,27 +100,28 @@ module _ (size : ℕ) (buckets₀ entries₀ : List ℕ) (head count : ℕ) wher
         same-entries = refl;
         same =
             record {
-              table = λ ns l. ap (movedBuckets size buckets₀ entries₀) (one ns l);
-              relinked = λ ns l. ap (movedEntries size buckets₀ entries₀) (one ns l);
+              table = λ ns l. ap (movedBuckets size buckets₀ entries₀) (one ns (h .linked) l);
+              relinked = λ ns l. ap (movedEntries size buckets₀ entries₀) (one ns (h .linked) l);
             };
       }
 
   module _ (buckets entries : List ℕ) (at counter : ℕ)
       (h : Moving size buckets₀ entries₀ head count buckets entries at counter) where
     -- the next entry is in the entry buffer
-    here : counter < count → (0 < at) × (at * 3 ≤ length entries)
-    unfolding Linked
-    here l = pick (h .rest) (h .linked) (h .left)
-      where
-        pick : (rest : List ℕ) → Linked entries at rest → counter + length rest ≡ count → (0 < at) × (at * 3 ≤ length entries)
-        pick [] p e = absurd (omega arith)
-        pick (n ∷ ns) p e = let q = p .0 in let r = p .1 in let t = p .2 in (omega arith, omega arith)
-
     pub moving-pos : counter < count → 0 < at
-    moving-pos l = here l .0
+    unfolding Linked
+    moving-pos l = pick (h .rest) (h .linked) (h .left)
+      where
+        pick : (rest : List ℕ) → Linked entries (room entries₀) at rest → counter + length rest ≡ count → 0 < at
+        pick [] p e = absurd (omega arith)
+        pick (n ∷ ns) p e = let q = p .0 in let r = p .1 in omega arith
 
-    pub moving-fits : counter < count → at * 3 ≤ length entries
-    moving-fits l = here l .1
+    pub moving-fits : at * 3 ≤ length entries
+    unfolding room
+    moving-fits =
+        let most = linked-head entries (room entries₀) at (h .rest) (h .linked) in
+        let same = h .same-entries in
+        omega arith
 
     pub moving-end : count ≤ counter → ChainMoved size buckets₀ entries₀ head buckets entries
     unfolding movedBuckets movedEntries
@@ -123,29 +133,21 @@ module _ (size : ℕ) (buckets₀ entries₀ : List ℕ) (head count : ℕ) wher
         pick [] e r = record { table = r .table; relinked = r .relinked }
         pick (n ∷ ns) e r = absurd (omega arith)
 
-    -- an entry that was moved is not on the rest, so linking it anew leaves the rest as it was
     pub moving-next : (next : ℕ) (buckets′ entries′ : List ℕ) → counter < count
         → EntryMoved size buckets entries at next buckets′ entries′
         → Moving size buckets₀ entries₀ head count buckets′ entries′ next (counter + 1)
-    unfolding Linked movedBuckets movedEntries
+    unfolding movedBuckets movedEntries
     moving-next next buckets′ entries′ l m =
-        rw (m .table, m .relinked, m .link) (pick (h .rest) (h .linked) (h .left) (h .same))
-      where
-        place : ℕ
-        place = bucketOf (keyOf entries at) size
-
-        pick : (rest : List ℕ) → Linked entries at rest → counter + length rest ≡ count
-            → RestMoves size buckets₀ entries₀ head buckets entries rest
-            → Moving size buckets₀ entries₀ head count (set buckets place at) (setLink entries at (getD buckets place 0)) (linkOf entries at) (counter + 1)
-        pick [] p e r = absurd (omega arith)
-        pick (n ∷ ns) p e r =
-            record {
-              rest = ns;
-              linked =
-                  linked-kept entries at (getD buckets place 0) (linkOf entries at) ns
-                  (λ ys q. omega (arith, ap length (linked-unique entries at (n ∷ ns) ys p q))) (rw (p .0) (p .3));
-              left = omega arith;
-              same-length = length-set buckets place at ∙ h .same-length;
-              same-entries = length-setLink entries at (getD buckets place 0) ∙ h .same-entries;
-              same = record { table = rw (p .0) (r .table); relinked = rw (p .0) (r .relinked) };
-            }
+        let (more, first, behind) = linked-first entries (room entries₀) at (h .rest) (moving-pos l) (h .linked) in
+        let place = bucketOf (keyOf entries at) size in
+        let left = rw first at (h .left) in
+        let same = rw first at (h .same) in
+        rw (m .table, m .relinked, m .link)
+        (record {
+          rest = more;
+          linked = rest-linked entries (room entries₀) at (getD buckets place 0) more (rw first at (h .linked));
+          left = omega arith;
+          same-length = length-set buckets place at ∙ h .same-length;
+          same-entries = length-setLink entries at (getD buckets place 0) ∙ h .same-entries;
+          same = record { table = same .table; relinked = same .relinked };
+        })

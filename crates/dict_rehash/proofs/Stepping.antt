@@ -1,6 +1,6 @@
 -- What a rehash step comes to, from its tests and the functions that it calls.
 -- Assumes nothing.
-use Prim.Native.Nat.{ℕ, _+_, _-_, _≤_, _<_}
+use Prim.Native.Nat.{ℕ, _+_, _*_, _-_, _≤_, _<_}
 use mathlib.Core.Path.{_≡_, refl, sym, ap, _∙_}
 use mathlib.Core.Bool.{Bool, true, false}
 use mathlib.Core.List.{List}
@@ -16,12 +16,33 @@ use Rattle.model.specs.declared.StepAnswer.{StepAnswer}
 use Rattle.model.specs.Memory.{soundState, chain, bucketChain}
 use Rattle.model.specs.Calls.{After, firstFilled, movedBuckets, movedEntries, movedChain, movedFrom, steppedPast, finished, stepped, sound, rehashStepIn, rehashStep}
 use Rattle.model.proofs.Soundness.{SoundBase, SoundMove, tested-sound}
+use Rattle.model.proofs.Linked.{Linked, room, read-sound, linked-wider}
 use Rattle.lookup.specs.declared.chain.ChainLength.{ChainLength}
 use Rattle.lookup.specs.Length.{lengthOf}
 use Rattle.dict_rehash.specs.declared.rehash.Move.{Move}
-use Rattle.dict_rehash.specs.Move.{ChainMoved, MoveDone, moveAnswer, moveRoom, filledAt}
+use Rattle.dict_rehash.specs.Move.{ChainOf, ChainMoved, MoveDone, moveAnswer, moveRoom, filledAt}
 use Rattle.lookup.proofs.Orientation.{oriented-first, oriented-second}
-use Rattle.dict_rehash.proofs.Linking.{chain-linked, counted-chain}
+
+-- ---- a chain whose entries were counted (the count stands first: where a search has no such count, it ends there)
+
+module _ (r : ChainLength) (count : ℕ) (c : r ≡ ChainLength.Sound count) (entries : List ℕ) (capacity budget head : ℕ)
+    (e : r ≡ lengthOf (chain entries capacity budget head)) (fits : capacity * 3 ≤ length entries) where
+  counted-chain : (ns : List ℕ) × (chain entries capacity budget head ≡ some ns) × (length ns ≡ count)
+      × Linked entries (room entries) head ns × (count ≤ budget)
+  unfolding lengthOf room
+  counted-chain = pick (chain entries capacity budget head) refl
+    where
+      pick : (o : Option (List ℕ)) → chain entries capacity budget head ≡ o
+          → (ns : List ℕ) × (chain entries capacity budget head ≡ some ns) × (length ns ≡ count)
+          × Linked entries (room entries) head ns × (count ≤ budget)
+      pick none h = let z : _≡_ {A = ℕ} 0 1 = cc in absurd (omega arith)
+      pick (some ns) h =
+          let (l, short) = read-sound entries capacity budget head ns h in
+          let counted : length ns ≡ count = cc in
+          (ns, h, counted, linked-wider entries capacity (room entries) head ns (omega arith) l, omega arith)
+
+  pub chain-of : ChainOf entries head count
+  chain-of = let (ns, read, counted, linked, short) = counted-chain in record { ns = ns; linked = linked; counted = counted }
 
 -- ---- the chain of the first filled bucket
 
@@ -65,16 +86,14 @@ module _ (s : State) (current other entries : List ℕ) (b : ℕ) (o : Option �
     unfolding moveRoom
     bucket-moved count other′ entries′ c h m =
         let head = getD current b 0 in
-        let q = counted-chain entries (s .capacity) (h .entries-fit) (s .«old_used») head count r e c in
-        let k = chain-linked entries (s .capacity) (h .entries-fit) (s .«old_used») head (q .0) (q .1) in
-        let counted = q .2 in
-        let short = k .1 in
+        let (ns, read, counted, linked, short) =
+        counted-chain r count c entries (s .capacity) (s .«old_used») head e (h .entries-fit) in
         record {
           same =
-              moved-by (chain entries (s .capacity) (s .«old_used») head) (q .0) count other′ entries′ (q .1) counted
-              (m .table (q .0) (k .0)) (m .relinked (q .0) (k .0))
+              moved-by (chain entries (s .capacity) (s .«old_used») head) ns count other′ entries′ read counted
+              (m .table ns linked) (m .relinked ns linked)
               ∙ reached;
-          room = (omega arith, omega (arith, h .used-fits), l);
+          room = (short, omega (arith, h .used-fits), l);
         }
 
 -- ---- a step

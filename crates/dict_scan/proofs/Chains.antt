@@ -1,22 +1,19 @@
 -- Chains read one after the other: what their count says of them, how long they are, and that a chain that is sound is read
 -- the same where more is allowed.
 -- Assumes nothing.
-use Prim.Native.Nat.{ℕ, zero, suc, _+_, _*_, _≤_}
+use Prim.Native.Nat.{ℕ, _+_, _*_, _≤_}
 use mathlib.Core.Path.{_≡_, refl, sym, ap, _∙_}
-use mathlib.Core.Bool.{Bool, true, false}
 use mathlib.Core.List.{List, [], _∷_, _++_, append-nil, append-assoc}
 use mathlib.Core.Option.{Option, none, some}
 use native.Mathlib.Omega.{arith}
 use native.Mathlib.Nat.{suc-mul}
 use lib.ListN.{length, getD, length-append}
-use lib.Dec.{leb}
-use borrow.Author.Tests.{leb-true, le-leb}
-use Rattle.model.specs.Memory.{linkOf, chain, met, bucketChain, listed}
+use Rattle.model.specs.Memory.{chain, bucketChain, listed}
 use Rattle.model.specs.Walk.{joined, chains}
-use Rattle.model.proofs.Chains.{chain-end}
+use Rattle.model.proofs.Linked.{room, read-sound, chain-wider}
 use Rattle.lookup.specs.declared.chain.ChainLength.{ChainLength}
 use Rattle.lookup.specs.Length.{lengthOf}
-use Rattle.dict_scan.specs.Written.{room, linked, allLinked}
+use Rattle.dict_scan.specs.Written.{linked, allLinked}
 
 -- a count says that what is read has an end, and how long it is
 pub count-sound : (o : Option (List ℕ)) (r : ChainLength) (n : ℕ) → r ≡ lengthOf o → r ≡ ChainLength.Sound n → o ≡ some (listed o)
@@ -56,20 +53,13 @@ joined-more ns ms none = refl
 joined-more ns ms (some ks) = ap some (append-assoc ns ms ks)
 
 -- a chain is no longer than its budget
-met-short : (t : Bool) (n budget : ℕ) (o : Option (List ℕ)) → length (listed o) ≤ budget → length (listed (met t n o)) ≤ suc budget
-unfolding met listed
-met-short false n budget o h = omega arith
-met-short true n budget none h = omega arith
-met-short true n budget (some ns) h = omega arith
-
 pub chain-short : (entries : List ℕ) (capacity budget head : ℕ) → length (listed (chain entries capacity budget head)) ≤ budget
-unfolding chain listed
-chain-short entries capacity zero zero = omega arith
-chain-short entries capacity zero (suc n) = omega arith
-chain-short entries capacity (suc budget) zero = omega arith
-chain-short entries capacity (suc budget) (suc n) =
-    met-short (leb (suc n) capacity) (suc n) budget (chain entries capacity budget (linkOf entries (suc n)))
-    (chain-short entries capacity budget (linkOf entries (suc n)))
+unfolding listed
+chain-short entries capacity budget head = pick (chain entries capacity budget head) refl
+  where
+    pick : (o : Option (List ℕ)) → chain entries capacity budget head ≡ o → length (listed o) ≤ budget
+    pick none e = omega arith
+    pick (some ns) e = read-sound entries capacity budget head ns e .1
 
 joined-short : (a b : Option (List ℕ)) → length (listed (joined a b)) ≤ length (listed a) + length (listed b)
 unfolding joined listed
@@ -110,30 +100,6 @@ joined-parts (some ns) none e = let z : _≡_ {A = ℕ} 0 1 = cc in absurd (omeg
 joined-parts (some ns) (some ms) e = record { left = refl; right = refl; both = refl; length = length-append ns ms }
 
 -- Where more is allowed, a chain that is sound is the same.
-
-met-wider : (t t′ : Bool) (n : ℕ) (o o′ : Option (List ℕ)) (ns : List ℕ) → (t ≡ true → t′ ≡ true)
-    → ((ms : List ℕ) → o ≡ some ms → o′ ≡ some ms) → met t n o ≡ some ns → met t′ n o′ ≡ some ns
-unfolding met
-met-wider false t′ n o o′ ns f g e = let z : _≡_ {A = ℕ} 0 1 = cc in absurd (omega arith)
-met-wider true false n o o′ ns f g e = let w = f refl in let z : _≡_ {A = ℕ} 0 1 = cc in absurd (omega arith)
-met-wider true true n none o′ ns f g e = let z : _≡_ {A = ℕ} 0 1 = cc in absurd (omega arith)
-met-wider true true n (some ms) o′ ns f g e = rw (g ms refl) e
-
-chain-wider : (entries : List ℕ) (capacity capacity′ budget budget′ head : ℕ) (ns : List ℕ) → capacity ≤ capacity′
-    → budget ≤ budget′ → chain entries capacity budget head ≡ some ns → chain entries capacity′ budget′ head ≡ some ns
-unfolding chain
-chain-wider entries capacity capacity′ zero budget′ zero ns c b e = chain-end entries capacity′ budget′ zero refl ∙ e
-chain-wider entries capacity capacity′ (suc budget) budget′ zero ns c b e = chain-end entries capacity′ budget′ zero refl ∙ e
-chain-wider entries capacity capacity′ zero budget′ (suc n) ns c b e = let z : _≡_ {A = ℕ} 0 1 = cc in absurd (omega arith)
-chain-wider entries capacity capacity′ (suc budget) zero (suc n) ns c b e = absurd (omega arith)
-chain-wider entries capacity capacity′ (suc budget) (suc budget′) (suc n) ns c b e =
-    met-wider (leb (suc n) capacity) (leb (suc n) capacity′) (suc n)
-    (chain entries capacity budget (linkOf entries (suc n)))
-    (chain entries capacity′ budget′ (linkOf entries (suc n)))
-    ns
-    (λ t. le-leb (suc n) capacity′ (omega (arith, leb-true (suc n) capacity t)))
-    (λ ms p. chain-wider entries capacity capacity′ budget budget′ (linkOf entries (suc n)) ms c (omega arith) p)
-    e
 
 module _ (entries : List ℕ) (capacity used : ℕ) (fits : capacity * 3 ≤ length entries) (few : used ≤ capacity) where
   pub linked-same : (head : ℕ)

@@ -1,20 +1,18 @@
 -- Writing the pairs of a chain to the lent list, one entry a turn, and those of the larger table's buckets, one chain a turn.
 -- Assumes nothing.
-use Prim.Native.Nat.{ℕ, zero, suc, _+_, _*_, _-_, _^_, _≤_, _<_, min}
+use Prim.Native.Nat.{ℕ, suc, _+_, _*_, _^_, _≤_, _<_, min}
 use mathlib.Core.Path.{_≡_, refl, ap, _∙_}
-use mathlib.Core.Bool.{Bool, true, false, _||_}
 use mathlib.Core.List.{List, [], _∷_, _++_}
-use mathlib.Core.Option.{Option, none, some}
+use mathlib.Core.Option.{Option}
 use native.Mathlib.Omega.{arith}
 use lib.ListN.{length, getD, set, length-set}
-use lib.Dec.{ltb, eqb}
 use Rattle.cursor.specs.Next.{next}
 use Rattle.model.specs.Keys.{bucketOf, hash}
-use Rattle.model.specs.Memory.{linkOf, keyOf, valueOf, chain, bucketChain, listed}
+use Rattle.model.specs.Memory.{linkOf, keyOf, valueOf, bucketChain, listed}
 use Rattle.model.specs.Walk.{joined, chains}
-use Rattle.model.proofs.Chains.{chain-end, chain-bad, chain-good, in-range}
+use Rattle.model.proofs.Linked.{Linked, room, read-sound, linked-first, linked-empty}
 use Rattle.dict_scan.specs.Tables.{Sizes}
-use Rattle.dict_scan.specs.Written.{room, linked, allLinked, written, Writable}
+use Rattle.dict_scan.specs.Written.{linked, allLinked, written, Writable}
 use Rattle.dict_scan.proofs.Buckets.{bucketsFrom, behind, split, behind-last, behind-more}
 use Rattle.dict_scan.proofs.Chains.{Parts, joined-parts}
 
@@ -60,48 +58,20 @@ module _ (entries list : List ℕ) (from : ℕ) (a b : Option (List ℕ)) (h : W
         → list″ ≡ written entries list from (listed (joined a b))
     rest-written list″ v = v ∙ both-written
 
--- an entry met on a chain that has an end
-record Met (entries : List ℕ) (capacity left at : ℕ) (rest : List ℕ) : Type 0 where
-  pub more : List ℕ
-  pub first : rest ≡ at ∷ more
-  pub in-reach : at ≤ capacity
-  pub reads : chain entries capacity (left - 1) (linkOf entries at) ≡ some more
-
-entry-met : (entries : List ℕ) (capacity left at : ℕ) (rest : List ℕ) → (at ≡ 0 → ⊥)
-    → chain entries capacity left at ≡ some rest → Met entries capacity left at rest
-entry-met entries capacity left at rest f e =
-    go (eqb left 0 || ltb capacity at) refl (chain entries capacity (left - 1) (linkOf entries at)) refl
-  where
-    go : (t : Bool) → (eqb left 0 || ltb capacity at) ≡ t → (o : Option (List ℕ))
-        → chain entries capacity (left - 1) (linkOf entries at) ≡ o → Met entries capacity left at rest
-    go true p o q =
-        let bad = chain-bad entries capacity left at f p in
-        let z : _≡_ {A = ℕ} 0 1 = cc in absurd (omega arith)
-    go false p none q =
-        let good = rw q at (chain-good entries capacity left at f p) in
-        let z : _≡_ {A = ℕ} 0 1 = cc in absurd (omega arith)
-    go false p (some more) q =
-        let good = rw q at (chain-good entries capacity left at f p) in
-        record { more = more; first = cc; in-reach = in-range capacity left at p; reads = q }
-
--- Its fields are in the buffer, and it is one of the entries that are left. Both hold too where the chain is at its end.
+-- An entry's fields are in the buffer, and it is one of the entries that are left. Both hold too where the chain is at its end.
 pub record Reach (entries : List ℕ) (at : ℕ) (rest : List ℕ) : Type 0 where
   pub entry-fits : at * 3 ≤ length entries
   pub some-left : min at 1 ≤ length rest
 
-reach-of : (entries : List ℕ) (left at : ℕ) (rest : List ℕ) → chain entries (room entries) left at ≡ some rest
-    → Reach entries at rest
-unfolding room
-reach-of entries left zero rest e = record { entry-fits = omega arith; some-left = omega arith }
-reach-of entries left (suc n) rest e =
-    let m = entry-met entries (room entries) left (suc n) rest (λ z. omega arith) e in
-    record { entry-fits = omega arith; some-left = rw (m .first) (omega arith) }
+reach-of : (entries : List ℕ) (at : ℕ) (rest : List ℕ) → Linked entries (room entries) at rest → Reach entries at rest
+unfolding Linked room
+reach-of entries at [] h = record { entry-fits = omega arith; some-left = omega arith }
+reach-of entries at (n ∷ ns) h = record { entry-fits = omega arith; some-left = omega arith }
 
 -- the pairs written, and those of the entries from here on, are those of the whole chain
 pub record Writing (entries list₀ : List ℕ) (head from at to : ℕ) (list : List ℕ) : Type 0 where
-  pub left : ℕ
   pub rest : List ℕ
-  pub reads : chain entries (room entries) left at ≡ some rest
+  pub links : Linked entries (room entries) at rest
   pub reach : Reach entries at rest
   pub same-length : length list ≡ length list₀
   pub place : to + length rest * 2 ≡ from + length (listed (linked entries head)) * 2
@@ -112,11 +82,11 @@ module _ (entries list₀ : List ℕ) (head from : ℕ) where
   pub writing-start : Writable list₀ from (linked entries head) → Writing entries list₀ head from head from list₀
   unfolding linked
   writing-start h =
+      let links = read-sound entries (room entries) (room entries) head (listed (linked entries head)) (h .sound) .0 in
       record {
-        left = room entries;
         rest = listed (linked entries head);
-        reads = h .sound;
-        reach = reach-of entries (room entries) head (listed (linked entries head)) (h .sound);
+        links = links;
+        reach = reach-of entries head (listed (linked entries head)) links;
         same-length = refl;
         place = refl;
         fits = h .fits;
@@ -129,24 +99,22 @@ module _ (entries list₀ : List ℕ) (head from : ℕ) where
         → Writing entries list₀ head from link (to + 2) (set (set list to key) (to + 1) value)
     unfolding written
     writing-next key value link f k v l =
-        let m = entry-met entries (room entries) (h .left) at (h .rest) f (h .reads) in
-        let reads : chain entries (room entries) (h .left - 1) link ≡ some (m .more) = rw l (m .reads) in
-        let place = rw (m .first) at (h .place) in
-        let fits = rw (m .first) at (h .fits) in
+        let (more, first, behind) = linked-first entries (room entries) at (h .rest) (omega arith) (h .links) in
+        let place = rw first at (h .place) in
+        let fits = rw first at (h .fits) in
         record {
-          left = h .left - 1;
-          rest = m .more;
-          reads = reads;
-          reach = reach-of entries (h .left - 1) link (m .more) reads;
+          rest = more;
+          links = rw l behind;
+          reach = reach-of entries link more (rw l behind);
           same-length = simp length-set (h .same-length);
           place = omega arith;
           fits = omega arith;
-          so-far = rw (k, v) (rw (m .first) at (h .so-far));
+          so-far = rw (k, v) (rw first at (h .so-far));
         }
 
     module _ (e : at ≡ 0) where
       none-left : h .rest ≡ []
-      none-left = let done = chain-end entries (room entries) (h .left) at e in let same = h .reads in cc
+      none-left = linked-empty entries (room entries) at (h .rest) (h .links) e
 
       pub writing-end : list ≡ written entries list₀ from (listed (linked entries head))
       unfolding written

@@ -1,6 +1,6 @@
 -- The pairs of a walk call as they are written to the lent list, once the chains are known to be sound. Then neither
 -- the capacity nor a budget is asked for: the entry buffer alone says what a chain is.
-use Prim.Native.Nat.{ℕ, _+_, _*_, _/_, _≤_}
+use Prim.Native.Nat.{ℕ, _+_, _*_, _≤_}
 use mathlib.Core.Path.{_≡_}
 use mathlib.Core.List.{List, [], _∷_}
 use mathlib.Core.Option.{Option, some}
@@ -8,11 +8,8 @@ use lib.ListN.{length, set}
 use Rattle.cursor.specs.Group.{twoTables}
 use Rattle.model.specs.Memory.{keyOf, valueOf, chain, listed}
 use Rattle.model.specs.Walk.{joined, chains}
+use Rattle.model.proofs.Linked.{room}
 use Rattle.dict_scan.specs.Tables.{Sizes}
-
--- how many entries the buffer has room for
-unfoldable pub room : List ℕ → ℕ
-room entries = length entries / 3
 
 -- a chain, and the chains of some buckets, with no other limit
 unfoldable pub linked : List ℕ → ℕ → Option (List ℕ)

@@ -2,6 +2,7 @@
 pub mod Power
 pub mod Fields
 pub mod Chains
+pub mod Linked
 pub mod Soundness
 pub mod Cases
 pub mod Lookups

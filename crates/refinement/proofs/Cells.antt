@@ -10,6 +10,7 @@ use lib.Seq.{getD-set-same, getD-set-other}
 use Rattle.model.specs.declared.State.{State}
 use Rattle.model.specs.Memory.{Place, linkOf, keyOf, valueOf, setLink, setKey, setValue}
 use Rattle.model.proofs.Fields.{length-setLink}
+use Rattle.model.proofs.Linked.{link-set-other}
 use Rattle.refinement.proofs.Shape.{headAt}
 
 -- An entry's three numbers.
@@ -32,14 +33,7 @@ module _ (e : List ℕ) where
   value-set-same zero x h l = absurd (omega arith)
   value-set-same (suc n) x h l = getD-set-same e (n * 3 + 2) x 0 (omega arith)
 
-  -- at another entry
-
-  link-set-other : (n m x : ℕ) → (m ≡ n → ⊥) → linkOf (setLink e n x) m ≡ linkOf e m
-  unfolding linkOf setLink
-  link-set-other zero zero x d = refl
-  link-set-other zero (suc m) x d = refl
-  link-set-other (suc n) zero x d = refl
-  link-set-other (suc n) (suc m) x d = getD-set-other e (n * 3) (m * 3) x 0 (λ h. d (omega arith))
+  -- at another entry, where model has the law of the link
 
   pub key-set-other : (n m x : ℕ) → (m ≡ n → ⊥) → keyOf (setKey e n x) m ≡ keyOf e m
   unfolding keyOf setKey

@@ -12,10 +12,9 @@ use lib.ListN.{length}
 use Rattle.cursor.specs.Member.{In}
 use Rattle.model.specs.Memory.{Place, linkOf, keyOf, chain, bucketChain, chainAt}
 use Rattle.model.specs.Sequences.{World}
+use Rattle.model.proofs.Linked.{Linked, read-complete, read-sound}
 use Rattle.refinement.specs.Worlds.{current, other}
 use Rattle.refinement.specs.Demand1.{used, nth, Chain, headOf, mostOf, ChainAt, SoundChain, OnChain}
-use Rattle.refinement.proofs.Shape.{Linked}
-use Rattle.refinement.proofs.LinkedChains.{read-complete, read-sound}
 
 module _ (entries : List ℕ) (capacity : ℕ) where
   nth-link : (head k : ℕ) → nth entries (linkOf entries head) k ≡ nth entries head (suc k)

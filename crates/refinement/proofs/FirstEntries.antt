@@ -14,10 +14,10 @@ use borrow.Author.Tests.{eqb-true, eqb-false, le-leb, ne-eqb}
 use Rattle.model.specs.declared.State.{State}
 use Rattle.model.specs.Memory.{Place, Live, linkOf}
 use Rattle.model.specs.Calls.{firstFilled, takeable}
+use Rattle.model.proofs.Linked.{Linked, linked-head, linked-empty, linked-filled}
 use Rattle.refinement.proofs.Lists.{no-length}
 use Rattle.refinement.proofs.Sums.{term-in-sum, sum-zero}
-use Rattle.refinement.proofs.Shape.{headAt, Linked, Shape, facts}
-use Rattle.refinement.proofs.LinkedChains.{linked-head, linked-empty, linked-filled}
+use Rattle.refinement.proofs.Shape.{headAt, Shape, facts}
 
 -- the first filled bucket of the old table: the buckets before it are empty
 pub record FilledFirst {s : State} {current other entries : List ℕ} (h : Shape s current other entries) (b : ℕ) : Type 0 where

@@ -12,10 +12,11 @@ use Rattle.model.specs.declared.State.{State}
 use Rattle.model.specs.Memory.{Place, Live, IsBucket, entriesAt, Undamaged}
 use Rattle.model.specs.Calls.{sound}
 use Rattle.model.proofs.Soundness.{SoundBase, sound-facts}
+use Rattle.model.proofs.Linked.{Linked, read-sound, linked-in-range}
 use Rattle.refinement.proofs.Lists.{in-left, in-right, pigeonhole, distinct-fits}
 use Rattle.refinement.proofs.Sums.{gathered, length-gathered, in-gathered}
-use Rattle.refinement.proofs.Shape.{headAt, Linked, Shape}
-use Rattle.refinement.proofs.LinkedChains.{read-sound, linked-in-range, budgetAt, read-at}
+use Rattle.refinement.proofs.Shape.{headAt, Shape}
+use Rattle.refinement.proofs.LinkedChains.{budgetAt, read-at}
 
 module _ {s : State} {current other entries : List ℕ} (u : Undamaged s current other entries) where
   -- the chains as they are read

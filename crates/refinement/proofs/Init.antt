@@ -15,8 +15,9 @@ use Rattle.model.specs.Limits.{largestCapacity, legalSize}
 use Rattle.model.specs.Memory.{Place, Live, Home, IsBucket, keyOf, linkOf, soundState}
 use Rattle.model.specs.Calls.{cleared, freeLink, freeEntries, newState, withinLimits, longEnough}
 use Rattle.model.proofs.Soundness.{two-hold, three-hold}
+use Rattle.model.proofs.Linked.{Linked}
 use Rattle.refinement.proofs.Sums.{sum-zero}
-use Rattle.refinement.proofs.Shape.{headAt, Linked, Shape}
+use Rattle.refinement.proofs.Shape.{headAt, Shape}
 use Rattle.refinement.proofs.States.{sound-test}
 use Rattle.refinement.proofs.ClearedBuckets.{length-cleared, cleared-empty}
 

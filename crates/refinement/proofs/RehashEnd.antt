@@ -11,7 +11,8 @@ use Rattle.model.specs.declared.State.{State}
 use Rattle.model.specs.Memory.{Place, Live, Home, IsBucket, keyOf, soundState, sum}
 use Rattle.model.specs.Calls.{finished}
 use Rattle.model.proofs.Soundness.{SoundMove}
-use Rattle.refinement.proofs.Shape.{headAt, Linked, Shape, facts}
+use Rattle.model.proofs.Linked.{Linked}
+use Rattle.refinement.proofs.Shape.{headAt, Shape, facts}
 use Rattle.refinement.proofs.States.{sound-again}
 use Rattle.refinement.proofs.FirstEntries.{old-empty}
 

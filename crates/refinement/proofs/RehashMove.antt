@@ -17,8 +17,9 @@ use Rattle.model.specs.declared.StepAnswer.{StepAnswer}
 use Rattle.model.specs.Keys.{bucketOf}
 use Rattle.model.specs.Memory.{Place, Live, Home, IsBucket, linkOf, keyOf, valueOf, setLink}
 use Rattle.model.specs.Calls.{movedChain, movedBuckets, movedEntries, steppedPast, keysHeld}
+use Rattle.model.proofs.Linked.{Linked}
 use Rattle.refinement.proofs.Sums.{term-in-sum}
-use Rattle.refinement.proofs.Shape.{headAt, Linked, Shape, facts}
+use Rattle.refinement.proofs.Shape.{headAt, Shape, facts}
 use Rattle.refinement.proofs.States.{sound-again, recounted, live-kept, home-kept}
 use Rattle.refinement.proofs.Places.{inOld, inNew, keyPlace, key-live}
 use Rattle.refinement.proofs.LinkedChains.{shape-linked}

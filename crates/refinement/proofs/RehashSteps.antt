@@ -20,10 +20,11 @@ use Rattle.model.specs.Memory.{Place, Live, IsBucket}
 use Rattle.model.specs.Calls.{After, keysHeld, finished, movedChain, rehashStepIn}
 use Rattle.model.specs.Calls as calls
 use Rattle.model.specs.Sequences.{valueFor, World, Call, perform, event, mapReply, mapAfter, mapStep, Tables, newOf, tablesStepped, tablesAfter}
+use Rattle.model.proofs.Linked.{Linked}
 use Rattle.refinement.specs.Worlds.{current, other}
 use Rattle.refinement.specs.Demand3.{Ideal, oldKeys, movedKeys, stepValues, joinFresh, freshStepped, freshAfter, AsStep, AsIdeal}
 use Rattle.refinement.proofs.Lists.{in-left, in-right, in-either, joined-fresh}
-use Rattle.refinement.proofs.Shape.{headAt, Linked, Shape}
+use Rattle.refinement.proofs.Shape.{headAt, Shape}
 use Rattle.refinement.proofs.Places.{same, keyPlace, key-bucket, key-live}
 use Rattle.refinement.proofs.LinkedChains.{shape-linked}
 use Rattle.refinement.proofs.FirstEntries.{FilledFirst, old-empty, first-filled}

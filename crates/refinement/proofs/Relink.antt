@@ -12,12 +12,13 @@ use lib.ListN.{length, getD, length-append}
 use Rattle.cursor.specs.Member.{In, Distinct}
 use Rattle.model.specs.declared.State.{State}
 use Rattle.model.specs.Memory.{Place, Live, Home, IsBucket, linkOf, keyOf, soundState, sum}
+use Rattle.model.proofs.Linked.{Linked, linked-kept, linked-head, linked-empty}
 use Rattle.refinement.proofs.Lists.{in-left, in-right, first-distinct, parts-apart, in-middle, in-with, in-without, taken-out}
 use Rattle.refinement.proofs.Sums.{sum-changed}
-use Rattle.refinement.proofs.Shape.{headAt, Linked, Shape, facts}
+use Rattle.refinement.proofs.Shape.{headAt, Shape, facts}
 use Rattle.refinement.proofs.States.{sound-again, recounted, live-kept, home-kept}
 use Rattle.refinement.proofs.Places.{same, indicator, inOld, inNew, in-one, free-indicator, old-indicators, new-indicators}
-use Rattle.refinement.proofs.LinkedChains.{linked-kept, linked-head, linked-empty, shape-linked, shape-distinct, shape-range}
+use Rattle.refinement.proofs.LinkedChains.{shape-linked, shape-distinct, shape-range}
 use Rattle.refinement.proofs.Cells.{Memory, Cell, memory, read, SameLengths, read-head}
 
 -- The cell that leads to what follows some entries, from a first cell.

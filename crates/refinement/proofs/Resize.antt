@@ -14,8 +14,9 @@ use Rattle.model.specs.Limits.{legalSize}
 use Rattle.model.specs.Memory.{Place, Live, Home, keyOf, soundState}
 use Rattle.model.specs.Calls.{cleared, acceptable, resizing}
 use Rattle.model.proofs.Soundness.{three-hold, SoundStill}
+use Rattle.model.proofs.Linked.{Linked}
 use Rattle.refinement.proofs.Sums.{sum-zero}
-use Rattle.refinement.proofs.Shape.{headAt, Linked, Shape, facts}
+use Rattle.refinement.proofs.Shape.{headAt, Shape, facts}
 use Rattle.refinement.proofs.States.{sound-again}
 use Rattle.refinement.proofs.ClearedBuckets.{length-cleared, cleared-empty}
 

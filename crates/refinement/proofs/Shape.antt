@@ -4,12 +4,13 @@
 use Prim.Native.Nat.{ℕ, _+_, _<_, _≤_}
 use mathlib.Core.Path.{_≡_}
 use mathlib.Core.Bool.{true}
-use mathlib.Core.List.{List, [], _∷_}
+use mathlib.Core.List.{List}
 use lib.ListN.{length, getD}
 use Rattle.cursor.specs.Member.{In}
 use Rattle.model.specs.declared.State.{State}
-use Rattle.model.specs.Memory.{Place, Live, Home, IsBucket, keyOf, linkOf, soundState, sum}
+use Rattle.model.specs.Memory.{Place, Live, Home, IsBucket, keyOf, soundState, sum}
 use Rattle.model.specs.Calls.{sound}
+use Rattle.model.proofs.Linked.{Linked}
 use Rattle.model.proofs.Soundness.{Sound, sound-facts}
 
 -- the first entry at a place
@@ -17,11 +18,6 @@ unfoldable pub headAt : State → List ℕ → List ℕ → Place → ℕ
 headAt s current other Place.free = s .«free_head»
 headAt s current other (Place.old b) = getD current b 0
 headAt s current other (Place.new b) = getD other b 0
-
--- the entries from a head, link by link, to 0
-unfoldable pub Linked : List ℕ → ℕ → ℕ → List ℕ → Type 0
-Linked entries capacity at [] = at ≡ 0
-Linked entries capacity at (n ∷ ns) = (at ≡ n) × (0 < n) × (n ≤ capacity) × Linked entries capacity (linkOf entries n) ns
 
 pub record Shape (s : State) (current other entries : List ℕ) : Type 0 where
   pub state-sound : soundState (length current) (length other) (length entries) s ≡ true

@@ -9,9 +9,10 @@ use lib.ListN.{length}
 use Rattle.cursor.specs.Member.{In}
 use Rattle.model.specs.declared.State.{State}
 use Rattle.model.specs.Memory.{Place, Live, chainAt, entriesAt, listed, Undamaged}
+use Rattle.model.proofs.Linked.{read-complete}
 use Rattle.refinement.proofs.Sums.{sum-same, term-in-sum}
 use Rattle.refinement.proofs.Shape.{headAt, Shape}
-use Rattle.refinement.proofs.LinkedChains.{read-complete, budgetAt, read-at}
+use Rattle.refinement.proofs.LinkedChains.{budgetAt, read-at}
 
 module _ {s : State} {current other entries : List ℕ} (h : Shape s current other entries) where
   -- a place's chain is no longer than its budget

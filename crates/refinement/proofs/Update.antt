@@ -14,8 +14,9 @@ use Rattle.model.proofs.Fields.{length-setValue}
 use Rattle.model.specs.declared.State.{State}
 use Rattle.model.specs.declared.UpdateAnswer.{UpdateAnswer}
 use Rattle.model.specs.Calls.{After, keysHeld}
+use Rattle.model.proofs.Linked.{linked-kept}
 use Rattle.refinement.proofs.Shape.{headAt, Shape, facts}
-use Rattle.refinement.proofs.LinkedChains.{linked-kept, shape-range}
+use Rattle.refinement.proofs.LinkedChains.{shape-range}
 use Rattle.refinement.proofs.Cells.{value-set-same, value-set-other, link-set-value, key-set-value}
 use Rattle.refinement.proofs.StoreAfter.{HeldIn, held-as, StoreAfter}
 

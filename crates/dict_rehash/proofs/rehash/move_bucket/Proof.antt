@@ -2,8 +2,7 @@
 -- moved where it is.
 -- Assumes nothing.
 use borrow.Author.Needs.{needs}
-use Rattle.dict_rehash.proofs.Linking.{chain-of}
-use Rattle.dict_rehash.proofs.Stepping.{bucket-none, bucket-unsound, bucket-moved}
+use Rattle.dict_rehash.proofs.Stepping.{chain-of, bucket-none, bucket-unsound, bucket-moved}
 use Rattle.dict_rehash.proofs.rehash.move_bucket.Statement.{statement}
 use Rattle.dict_rehash.proofs.rehash.move_bucket.Tie as tie
 

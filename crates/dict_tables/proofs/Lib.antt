@@ -4,5 +4,3 @@ mod Fitting
 mod FreeList
 mod NewStore
 mod Resizing
-mod Suggesting
-mod Looking

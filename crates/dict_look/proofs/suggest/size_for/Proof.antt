@@ -1,13 +1,13 @@
--- `dict_tables::suggest::size_for` meets its contract: the size so far is a power of two, and the search from it is the search
+-- `dict_look::suggest::size_for` meets its contract: the size so far is a power of two, and the search from it is the search
 -- from 1.
 -- Assumes nothing.
 use Prim.Native.Nat.{_-_}
 use native.Mathlib.Omega.{arith}
 use Rattle.model.specs.Limits.{largestExponent}
 use Rattle.model.specs.Calls.{sizeFor}
-use Rattle.dict_tables.proofs.Suggesting.{Doubling, below-first, below-second, doubling-start, doubling-some, doubling-next, doubling-done}
-use Rattle.dict_tables.proofs.suggest.size_for.Statement.{statement}
-use Rattle.dict_tables.proofs.suggest.size_for.Tie as tie
+use Rattle.dict_look.proofs.Suggesting.{Doubling, below-first, below-second, doubling-start, doubling-some, doubling-next, doubling-done}
+use Rattle.dict_look.proofs.suggest.size_for.Statement.{statement}
+use Rattle.dict_look.proofs.suggest.size_for.Tie as tie
 
 abbrev Inv-loop : tie.InvT-loop
 Inv-loop n size₀ size = Doubling largestExponent n size

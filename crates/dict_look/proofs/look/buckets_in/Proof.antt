@@ -1,9 +1,9 @@
--- `dict_tables::look::buckets_in` meets its contract: a sound state says that the table lies in its buffer.
+-- `dict_look::look::buckets_in` meets its contract: a sound state says that the table lies in its buffer.
 -- Assumes nothing.
-use Rattle.dict_tables.proofs.Looking.{look-whole, look-empty, look-length}
+use Rattle.dict_look.proofs.Looking.{look-whole, look-empty, look-length}
 use borrow.Author.Needs.{needs}
-use Rattle.dict_tables.proofs.look.buckets_in.Statement.{statement}
-use Rattle.dict_tables.proofs.look.buckets_in.Tie as tie
+use Rattle.dict_look.proofs.look.buckets_in.Statement.{statement}
+use Rattle.dict_look.proofs.look.buckets_in.Tie as tie
 
 cast-size : tie.Need-cast-size
 cast-size c = search needs

@@ -1,10 +1,10 @@
--- `dict_tables::suggest::suggest_in` meets its contract.
+-- `dict_look::suggest::suggest_in` meets its contract.
 -- Assumes nothing.
 use Rattle.model.proofs.Soundness.{tested-counts}
-use Rattle.dict_tables.proofs.Suggesting.{suggest-sound, suggest-bad-state}
+use Rattle.dict_look.proofs.Suggesting.{suggest-sound, suggest-bad-state}
 use borrow.Author.Needs.{needs}
-use Rattle.dict_tables.proofs.suggest.suggest_in.Statement.{statement}
-use Rattle.dict_tables.proofs.suggest.suggest_in.Tie as tie
+use Rattle.dict_look.proofs.suggest.suggest_in.Statement.{statement}
+use Rattle.dict_look.proofs.suggest.suggest_in.Tie as tie
 
 is-sound-requires : tie.Need-is-sound-requires
 is-sound-requires c κs = search needs

@@ -1,11 +1,11 @@
--- `dict_tables::suggest::suggest_for` meets its contract: the capacity bounds the keys, so the sum and its double fit.
+-- `dict_look::suggest::suggest_for` meets its contract: the capacity bounds the keys, so the sum and its double fit.
 -- Assumes nothing.
 use native.Mathlib.Omega.{arith}
 use Rattle.model.specs.Limits.{largestCapacity}
-use Rattle.dict_tables.proofs.Suggesting.{suggest-growing, suggest-shrinking}
+use Rattle.dict_look.proofs.Suggesting.{suggest-growing, suggest-shrinking}
 use borrow.Author.Needs.{needs}
-use Rattle.dict_tables.proofs.suggest.suggest_for.Statement.{statement}
-use Rattle.dict_tables.proofs.suggest.suggest_for.Tie as tie
+use Rattle.dict_look.proofs.suggest.suggest_for.Statement.{statement}
+use Rattle.dict_look.proofs.suggest.suggest_for.Tie as tie
 
 add-keys : tie.Need-add-keys
 add-keys c = omega arith

@@ -1,10 +1,10 @@
--- `dict_tables::look::buckets` meets its contract: the current buffer is chosen once.
+-- `dict_look::look::buckets` meets its contract: the current buffer is chosen once.
 -- Assumes nothing.
 use Rattle.model.specs.Calls as calls
 use Rattle.lookup.proofs.Orientation.{read-first, read-second}
 use borrow.Author.Needs.{needs}
-use Rattle.dict_tables.proofs.look.buckets.Statement.{statement}
-use Rattle.dict_tables.proofs.look.buckets.Tie as tie
+use Rattle.dict_look.proofs.look.buckets.Statement.{statement}
+use Rattle.dict_look.proofs.look.buckets.Tie as tie
 
 buckets-in-requires : tie.Need-buckets-in-requires
 buckets-in-requires c κs = search needs

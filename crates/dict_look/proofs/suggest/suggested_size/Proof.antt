@@ -1,10 +1,10 @@
--- `dict_tables::suggest::suggested_size` meets its contract: the current buffer is chosen once.
+-- `dict_look::suggest::suggested_size` meets its contract: the current buffer is chosen once.
 -- Assumes nothing.
 use Rattle.model.specs.Calls as calls
 use Rattle.lookup.proofs.Orientation.{read-first, read-second}
 use borrow.Author.Needs.{needs}
-use Rattle.dict_tables.proofs.suggest.suggested_size.Statement.{statement}
-use Rattle.dict_tables.proofs.suggest.suggested_size.Tie as tie
+use Rattle.dict_look.proofs.suggest.suggested_size.Statement.{statement}
+use Rattle.dict_look.proofs.suggest.suggested_size.Tie as tie
 
 suggest-in-requires : tie.Need-suggest-in-requires
 suggest-in-requires c κs = search needs

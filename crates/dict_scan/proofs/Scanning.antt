@@ -26,10 +26,11 @@ use Rattle.model.proofs.Soundness.{Sound, tested-counts}
 use Rattle.lookup.specs.declared.chain.ChainLength.{ChainLength}
 use Rattle.lookup.specs.Length.{lengthOf}
 use Rattle.lookup.proofs.Tested.{tested}
-use Rattle.dict_scan.specs.Tables.{One, Both, Two}
-use Rattle.dict_scan.specs.Written.{linked, allLinked, written, Writable, WritableGroup}
-use Rattle.dict_scan.proofs.Buckets.{bucketsFrom, one-answered, two-answered}
-use Rattle.dict_scan.proofs.Chains.{count-sound, count-length, count-none, joined-end, joined-parts, linked-same, all-linked-same}
+use Rattle.scan_group.specs.Tables.{Both}
+use Rattle.scan_group.specs.Written.{linked, allLinked, written, Writable, WritableGroup}
+use Rattle.scan_group.proofs.Buckets.{bucketsFrom, one-answered, two-answered}
+use Rattle.scan_group.proofs.Chains.{count-sound, count-length, count-none, joined-end, joined-parts, linked-same, all-linked-same}
+use Rattle.dict_scan.specs.Tables.{One, Two}
 
 -- from the front of the list, the pairs and then what was there
 

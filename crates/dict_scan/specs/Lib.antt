@@ -1,3 +1,2 @@
--- What the functions below the walk call ask of the tables, and what they write.
+-- What the functions below the walk call ask of the tables.
 pub mod Tables
-pub mod Written

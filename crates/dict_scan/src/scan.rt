@@ -1,7 +1,4 @@
 // The walk call: the group of a cursor, in one live table or two.
-use crate::count::count_group;
-use crate::write::write_chain;
-use crate::write::write_group;
 use cursor::next_cursor;
 use lookup::chain::ChainLength;
 use lookup::chain::chain_length;
@@ -10,6 +7,9 @@ use lookup::state::is_sound;
 use model::Error;
 use model::ScanAnswer;
 use model::State;
+use scan_group::count::count_group;
+use scan_group::write::write_chain;
+use scan_group::write::write_group;
 ghost use mathlib.Core.Path.{_≡_};
 ghost use mathlib.Core.List.{[], _∷_};
 ghost use Rattle.cursor.specs.Group.{oneTable, twoTables};

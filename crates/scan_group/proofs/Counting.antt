@@ -17,9 +17,9 @@ use Rattle.model.specs.Memory.{chain, bucketChain, listed}
 use Rattle.model.specs.Walk.{joined, chains}
 use Rattle.lookup.specs.declared.chain.ChainLength.{ChainLength}
 use Rattle.lookup.specs.Length.{lengthOf}
-use Rattle.dict_scan.specs.Tables.{Larger, Both}
-use Rattle.dict_scan.proofs.Buckets.{bucketsFrom, behind, split, behind-last, behind-more, counts-fit, few-large}
-use Rattle.dict_scan.proofs.Chains.{count-sound, count-length, count-none, joined-nothing, joined-none, joined-more, chain-short, chains-short, joined-length}
+use Rattle.scan_group.specs.Tables.{Larger, Both}
+use Rattle.scan_group.proofs.Buckets.{bucketsFrom, behind, split, behind-last, behind-more, counts-fit, few-large}
+use Rattle.scan_group.proofs.Chains.{count-sound, count-length, count-none, joined-nothing, joined-none, joined-more, chain-short, chains-short, joined-length}
 
 -- the entries counted, and those of the buckets from here on, are those of all the buckets
 pub record Counting (entries buckets : List ℕ) (capacity used small large cursor at count : ℕ) : Type 0 where

@@ -9,7 +9,7 @@ use Rattle.cursor.specs.Group.{twoTables}
 use Rattle.model.specs.Memory.{keyOf, valueOf, chain, listed}
 use Rattle.model.specs.Walk.{joined, chains}
 use Rattle.model.proofs.Linked.{room}
-use Rattle.dict_scan.specs.Tables.{Sizes}
+use Rattle.scan_group.specs.Tables.{Sizes}
 
 -- a chain, and the chains of some buckets, with no other limit
 unfoldable pub linked : List ℕ → ℕ → Option (List ℕ)

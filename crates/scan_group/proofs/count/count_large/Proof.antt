@@ -1,13 +1,13 @@
--- `dict_scan::count::count_large` meets its contract: the entries counted, and those of the buckets from here on, are those of
+-- `scan_group::count::count_large` meets its contract: the entries counted, and those of the buckets from here on, are those of
 -- all the larger table's buckets of the group.
 -- Assumes nothing.
 use borrow.Author.Needs.{needs}
 use native.Mathlib.Omega.{arith}
 use lib.ListN.{length}
-use Rattle.dict_scan.proofs.Buckets.{bucketsFrom, fewer}
-use Rattle.dict_scan.proofs.Counting.{Counting, counting-start, counting-out, counting-fits, counting-end, counting-next}
-use Rattle.dict_scan.proofs.count.count_large.Statement.{statement}
-use Rattle.dict_scan.proofs.count.count_large.Tie as tie
+use Rattle.scan_group.proofs.Buckets.{bucketsFrom, fewer}
+use Rattle.scan_group.proofs.Counting.{Counting, counting-start, counting-out, counting-fits, counting-end, counting-next}
+use Rattle.scan_group.proofs.count.count_large.Statement.{statement}
+use Rattle.scan_group.proofs.count.count_large.Tie as tie
 
 abbrev Inv-loop : tie.InvT-loop
 Inv-loop buckets entries capacity used small large cursor at₀ count₀ at count =

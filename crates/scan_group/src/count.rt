@@ -8,11 +8,11 @@ ghost use Rattle.cursor.specs.Group.{twoTables};
 ghost use Rattle.model.specs.Memory.{chain};
 ghost use Rattle.model.specs.Walk.{chains, joined};
 ghost use Rattle.lookup.specs.Length.{lengthOf};
-ghost use Rattle.dict_scan.specs.Tables.{Larger, Both};
+ghost use Rattle.scan_group.specs.Tables.{Larger, Both};
 
 // Those of the larger table. The next cursor of a size is below that size, so its bits between the two sizes are zero
 // once it is below the smaller one.
-pub(crate) fn count_large(
+pub fn count_large(
     buckets: &[u32],
     entries: &[u32],
     capacity: u32,
@@ -41,7 +41,7 @@ pub(crate) fn count_large(
 }
 
 // How many entries the group has in both tables: the chain of the smaller one's bucket, then the larger one's.
-pub(crate) fn count_group(
+pub fn count_group(
     buckets: &[u32],
     entries: &[u32],
     capacity: u32,

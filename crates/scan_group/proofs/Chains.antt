@@ -13,7 +13,7 @@ use Rattle.model.specs.Walk.{joined, chains}
 use Rattle.model.proofs.Linked.{room, read-sound, chain-wider}
 use Rattle.lookup.specs.declared.chain.ChainLength.{ChainLength}
 use Rattle.lookup.specs.Length.{lengthOf}
-use Rattle.dict_scan.specs.Written.{linked, allLinked}
+use Rattle.scan_group.specs.Written.{linked, allLinked}
 
 -- a count says that what is read has an end, and how long it is
 pub count-sound : (o : Option (List ℕ)) (r : ChainLength) (n : ℕ) → r ≡ lengthOf o → r ≡ ChainLength.Sound n → o ≡ some (listed o)

@@ -11,10 +11,10 @@ use Rattle.model.specs.Keys.{bucketOf, hash}
 use Rattle.model.specs.Memory.{linkOf, keyOf, valueOf, bucketChain, listed}
 use Rattle.model.specs.Walk.{joined, chains}
 use Rattle.model.proofs.Linked.{Linked, room, read-sound, linked-first, linked-empty}
-use Rattle.dict_scan.specs.Tables.{Sizes}
-use Rattle.dict_scan.specs.Written.{linked, allLinked, written, Writable}
-use Rattle.dict_scan.proofs.Buckets.{bucketsFrom, behind, split, behind-last, behind-more}
-use Rattle.dict_scan.proofs.Chains.{Parts, joined-parts}
+use Rattle.scan_group.specs.Tables.{Sizes}
+use Rattle.scan_group.specs.Written.{linked, allLinked, written, Writable}
+use Rattle.scan_group.proofs.Buckets.{bucketsFrom, behind, split, behind-last, behind-more}
+use Rattle.scan_group.proofs.Chains.{Parts, joined-parts}
 
 -- entries written behind others
 pub written-more : (entries list : List ℕ) (to : ℕ) (ns ms : List ℕ)

@@ -1,9 +1,9 @@
--- `dict_scan::write::write_group` meets its contract: the larger table's pairs stand behind the smaller one's.
+-- `scan_group::write::write_group` meets its contract: the larger table's pairs stand behind the smaller one's.
 -- Assumes nothing.
 use borrow.Author.Needs.{needs}
-use Rattle.dict_scan.proofs.Writing.{first-writable, rest-writable, rest-written}
-use Rattle.dict_scan.proofs.write.write_group.Statement.{statement}
-use Rattle.dict_scan.proofs.write.write_group.Tie as tie
+use Rattle.scan_group.proofs.Writing.{first-writable, rest-writable, rest-written}
+use Rattle.scan_group.proofs.write.write_group.Statement.{statement}
+use Rattle.scan_group.proofs.write.write_group.Tie as tie
 
 write-chain-requires : tie.Need-write-chain-requires
 write-chain-requires c κs = search first-writable

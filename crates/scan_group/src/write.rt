@@ -10,11 +10,11 @@ ghost use lib.ListN.{length};
 ghost use Rattle.cursor.specs.Group.{twoTables};
 ghost use Rattle.model.specs.Memory.{listed};
 ghost use Rattle.model.specs.Walk.{joined};
-ghost use Rattle.dict_scan.specs.Tables.{Sizes};
-ghost use Rattle.dict_scan.specs.Written.{linked, allLinked, written, Writable, WritableGroup};
+ghost use Rattle.scan_group.specs.Tables.{Sizes};
+ghost use Rattle.scan_group.specs.Written.{linked, allLinked, written, Writable, WritableGroup};
 
 // The pairs of one chain, from a place of the list on; answers the place behind them.
-pub(crate) fn write_chain(entries: &[u32], list: &mut [u32], head: u32, from: usize) -> usize
+pub fn write_chain(entries: &[u32], list: &mut [u32], head: u32, from: usize) -> usize
     requires { ⌜ Writable (now list) from (linked (now entries) head) ⌝ }
     ensures { λ _. ⌜ now (list .exit) ≡ written (now (entries .entry)) (now (list .entry)) from (listed (linked (now (entries .entry)) head)) ⌝ }
     ensures { λ r. ⌜ r ≡ from + length (listed (linked (now (entries .entry)) head)) * 2 ⌝ }
@@ -31,7 +31,7 @@ pub(crate) fn write_chain(entries: &[u32], list: &mut [u32], head: u32, from: us
 }
 
 // The pairs of the larger table's buckets, which are those that were counted.
-pub(crate) fn write_large(
+pub fn write_large(
     buckets: &[u32],
     entries: &[u32],
     list: &mut [u32],
@@ -59,7 +59,7 @@ pub(crate) fn write_large(
 }
 
 // The pairs of the whole group, from the front of the list: the smaller table's chain, then the larger one's.
-pub(crate) fn write_group(
+pub fn write_group(
     buckets: &[u32],
     entries: &[u32],
     list: &mut [u32],

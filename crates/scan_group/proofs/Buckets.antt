@@ -17,7 +17,7 @@ use Rattle.cursor.proofs.Sweep.{sweep-stop, sweep-on}
 use Rattle.cursor.proofs.LargeBuckets.{sweep-unbounded, two-answers}
 use Rattle.model.specs.Limits.{legalSize, largestExponent, largestCapacity}
 use Rattle.model.proofs.Power.{power-of, exponent-lt, legal-le}
-use Rattle.dict_scan.specs.Tables.{Sizes}
+use Rattle.scan_group.specs.Tables.{Sizes}
 
 -- the buckets from the cursor on
 abbrev pub bucketsFrom : ℕ → ℕ → ℕ → List ℕ

@@ -1,9 +1,9 @@
--- `dict_scan::count::count_group` meets its contract: the group is sound where both parts are, and then as long as both.
+-- `scan_group::count::count_group` meets its contract: the group is sound where both parts are, and then as long as both.
 -- Assumes nothing.
 use borrow.Author.Needs.{needs}
-use Rattle.dict_scan.proofs.Counting.{first-out, rest-out, both-fit, both-counted}
-use Rattle.dict_scan.proofs.count.count_group.Statement.{statement}
-use Rattle.dict_scan.proofs.count.count_group.Tie as tie
+use Rattle.scan_group.proofs.Counting.{first-out, rest-out, both-fit, both-counted}
+use Rattle.scan_group.proofs.count.count_group.Statement.{statement}
+use Rattle.scan_group.proofs.count.count_group.Tie as tie
 
 chain-length-requires : tie.Need-chain-length-requires
 chain-length-requires c κs = search needs

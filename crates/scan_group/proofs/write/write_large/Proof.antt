@@ -1,13 +1,13 @@
--- `dict_scan::write::write_large` meets its contract: the pairs written, and those of the buckets from here on, are those of all
+-- `scan_group::write::write_large` meets its contract: the pairs written, and those of the buckets from here on, are those of all
 -- the larger table's buckets of the group.
 -- Assumes nothing.
 use borrow.Author.Needs.{needs}
 use native.Mathlib.Omega.{arith}
 use lib.ListN.{length}
-use Rattle.dict_scan.proofs.Buckets.{bucketsFrom, fewer}
-use Rattle.dict_scan.proofs.Writing.{Handing, handing-start, chain-writable, handing-end, handing-next}
-use Rattle.dict_scan.proofs.write.write_large.Statement.{statement}
-use Rattle.dict_scan.proofs.write.write_large.Tie as tie
+use Rattle.scan_group.proofs.Buckets.{bucketsFrom, fewer}
+use Rattle.scan_group.proofs.Writing.{Handing, handing-start, chain-writable, handing-end, handing-next}
+use Rattle.scan_group.proofs.write.write_large.Statement.{statement}
+use Rattle.scan_group.proofs.write.write_large.Tie as tie
 
 abbrev Inv-loop : tie.InvT-loop
 Inv-loop buckets entries list₀ small large cursor from at₀ to₀ list at to =

@@ -1,12 +1,12 @@
--- `dict_scan::write::write_chain` meets its contract: the pairs written, and those of the entries from here on, are those of the
+-- `scan_group::write::write_chain` meets its contract: the pairs written, and those of the entries from here on, are those of the
 -- whole chain. Each turn takes two places of the list.
 -- Assumes nothing.
 use Prim.Native.Nat.{_-_}
 use native.Mathlib.Omega.{arith}
 use lib.ListN.{length, length-set}
-use Rattle.dict_scan.proofs.Writing.{Writing, writing-start, writing-next, writing-end, writing-place}
-use Rattle.dict_scan.proofs.write.write_chain.Statement.{statement}
-use Rattle.dict_scan.proofs.write.write_chain.Tie as tie
+use Rattle.scan_group.proofs.Writing.{Writing, writing-start, writing-next, writing-end, writing-place}
+use Rattle.scan_group.proofs.write.write_chain.Statement.{statement}
+use Rattle.scan_group.proofs.write.write_chain.Tie as tie
 
 abbrev Inv-loop : tie.InvT-loop
 Inv-loop entries list₀ head from at₀ to₀ list at to = Writing entries list₀ head from at to list

@@ -28,7 +28,7 @@ fn link_free(entries: &mut [u32], capacity: u32)
     }
 }
 
-// The state that a refused start hands back.
+// The state of zeros: what a refused start hands back, and what the program holds before a good start.
 pub fn no_state() -> State
     ensures { λ r. ⌜ r ≡ calls.noState ⌝ }
 {

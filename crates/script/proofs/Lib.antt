@@ -4,5 +4,5 @@ mod Reading
 mod Words
 mod Ends
 pub mod Digits
-mod Writing
+pub mod Writing
 pub mod Answering

@@ -21,16 +21,13 @@ use Rattle.script.specs.Answers.{put}
 use Rattle.script.specs.Places.{linesFrom, Reaches}
 use Rattle.script.specs.Program.{Ran, andThen, runLine, runLines}
 use Rattle.script_run.specs.Runs.{pairRoom, lineRoom, Runs}
-use Rattle.script_block.specs.Blocks.{blockRoom, Room, LineAt, RunsInto, RunsBlock}
+use Rattle.script_block.specs.Blocks.{RunsBlock}
+use Rattle.script_block.specs.Turns.{blockRoom, Room, LineAt, RunsInto}
+use Rattle.script.proofs.Writing.{wrote-length}
 use Rattle.script_block.proofs.Longest.{written-fits}
 use Rattle.script_block.proofs.Lines.{one-more}
 
 -- Bytes at the front of a buffer
-
-put-length : (out : List ℕ) (at : ℕ) (xs : List ℕ) → length (put out at xs) ≡ length out
-unfolding put
-put-length out at [] = refl
-put-length out at (x ∷ xs) = put-length (set out at x) (suc at) xs ∙ length-set out at x
 
 put-front : (out : List ℕ) (at : ℕ) (xs : List ℕ) → at + length xs ≤ length out
     → take (at + length xs) (put out at xs) ≡ take at out ++ xs
@@ -64,7 +61,7 @@ module _ (block : List ℕ) (filled : ℕ) (lent : List ℕ) (room : Room block 
 
     out-long : length out ≡ length part
     unfolding part
-    out-long = ap length (ran .line .buffer) ∙ put-length part 0 (runLine w lent line .written)
+    out-long = wrote-length part 0 (runLine w lent line .written) out n (ran .line)
 
     written : take n out ≡ runLine w lent line .written
     unfolding part

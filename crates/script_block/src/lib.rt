@@ -10,7 +10,8 @@ ghost use Prim.Native.Nat.{_-_};
 ghost use lib.ListN.{take, drop};
 ghost use Rattle.script.specs.Program.{runLine};
 ghost use Rattle.script_run.specs.Runs.{worldOf};
-ghost use Rattle.script_block.specs.Blocks.{Room, LineAt, RunsInto, RunsBlock};
+ghost use Rattle.script_block.specs.Blocks.{RunsBlock};
+ghost use Rattle.script_block.specs.Turns.{Room, LineAt, RunsInto};
 
 // The bytes of a block: two of the longest answers. A line runs while there is room for the longest, so a block that is
 // written before the script ends is at least half full.

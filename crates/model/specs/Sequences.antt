@@ -7,7 +7,7 @@ use lib.ListN.{length}
 use lib.Dec.{leb, eqb}
 use Rattle.model.specs.declared.State.{State}
 use Rattle.model.specs.Answers.{Reply, initReply, findReply, updateReply, addReply, deleteReply, resizeReply, stepReply, sizeReply, bucketsReply, scanReply}
-use Rattle.model.specs.Calls.{After, withinLimits, longEnough}
+use Rattle.model.specs.Calls.{After}
 use Rattle.model.specs.Calls as calls
 use Rattle.model.specs.Walk.{Handed}
 use Rattle.model.specs.Walk as walk
@@ -88,34 +88,21 @@ unfoldable pub run : (World → Call → Outcome) → World → List Call → Wo
 run does w [] = w
 run does w (c ∷ cs) = run does (carry w (does w c)) cs
 
--- what an onlooker sees of one call: the lengths of the lent buffers, the call, its number and values, the lent list after
+-- what an onlooker sees of one call: the call, its number and values, the lent list after
 pub record Event : Type 0 where
-  pub first-length : ℕ
-  pub second-length : ℕ
-  pub entries-length : ℕ
   pub call : Call
   pub number : ℕ
   pub values : List ℕ
   pub lent : List ℕ
 
-unfoldable pub event : World → Call → Outcome → Event
-event w c o =
-    record {
-      first-length = length (w .first);
-      second-length = length (w .second);
-      entries-length = length (w .entries);
-      call = c;
-      number = o .reply .number;
-      values = o .reply .values;
-      lent = o .lent;
-    }
+unfoldable pub event : Call → Outcome → Event
+event c o = record { call = c; number = o .reply .number; values = o .reply .values; lent = o .lent }
 
 unfoldable pub events : (World → Call → Outcome) → World → List Call → List Event
 events does w [] = []
-events does w (c ∷ cs) = event w c (does w c) ∷ events does (carry w (does w c)) cs
+events does w (c ∷ cs) = event c (does w c) ∷ events does (carry w (does w c)) cs
 
--- The plain map: a capacity, and pairs of key and value. It is fed the calls' arguments and the lengths of the lent
--- buffers, nothing from the store.
+-- The plain map: a capacity, and pairs of key and value. It is fed the calls' arguments, nothing from the store.
 
 pub record Pair : Type 0 where
   pub key : ℕ
@@ -151,14 +138,6 @@ refusedMap m number values = record { number = number; values = values; map = m 
 unfoldable pub doneMap : PlainMap → List Pair → List ℕ → MapReply
 doneMap m ps values = record { number = 0; values = values; map = record { capacity = m .capacity; pairs = ps } }
 
-unfoldable pub mapInit : PlainMap → ℕ → ℕ → ℕ → ℕ → MapReply
-mapInit m first entries capacity size =
-    cond (withinLimits capacity size)
-    (cond (longEnough capacity size first entries)
-    (record { number = 0; values = []; map = record { capacity = capacity; pairs = [] } })
-    (refusedMap m 1 []))
-    (refusedMap m 6 [])
-
 unfoldable pub mapFind : PlainMap → Option ℕ → MapReply
 mapFind m none = refusedMap m 3 (0 ∷ [])
 mapFind m (some value) = doneMap m (m .pairs) (value ∷ [])
@@ -179,26 +158,19 @@ mapDelete m key none = refusedMap m 3 []
 mapDelete m key (some held) = doneMap m (without key (m .pairs)) []
 
 -- what the map answers to a call; to a call that it is not fed, nothing
-unfoldable pub mapReply : ℕ → ℕ → PlainMap → Call → Option MapReply
-mapReply first entries m (Call.init capacity size) = some (mapInit m first entries capacity size)
-mapReply first entries m (Call.find key) = some (mapFind m (valueFor key (m .pairs)))
-mapReply first entries m (Call.update key value) = some (mapUpdate m key value (valueFor key (m .pairs)))
-mapReply first entries m (Call.add key value) = some (mapAdd m key value (valueFor key (m .pairs)))
-mapReply first entries m (Call.delete key) = some (mapDelete m key (valueFor key (m .pairs)))
-mapReply first entries m (Call.resize size) = none
-mapReply first entries m Call.rehashStep = none
-mapReply first entries m (Call.scan cursor lent) = none
-mapReply first entries m (Call.suggestedSize growing) = none
-mapReply first entries m Call.buckets = none
+unfoldable pub mapReply : PlainMap → Call → Option MapReply
+mapReply m (Call.init capacity size) = none
+mapReply m (Call.find key) = some (mapFind m (valueFor key (m .pairs)))
+mapReply m (Call.update key value) = some (mapUpdate m key value (valueFor key (m .pairs)))
+mapReply m (Call.add key value) = some (mapAdd m key value (valueFor key (m .pairs)))
+mapReply m (Call.delete key) = some (mapDelete m key (valueFor key (m .pairs)))
+mapReply m (Call.resize size) = none
+mapReply m Call.rehashStep = none
+mapReply m (Call.scan cursor lent) = none
+mapReply m (Call.suggestedSize growing) = none
+mapReply m Call.buckets = none
 
-unfoldable pub mapAfter : PlainMap → Option MapReply → PlainMap
-mapAfter m none = m
-mapAfter m (some reply) = reply .map
-
-unfoldable pub mapStep : PlainMap → Event → PlainMap
-mapStep m e = mapAfter m (mapReply (e .first-length) (e .entries-length) m (e .call))
-
--- The live tables, by the calls and their answers.
+-- The live tables, by their sizes.
 
 pub data Tables : Type 0 where
   one : (size : ℕ) → Tables
@@ -211,30 +183,3 @@ oldOf (Tables.two old new) = old
 unfoldable pub newOf : Tables → ℕ
 newOf (Tables.one size) = size
 newOf (Tables.two old new) = new
-
--- a step that answers how many moved, and 0 for not moving
-unfoldable pub tablesStepped : Tables → List ℕ → Tables
-tablesStepped t [] = t
-tablesStepped t (moved ∷ []) = t
-tablesStepped t (moved ∷ zero ∷ rest) = Tables.one (newOf t)
-tablesStepped t (moved ∷ suc moving ∷ rest) = t
-
-unfoldable pub tablesAfter : Tables → Call → List ℕ → Tables
-tablesAfter t (Call.init capacity size) values = Tables.one size
-tablesAfter t (Call.resize size) values = Tables.two (oldOf t) size
-tablesAfter t Call.rehashStep values = tablesStepped t values
-tablesAfter t (Call.find key) values = t
-tablesAfter t (Call.update key value) values = t
-tablesAfter t (Call.add key value) values = t
-tablesAfter t (Call.delete key) values = t
-tablesAfter t (Call.scan cursor lent) values = t
-tablesAfter t (Call.suggestedSize growing) values = t
-tablesAfter t Call.buckets values = t
-
--- a refused call changes none of this
-unfoldable pub tablesAnswered : ℕ → Tables → Call → List ℕ → Tables
-tablesAnswered zero t c values = tablesAfter t c values
-tablesAnswered (suc number) t c values = t
-
-unfoldable pub tablesStep : Tables → Event → Tables
-tablesStep t e = tablesAnswered (e .number) t (e .call) (e .values)

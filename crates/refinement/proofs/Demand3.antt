@@ -1,8 +1,10 @@
 -- Demand 3 holds of the calls as model defines them: each call keeps the store in agreement with the ideal.
 -- Assumes nothing.
+use mathlib.Core.Path.{_≡_, sym}
 use Rattle.model.specs.Sequences.{World, Call, perform, carry}
 use Rattle.refinement.specs.Demand2.{KeyCall}
-use Rattle.refinement.specs.Demand3.{Ideal, Demand3, noMap}
+use Rattle.refinement.specs.Demand3.{Ideal, lengthsOf, ideal, begun, predict, Demand3}
+use Rattle.refinement.proofs.Lengths.{lengths-kept}
 use Rattle.refinement.proofs.Agreement.{Agrees, Steps}
 use Rattle.refinement.proofs.KeyedSteps.{keyed-steps}
 use Rattle.refinement.proofs.TableSteps.{suggested-steps, buckets-steps, init-number, init-agrees, init-steps, resize-steps}
@@ -11,25 +13,27 @@ use Rattle.refinement.proofs.WalkSteps.{scan-steps}
 use Rattle.refinement.proofs.Histories.{sequence-holds}
 
 -- any of the ten calls
-steps : (w : World) (i : Ideal) (c : Call) → Agrees w i → Steps w i c
+steps : (w : World) (i : Ideal) → Agrees w i → i .lengths ≡ lengthsOf w → (c : Call) → Steps w c (predict i c)
 unfolding KeyCall
-steps w i (Call.init capacity size) a = init-steps w i a capacity size
-steps w i (Call.find key) a = keyed-steps w i a (Call.find key) tt
-steps w i (Call.update key value) a = keyed-steps w i a (Call.update key value) tt
-steps w i (Call.add key value) a = keyed-steps w i a (Call.add key value) tt
-steps w i (Call.delete key) a = keyed-steps w i a (Call.delete key) tt
-steps w i (Call.resize size) a = resize-steps w i a size
-steps w i Call.rehashStep a = step-steps w i a
-steps w i (Call.scan cursor lent) a = scan-steps w i a cursor lent
-steps w i (Call.suggestedSize growing) a = suggested-steps w i a growing
-steps w i Call.buckets a = buckets-steps w i a
+steps w i a same (Call.init capacity size) = init-steps w i a same capacity size
+steps w i a same (Call.find key) = keyed-steps w i a (Call.find key) tt
+steps w i a same (Call.update key value) = keyed-steps w i a (Call.update key value) tt
+steps w i a same (Call.add key value) = keyed-steps w i a (Call.add key value) tt
+steps w i a same (Call.delete key) = keyed-steps w i a (Call.delete key) tt
+steps w i a same (Call.resize size) = resize-steps w i a same size
+steps w i a same Call.rehashStep = step-steps w i a
+steps w i a same (Call.scan cursor lent) = scan-steps w i a same cursor lent
+steps w i a same (Call.suggestedSize growing) = suggested-steps w i a growing
+steps w i a same Call.buckets = buckets-steps w i a
 
 pub demand3 : Demand3 perform
+unfolding begun ideal
 demand3 =
     record {
-      begins = λ w capacity size. init-number w capacity size noMap;
+      begins = init-number;
       sequence =
           λ w capacity size answered calls.
-          sequence-holds steps (carry w (perform w (Call.init capacity size))) capacity size calls
-          (init-agrees w capacity size answered);
+          let c = Call.init capacity size in
+          sequence-holds steps (carry w (perform w c)) (begun (lengthsOf w) capacity size) calls
+          (init-agrees w capacity size (lengthsOf w) answered) (sym (lengths-kept w c));
     }

@@ -20,16 +20,16 @@ use Rattle.model.specs.Walk.{Handed, joined, group, groupEntries, pairs, handOu
 use Rattle.model.specs.Answers.{scanReply, shortNumber}
 use Rattle.model.specs.Sequences.{World, Call, Outcome, handedOut, perform}
 use Rattle.model.proofs.Soundness.{Sound}
-use Rattle.refinement.specs.Worlds.{current, other, UndamagedAt}
+use Rattle.refinement.specs.Worlds.{current, other, tablesOf, UndamagedAt}
 use Rattle.refinement.specs.Demand2.{groupPlaces, entriesIn, nextCursor, HandsOut}
-use Rattle.refinement.specs.Demand3.{InGroup}
+use Rattle.refinement.specs.Demand3.{groupIn}
 use Rattle.refinement.proofs.Lists.{in-left, in-right, in-either, distinct-append, distinct-map}
 use Rattle.refinement.proofs.Shape.{Shape, shape-sound, facts}
 use Rattle.refinement.proofs.LinkedChains.{shape-distinct}
 use Rattle.refinement.proofs.ToUndamaged.{entries-at}
 use Rattle.refinement.proofs.FromUndamaged.{fits-held, undamaged-shape}
 use Rattle.refinement.proofs.Orientation.{oriented-read}
-use Rattle.refinement.proofs.LiveTables.{CoversKey, tablesOf}
+use Rattle.refinement.proofs.LiveTables.{CoversKey}
 use Rattle.refinement.proofs.GroupChains.{chainsOf, group-chains}
 use Rattle.refinement.proofs.GroupPlaces.{PlacesOf, group-places}
 
@@ -73,7 +73,7 @@ module _ (w : World) (u : UndamagedAt w) where
 
   -- the places of the call's group
   pub world-places : (cursor : ℕ)
-      → PlacesOf (w .state) (CoversKey (tablesOf (w .state)) cursor) (InGroup (tablesOf (w .state)) cursor)
+      → PlacesOf (w .state) (CoversKey (tablesOf (w .state)) cursor) (groupIn (tablesOf (w .state)) cursor)
       (groupPlaces (w .state) cursor)
   world-places cursor = group-places (w .state) (current w) (other w) (w .entries) world-sound cursor
 
@@ -98,7 +98,7 @@ module _ (w : World) (u : UndamagedAt w) where
       (shape-distinct shape p l)
 
   -- the entries of distinct live places are distinct
-  entries-distinct : (ps : List Place) → ((p : Place) → In p ps → Live (w .state) p) → Distinct ps → Distinct (entriesIn w ps)
+  pub entries-distinct : (ps : List Place) → ((p : Place) → In p ps → Live (w .state) p) → Distinct ps → Distinct (entriesIn w ps)
   unfolding entriesIn UndamagedAt
   entries-distinct [] live d = tt
   entries-distinct (p ∷ ps) live d =

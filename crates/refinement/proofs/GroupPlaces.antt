@@ -1,15 +1,16 @@
 -- The places of a walk call's group: live buckets, none twice; an entry whose key the group covers is in one of them, and
--- a key that calls for one of them is of the group.
+-- they are those that the ideal lists for each table.
 -- Assumes nothing.
 use Prim.Native.Nat.{ℕ, _%_, _<_}
 use mathlib.Core.Path.{_≡_, refl, sym, ap, subst, subst₂, subst₃, _∙_}
 use mathlib.Core.Logic.{_⊎_, inl, inr}
-use mathlib.Core.Bool.{Bool, true, false, not}
+use mathlib.Core.Bool.{Bool, true, false, cond, not}
 use mathlib.Core.List.{List, [], _∷_, map}
 use native.Mathlib.Nat.{mod-lt}
 use native.Mathlib.Omega.{arith}
 use lib.Dec.{ltb}
 use lib.Pow.{pow-pos}
+use borrow.Author.Tests.{eq-eqb, ne-eqb}
 use Rattle.cursor.specs.Member.{In, Distinct}
 use Rattle.cursor.specs.Group.{Group, oneTable, twoTables}
 use Rattle.cursor.proofs.LargeBuckets.{LargeBuckets, two-large}
@@ -18,10 +19,11 @@ use Rattle.model.specs.Keys.{hash, bucketOf}
 use Rattle.model.specs.Memory.{Place, Live, Home, IsBucket}
 use Rattle.model.specs.Sequences.{Tables}
 use Rattle.model.proofs.Soundness.{Sound}
+use Rattle.refinement.specs.Worlds.{inOld, tablesBy, tablesOf}
 use Rattle.refinement.specs.Demand2.{placesOf, groupPlaces}
-use Rattle.refinement.specs.Demand3.{groupAt, InGroup}
+use Rattle.refinement.specs.Demand3.{smallerOf, groupAt, groupIn}
 use Rattle.refinement.proofs.Lists.{in-map, of-map, distinct-map}
-use Rattle.refinement.proofs.LiveTables.{exponent, legal-power, Legal, Ranked, old-smaller, new-smaller, CoversKey, tablesBy, tablesOf, group-tables}
+use Rattle.refinement.proofs.LiveTables.{exponent, legal-power, Legal, Ranked, old-smaller, new-smaller, CoversKey, group-tables}
 
 -- ---- the buckets of the new or the old table
 
@@ -29,7 +31,7 @@ unfoldable bucketIn : Bool → ℕ → Place
 bucketIn true b = Place.new b
 bucketIn false b = Place.old b
 
-unfoldable sizeIn : State → Bool → ℕ
+unfoldable pub sizeIn : State → Bool → ℕ
 sizeIn s true = s .«new_size»
 sizeIn s false = s .«old_size»
 
@@ -70,13 +72,31 @@ bucket-cases false (Place.new b) i = inr (b, refl)
 
 -- ---- the places
 
--- Live buckets, none twice. A key that is covered has its buckets among them, and a key that calls for one is of the group.
-pub record PlacesOf (s : State) (Covers OfGroup : ℕ → Type 0) (ps : List Place) : Type 0 where
+-- Live buckets, none twice. A key that is covered has its buckets among them, and they are those listed for each size.
+pub record PlacesOf (s : State) (Covers : ℕ → Type 0) (listed : ℕ → List ℕ) (ps : List Place) : Type 0 where
   pub live : (p : Place) → In p ps → Live s p
   pub buckets : (p : Place) → In p ps → IsBucket p
   pub distinct : Distinct ps
   pub holds : (key : ℕ) (p : Place) → Covers key → Live s p → IsBucket p → Home s key p → In p ps
-  pub only : (key : ℕ) (p : Place) → In p ps → Home s key p → OfGroup key
+  of-list : (t : Bool) (b : ℕ) → In (bucketIn t b) ps → In b (listed (sizeIn s t))
+  in-list : (t : Bool) (b : ℕ) → Live s (bucketIn t b) → In b (listed (sizeIn s t)) → In (bucketIn t b) ps
+
+module _ {s : State} {Covers : ℕ → Type 0} {listed : ℕ → List ℕ} {ps : List Place} (h : PlacesOf s Covers listed ps)
+    (key : ℕ) where
+  -- so a bucket that a key calls for is among them where its number is listed, and nowhere else
+  pub place-listed : (p : Place) → IsBucket p → Home s key p → In p ps
+      → In (bucketOf key (sizeIn s (not (inOld p)))) (listed (sizeIn s (not (inOld p))))
+  unfolding inOld sizeIn bucketIn IsBucket Home
+  place-listed Place.free i at j = absurd i
+  place-listed (Place.old b) i at j = subst (λ (c : ℕ). In c (listed (s .«old_size»))) (sym at) (h .of-list false b j)
+  place-listed (Place.new b) i at j = subst (λ (c : ℕ). In c (listed (s .«new_size»))) (sym at) (h .of-list true b j)
+
+  pub listed-place : (p : Place) → Live s p → IsBucket p → Home s key p
+      → In (bucketOf key (sizeIn s (not (inOld p)))) (listed (sizeIn s (not (inOld p)))) → In p ps
+  unfolding inOld sizeIn bucketIn IsBucket Home
+  listed-place Place.free l i at j = absurd i
+  listed-place (Place.old b) l i at j = h .in-list false b l (subst (λ (c : ℕ). In c (listed (s .«old_size»))) at j)
+  listed-place (Place.new b) l i at j = h .in-list true b l (subst (λ (c : ℕ). In c (listed (s .«new_size»))) at j)
 
 -- the new or the old table is the smaller
 abbrev SmallerFirst : State → ℕ → Bool → Type 0
@@ -140,25 +160,72 @@ module _ (s : State) (cursor : ℕ) (t : Bool) (o : SmallerFirst s cursor t) whe
           (subst (λ (q : Place). In q (map (bucketIn (not t)) large)) (ap (bucketIn (not t)) at ∙ sym e)
           (in-map (bucketIn (not t)) (key % sizeIn s (not t)) large (c .1)))
 
-  places-only : (key : ℕ) (p : Place) → In p places → Home s key p
-      → (key % sizeIn s t ≡ small) ⊎ In (key % sizeIn s (not t)) large
+  -- the ideal lists them by the sizes
+  abbrev listed : ℕ → List ℕ
+  listed = groupIn (Tables.two (s .«old_size») (s .«new_size»)) cursor
+
+  small-listed : listed (sizeIn s t) ≡ small ∷ []
+  unfolding groupIn smallerOf small twoTables
+  small-listed =
+      let g = groupAt (Tables.two (s .«old_size») (s .«new_size»)) cursor in
+      ap (λ (b : Bool). cond b (g .small ∷ []) (g .large)) (eq-eqb (sizeIn s t) _ (sym (o .least)))
+      ∙ ap (λ (g : Group). g .small ∷ []) (o .its-group)
+
+  large-listed : listed (sizeIn s (not t)) ≡ large
+  unfolding groupIn smallerOf large
+  large-listed =
+      let g = groupAt (Tables.two (s .«old_size») (s .«new_size»)) cursor in
+      let less = o .powers .less in
+      ap (λ (b : Bool). cond b (g .small ∷ []) (g .large))
+      (ne-eqb (sizeIn s (not t)) _ (λ e. omega (arith, ap exponent (e ∙ o .least))))
+      ∙ ap (λ (g : Group). g .large) (o .its-group)
+
+  -- in the one table or in the other
+  either-table : (P : Bool → Type 0) → P t → P (not t) → (u : Bool) → P u
+  either-table P here there u = by t u here there
+    where
+      by : (t u : Bool) → P t → P (not t) → P u
+      by true true h k = h
+      by true false h k = k
+      by false true h k = k
+      by false false h k = h
+
+  places-of-list : (u : Bool) (b : ℕ) → In (bucketIn u b) places → In b (listed (sizeIn s u))
   unfolding places
-  places-only key p (inl e) h = inl (bucket-home s t small key (subst (λ (q : Place). Home s key q) e h))
-  places-only key p (inr i) h =
-      let (b, j, e) = of-map (bucketIn (not t)) p large i in
-      let at : key % sizeIn s (not t) ≡ b =
-      bucket-home s (not t) b key (subst (λ (q : Place). Home s key q) e h) in
-      inr (subst (λ (c : ℕ). In c large) (sym at) j)
+  places-of-list =
+      either-table (λ u. (b : ℕ) → In (bucketIn u b) places → In b (listed (sizeIn s u)))
+      (λ b i. subst (λ (bs : List ℕ). In b bs) (sym small-listed) (here b i))
+      (λ b i. subst (λ (bs : List ℕ). In b bs) (sym large-listed) (there b i))
+    where
+      here : (b : ℕ) → In (bucketIn t b) places → In b (small ∷ [])
+      here b (inl e) = inl (bucket-number t b small e)
+      here b (inr i) =
+          let (c, j, e) = of-map (bucketIn (not t)) (bucketIn t b) large i in absurd (bucket-apart t b c e)
+
+      there : (b : ℕ) → In (bucketIn (not t) b) places → In b large
+      there b (inl e) = absurd (bucket-apart t small b (sym e))
+      there b (inr i) =
+          let (c, j, e) = of-map (bucketIn (not t)) (bucketIn (not t) b) large i in
+          subst (λ (n : ℕ). In n large) (sym (bucket-number (not t) b c e)) j
+
+  places-in-list : (u : Bool) (b : ℕ) → Live s (bucketIn u b) → In b (listed (sizeIn s u)) → In (bucketIn u b) places
+  unfolding places
+  places-in-list =
+      either-table (λ u. (b : ℕ) → Live s (bucketIn u b) → In b (listed (sizeIn s u)) → In (bucketIn u b) places)
+      (λ b l i. here b (subst (λ (bs : List ℕ). In b bs) small-listed i))
+      (λ b l i. inr (in-map (bucketIn (not t)) b large (subst (λ (bs : List ℕ). In b bs) large-listed i)))
+    where
+      here : (b : ℕ) → In b (small ∷ []) → In (bucketIn t b) places
+      here b (inl e) = inl (ap (bucketIn t) e)
+      here b (inr i) = absurd i
 
   two-places :
-      PlacesOf s (CoversKey (Tables.two (s .«old_size») (s .«new_size»)) cursor)
-      (InGroup (Tables.two (s .«old_size») (s .«new_size»)) cursor)
+      PlacesOf s (CoversKey (Tables.two (s .«old_size») (s .«new_size»)) cursor) listed
       (placesOf true (not t) (groupAt (Tables.two (s .«old_size») (s .«new_size»)) cursor))
-  unfolding CoversKey InGroup bucketOf hash twoTables small large places
+  unfolding CoversKey bucketOf hash twoTables small large places
   two-places =
       subst
-      (PlacesOf s (CoversKey (Tables.two (s .«old_size») (s .«new_size»)) cursor)
-      (InGroup (Tables.two (s .«old_size») (s .«new_size»)) cursor))
+      (PlacesOf s (CoversKey (Tables.two (s .«old_size») (s .«new_size»)) cursor) listed)
       (sym (ap (placesOf true (not t)) (o .its-group) ∙ places-in-order t (twoTables (sizeIn s t) (sizeIn s (not t)) cursor)))
       (record {
         live = places-live;
@@ -169,10 +236,8 @@ module _ (s : State) (cursor : ℕ) (t : Bool) (o : SmallerFirst s cursor t) whe
             places-hold key p
             (subst₃ (λ (n m : ℕ) (g : Group). (key % n ≡ g .small) × In (key % m) (g .large)) (o .least) (o .most) (o .its-group) c)
             i h;
-        only =
-            λ key p i h.
-            subst₃ (λ (n m : ℕ) (g : Group). (key % n ≡ g .small) ⊎ In (key % m) (g .large)) (sym (o .least)) (sym (o .most))
-            (sym (o .its-group)) (places-only key p i h);
+        of-list = places-of-list;
+        in-list = places-in-list;
       })
 
 module _ (s : State) (current other entries : List ℕ) (h : Sound s current other entries) (cursor : ℕ) where
@@ -180,16 +245,17 @@ module _ (s : State) (current other entries : List ℕ) (h : Sound s current oth
   old-positive = let (e, l) = legal-power (s .«old_size») (h .base .old-legal) in omega (arith, pow-pos (exponent (s .«old_size»)))
 
   one-places : s .rehashing ≡ false
-      → PlacesOf s (CoversKey (Tables.one (s .«old_size»)) cursor) (InGroup (Tables.one (s .«old_size»)) cursor)
+      → PlacesOf s (CoversKey (Tables.one (s .«old_size»)) cursor) (groupIn (Tables.one (s .«old_size»)) cursor)
       (Place.old (cursor % s .«old_size») ∷ [])
-  unfolding CoversKey InGroup bucketOf hash groupAt oneTable Live IsBucket Home
+  unfolding CoversKey groupIn smallerOf bucketOf hash groupAt oneTable bucketIn sizeIn Live IsBucket Home
   one-places e =
       record {
         live = live-one;
         buckets = is-one;
         distinct = (λ i. i, tt);
         holds = holds-one;
-        only = only-one;
+        of-list = of-one;
+        in-list = in-one;
       }
     where
       live-one : (p : Place) → In p (Place.old (cursor % s .«old_size») ∷ []) → Live s p
@@ -206,10 +272,25 @@ module _ (s : State) (current other entries : List ℕ) (h : Sound s current oth
       holds-one key (Place.old b) c l i at = inl (ap Place.old (sym at ∙ c))
       holds-one key (Place.new b) c l i at = absurd (omega (arith, h .still e .no-new))
 
-      only-one : (key : ℕ) (p : Place) → In p (Place.old (cursor % s .«old_size») ∷ []) → Home s key p
-          → InGroup (Tables.one (s .«old_size»)) cursor key
-      only-one key p (inl q) at = subst (λ (r : Place). Home s key r) q at
-      only-one key p (inr i) at = absurd i
+      only-list : groupIn (Tables.one (s .«old_size»)) cursor (s .«old_size») ≡ cursor % s .«old_size» ∷ []
+      only-list =
+          ap (λ (b : Bool). cond b (cursor % s .«old_size» ∷ []) []) (eq-eqb (s .«old_size») (s .«old_size») refl)
+
+      of-one : (t : Bool) (b : ℕ) → In (bucketIn t b) (Place.old (cursor % s .«old_size») ∷ [])
+          → In b (groupIn (Tables.one (s .«old_size»)) cursor (sizeIn s t))
+      of-one false b (inl q) = subst (λ (bs : List ℕ). In b bs) (sym only-list) (inl (bucket-number false b _ q))
+      of-one true b (inl q) = absurd (bucket-apart true b _ q)
+      of-one t b (inr i) = absurd i
+
+      in-one : (t : Bool) (b : ℕ) → Live s (bucketIn t b)
+          → In b (groupIn (Tables.one (s .«old_size»)) cursor (sizeIn s t))
+          → In (bucketIn t b) (Place.old (cursor % s .«old_size») ∷ [])
+      in-one true b l i = absurd (omega (arith, l, h .still e .no-new))
+      in-one false b l i = by (subst (λ (bs : List ℕ). In b bs) only-list i)
+        where
+          by : In b (cursor % s .«old_size» ∷ []) → In (Place.old b) (Place.old (cursor % s .«old_size») ∷ [])
+          by (inl q) = inl (ap Place.old q)
+          by (inr i) = absurd i
 
   -- during a rehash, which of the two tables is the smaller
   smaller-first : (t : Bool) → s .rehashing ≡ true → ltb (s .«old_size») (s .«new_size») ≡ not t → SmallerFirst s cursor t
@@ -224,19 +305,19 @@ module _ (s : State) (current other entries : List ℕ) (h : Sound s current oth
       by true = new-smaller (s .«old_size») (s .«new_size») cursor legal
 
   -- the places of a call's group, in a sound state
-  pub group-places : PlacesOf s (CoversKey (tablesOf s) cursor) (InGroup (tablesOf s) cursor) (groupPlaces s cursor)
+  pub group-places : PlacesOf s (CoversKey (tablesOf s) cursor) (groupIn (tablesOf s) cursor) (groupPlaces s cursor)
   unfolding tablesOf tablesBy groupPlaces placesOf groupAt oneTable
   group-places =
       subst
       (λ (g : Group).
-      PlacesOf s (CoversKey (tablesOf s) cursor) (InGroup (tablesOf s) cursor)
+      PlacesOf s (CoversKey (tablesOf s) cursor) (groupIn (tablesOf s) cursor)
       (placesOf (s .rehashing) (ltb (s .«old_size») (s .«new_size»)) g))
       (sym (group-tables s cursor))
       (pick (s .rehashing) (ltb (s .«old_size») (s .«new_size»)) refl refl)
     where
       pick : (m t : Bool) → s .rehashing ≡ m → ltb (s .«old_size») (s .«new_size») ≡ t
           → PlacesOf s (CoversKey (tablesBy m (s .«old_size») (s .«new_size»)) cursor)
-          (InGroup (tablesBy m (s .«old_size») (s .«new_size»)) cursor)
+          (groupIn (tablesBy m (s .«old_size») (s .«new_size»)) cursor)
           (placesOf m t (groupAt (tablesBy m (s .«old_size») (s .«new_size»)) cursor))
       pick false t e f = one-places e
       pick true true e f = two-places s cursor false (smaller-first false e f)

@@ -118,10 +118,10 @@ module _ (capacity size : ℕ) (first second entries : List ℕ) (limits : withi
       (leb-true size (length first) (each .0), leb-true (capacity * 3) (length entries) (each .1))
 
   -- start keeps the lengths of the buffers
-  started-buckets-length : length (cleared size first) ≡ length first
+  pub started-buckets-length : length (cleared size first) ≡ length first
   started-buckets-length = length-cleared size first (fits .0)
 
-  started-entries-length : length (startedEntries capacity entries) ≡ length entries
+  pub started-entries-length : length (startedEntries capacity entries) ≡ length entries
   started-entries-length =
       omega (
         arith,

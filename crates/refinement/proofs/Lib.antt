@@ -30,16 +30,17 @@ pub mod Lookups
 pub mod CallAnswers
 pub mod Orientation
 pub mod Refusals
+pub mod Lengths
 -- the walk call
 pub mod LiveTables
 pub mod GroupChains
 pub mod GroupPlaces
 pub mod GroupEntries
 pub mod WalkCalls
+pub mod Contents
 -- histories: a store that agrees with the plain map and the live tables, call by call
 pub mod PlainMaps
 pub mod Agreement
-pub mod IdealSteps
 pub mod KeyedSteps
 pub mod TableSteps
 pub mod MovedKeys

@@ -11,7 +11,7 @@ use lib.ListN.{length}
 use lib.Dec.{eqb}
 use borrow.Author.Tests.{eqb-true, eq-eqb}
 use Rattle.cursor.specs.Member.{In, Distinct}
-use Rattle.refinement.specs.Demand3.{among, keep, joinFresh}
+use Rattle.refinement.specs.Demand3.{among, keep}
 
 -- Empty lists.
 
@@ -116,23 +116,28 @@ module _ {A B : Type 0} (f : A → B) where
           let same : x ≡ y = apart x y (inl refl) (inr j) e in
           d .0 (rw (← same) at j)
 
+  -- and where the mapped list has none, neither has the list
+  pub of-distinct-map : (xs : List A) → Distinct (map f xs) → Distinct xs
+  of-distinct-map [] d = tt
+  of-distinct-map (x ∷ xs) d = (λ i. d .0 (in-map x xs i), of-distinct-map xs (d .1))
+
 -- Lengths.
 
 -- a list without one of its members: one shorter, and every other member is there still
-removed : (x : ℕ) (xs : List ℕ) → In x xs
-    → (ys : List ℕ) × (length xs ≡ suc (length ys)) × ((y : ℕ) → In y xs → y ≢ x → In y ys)
-removed x (z ∷ xs) (inl e) = (xs, refl, others)
+removed : {A : Type 0} (x : A) (xs : List A) → In x xs
+    → (ys : List A) × (length xs ≡ suc (length ys)) × ((y : A) → In y xs → y ≢ x → In y ys)
+removed {A} x (z ∷ xs) (inl e) = (xs, refl, others)
   where
-    others : (y : ℕ) → In y (z ∷ xs) → y ≢ x → In y xs
+    others : (y : A) → In y (z ∷ xs) → y ≢ x → In y xs
     others y (inl f) ne = absurd (ne (cc))
     others y (inr j) ne = j
-removed x (z ∷ xs) (inr i) = more (removed x xs i)
+removed {A} x (z ∷ xs) (inr i) = more (removed x xs i)
   where
-    more : (ys : List ℕ) × (length xs ≡ suc (length ys)) × ((y : ℕ) → In y xs → y ≢ x → In y ys)
-        → (ys : List ℕ) × (length (z ∷ xs) ≡ suc (length ys)) × ((y : ℕ) → In y (z ∷ xs) → y ≢ x → In y ys)
+    more : (ys : List A) × (length xs ≡ suc (length ys)) × ((y : A) → In y xs → y ≢ x → In y ys)
+        → (ys : List A) × (length (z ∷ xs) ≡ suc (length ys)) × ((y : A) → In y (z ∷ xs) → y ≢ x → In y ys)
     more (ys, l, rest) = (z ∷ ys, omega arith, others)
       where
-        others : (y : ℕ) → In y (z ∷ xs) → y ≢ x → In y (z ∷ ys)
+        others : (y : A) → In y (z ∷ xs) → y ≢ x → In y (z ∷ ys)
         others y (inl f) ne = inl f
         others y (inr j) ne = inr (rest y j ne)
 
@@ -145,7 +150,7 @@ pigeonhole (suc c) xs h =
     omega arith
 
 -- a list with no repeats is no longer than one that contains its members
-pub distinct-fits : (xs ys : List ℕ) → Distinct xs → ((x : ℕ) → In x xs → In x ys) → length xs ≤ length ys
+pub distinct-fits : {A : Type 0} (xs ys : List A) → Distinct xs → ((x : A) → In x xs → In x ys) → length xs ≤ length ys
 distinct-fits [] ys d f = omega arith
 distinct-fits (x ∷ xs) ys d f =
     let (zs, l, rest) = removed x ys (f x (inl refl)) in
@@ -153,14 +158,14 @@ distinct-fits (x ∷ xs) ys d f =
     omega arith
 
 -- lists with no repeats and the same members are as long
-pub same-length : (xs ys : List ℕ) → Distinct xs → Distinct ys → ((x : ℕ) → In x xs → In x ys)
-    → ((x : ℕ) → In x ys → In x xs) → length xs ≡ length ys
+pub same-length : {A : Type 0} (xs ys : List A) → Distinct xs → Distinct ys → ((x : A) → In x xs → In x ys)
+    → ((x : A) → In x ys → In x xs) → length xs ≡ length ys
 same-length xs ys d e f g = omega (arith, distinct-fits xs ys d f, distinct-fits ys xs e g)
 
 -- The members for which a test holds.
 
-module _ (test : ℕ → Bool) where
-  pub in-keep : (k : ℕ) (ks : List ℕ) → In k ks → test k ≡ true → In k (keep test ks)
+module _ {A : Type 0} (test : A → Bool) where
+  pub in-keep : (k : A) (ks : List A) → In k ks → test k ≡ true → In k (keep test ks)
   unfolding keep
   in-keep k (j ∷ ks) (inl e) t =
       subst (λ (b : Bool). In k (cond b (j ∷ keep test ks) (keep test ks))) (sym (ap test (sym e) ∙ t)) (inl e)
@@ -170,7 +175,7 @@ module _ (test : ℕ → Bool) where
       by true h = inr h
       by false h = h
 
-  pub of-keep : (k : ℕ) (ks : List ℕ) → In k (keep test ks) → In k ks × (test k ≡ true)
+  pub of-keep : (k : A) (ks : List A) → In k (keep test ks) → In k ks × (test k ≡ true)
   unfolding keep
   of-keep k (j ∷ ks) i = by (test j) refl i (of-keep k ks)
     where
@@ -180,7 +185,7 @@ module _ (test : ℕ → Bool) where
       by true t (inr h) rest = (inr (rest h .0), rest h .1)
       by false t h rest = (inr (rest h .0), rest h .1)
 
-  pub distinct-keep : (ks : List ℕ) → Distinct ks → Distinct (keep test ks)
+  pub distinct-keep : (ks : List A) → Distinct ks → Distinct (keep test ks)
   unfolding keep
   distinct-keep [] d = tt
   distinct-keep (j ∷ ks) d = by (test j) (distinct-keep ks (d .1))
@@ -188,6 +193,14 @@ module _ (test : ℕ → Bool) where
       by : (b : Bool) → Distinct (keep test ks) → Distinct (cond b (j ∷ keep test ks) (keep test ks))
       by true h = (λ i. d .0 (of-keep j ks i .0), h)
       by false h = h
+
+  -- where it holds of each
+  pub keep-all : (ks : List A) → ((k : A) → In k ks → test k ≡ true) → keep test ks ≡ ks
+  unfolding keep
+  keep-all [] all = refl
+  keep-all (k ∷ ks) all =
+      ap (λ (b : Bool). cond b (k ∷ keep test ks) (keep test ks)) (all k (inl refl))
+      ∙ ap (λ (js : List A). k ∷ js) (keep-all ks (λ j i. all j (inr i)))
 
 -- the test for a member
 pub among-in : (k : ℕ) (ks : List ℕ) → among k ks ≡ true → In k ks
@@ -207,9 +220,3 @@ in-among k (j ∷ ks) (inr i) = by (eqb j k) (in-among k ks i)
     by : (b : Bool) → among k ks ≡ true → cond b true (among k ks) ≡ true
     by true h = refl
     by false h = h
-
--- the ideal's join of two lists of keys is the joined list
-pub joined-fresh : (ks fresh : List ℕ) → joinFresh ks fresh ≡ ks ++ fresh
-unfolding joinFresh
-joined-fresh [] fresh = refl
-joined-fresh (k ∷ ks) fresh = ap (λ (l : List ℕ). k ∷ l) (joined-fresh ks fresh)

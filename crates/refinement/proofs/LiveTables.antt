@@ -3,7 +3,7 @@
 use Prim.Native.Nat.{ℕ, zero, suc, _%_, _^_, _<_, _≤_, min, max}
 use mathlib.Core.Path.{_≡_, refl, sym, ap, subst₃, _∙_}
 use mathlib.Core.Bool.{Bool, true, false, cond}
-use mathlib.Core.List.{List, [], _∷_}
+use mathlib.Core.List.{List}
 use native.Mathlib.Nat.{min-eq-left, min-eq-right, max-eq-left, max-eq-right}
 use native.Mathlib.Omega.{arith}
 use lib.ListN.{length}
@@ -17,11 +17,12 @@ use Rattle.model.specs.declared.State.{State}
 use Rattle.model.specs.Keys.{hash, bucketOf}
 use Rattle.model.specs.Limits.{largestExponent, legalSize}
 use Rattle.model.specs.Walk.{group}
-use Rattle.model.specs.Sequences.{Pair, Tables}
+use Rattle.model.specs.Sequences.{Tables}
 use Rattle.model.proofs.Power.{exponent-le, exponent-lt, power-of}
 use Rattle.model.proofs.Soundness.{Sound}
+use Rattle.refinement.specs.Worlds.{tablesBy, tablesOf}
 use Rattle.refinement.specs.Demand2.{nextCursor}
-use Rattle.refinement.specs.Demand3.{Ideal, smallerOf, groupAt, publishedNext}
+use Rattle.refinement.specs.Demand3.{Ideal, smallerOf, groupAt}
 
 -- ---- exponents
 
@@ -172,13 +173,6 @@ live-covers (Tables.two old new) h cursor key =
 
 -- ---- the tables of a state
 
-unfoldable pub tablesBy : Bool → ℕ → ℕ → Tables
-tablesBy false old new = Tables.one old
-tablesBy true old new = Tables.two old new
-
-unfoldable pub tablesOf : State → Tables
-tablesOf s = tablesBy (s .rehashing) (s .«old_size») (s .«new_size»)
-
 -- those of a sound state are legal
 pub tables-legal : (s : State) (current other entries : List ℕ) → Sound s current other entries → Legal (tablesOf s)
 unfolding tablesOf tablesBy Legal
@@ -203,14 +197,6 @@ group-tables s cursor = pick (s .rehashing)
     pick false = refl
     pick true = refl
 
--- the published next cursor, by the number of pairs
-published-at : (capacity : ℕ) (ps : List Pair) (t : Tables) (fresh : List ℕ) (cursor : ℕ)
-    → publishedNext (record { plain = record { capacity = capacity; pairs = ps }; tables = t; fresh = fresh }) cursor
-    ≡ nextCursor (length ps) (next (smallerOf t) cursor)
-unfolding publishedNext nextCursor
-published-at capacity [] t fresh cursor = refl
-published-at capacity (p ∷ ps) t fresh cursor = refl
-
-pub published : (i : Ideal) (cursor : ℕ)
-    → publishedNext i cursor ≡ nextCursor (length (i .plain .pairs)) (next (smallerOf (i .tables)) cursor)
-published i cursor = published-at (i .plain .capacity) (i .plain .pairs) (i .tables) (i .fresh) cursor
+-- the published next cursor; with no keys held, 0
+abbrev pub publishedNext : Ideal → ℕ → ℕ
+publishedNext i cursor = nextCursor (length (i .plain .pairs)) (next (smallerOf (i .tables)) cursor)

@@ -15,7 +15,7 @@ use Rattle.cursor.specs.Member.{Distinct, In}
 use Rattle.model.specs.Sequences.{Pair, valueFor, withValue, without}
 use Rattle.refinement.specs.Worlds.{KeysDistinct}
 use Rattle.refinement.specs.Demand3.{keysOf}
-use Rattle.refinement.proofs.Lists.{of-map}
+use Rattle.refinement.proofs.Lists.{in-map, of-map}
 
 -- a pair of the map
 abbrev pub pair : ℕ → ℕ → Pair
@@ -233,6 +233,26 @@ key-value key (p ∷ ps) (inr i) =
       | no d ↦ let (value, e) = key-value key ps i in (value, value-behind key p ps d ∙ e)
     ]
 
+-- and its pair
+pub value-pair : (key value : ℕ) (ps : List Pair) → valueFor key ps ≡ some value → In (pair key value) ps
+unfolding valueFor
+value-pair key value [] e = let z : _≡_ {A = ℕ} 0 1 = cc in absurd (omega arith)
+value-pair key value (p ∷ ps) e =
+    elim (ℕ-discrete (p .key) key) [
+      | yes h ↦ let same : p .value ≡ value = some-same (sym (value-here key p ps h) ∙ e) in
+          inl (λ k. record { key = sym h k; value = sym same k })
+      | no d ↦ inr (value-pair key value ps (sym (value-behind key p ps d) ∙ e))
+    ]
+  where
+    some-same : {m n : ℕ} → some m ≡ some n → m ≡ n
+    some-same e = cc
+
+pub pair-value : (p : Pair) (ps : List Pair) → KeysDistinct ps → In p ps → valueFor (p .key) ps ≡ some (p .value)
+unfolding KeysDistinct
+pair-value p (q ∷ ps) d (inl e) =
+    value-here (p .key) q ps (ap (λ (x : Pair). x .key) (sym e)) ∙ ap (λ (x : Pair). some (x .value)) (sym e)
+pair-value p (q ∷ ps) d (inr i) = value-behind (p .key) q ps (d .0 p i) ∙ pair-value p ps (d .1) i
+
 pub distinct-keys : (ps : List Pair) → KeysDistinct ps → Distinct (keysOf ps)
 unfolding KeysDistinct keysOf
 distinct-keys [] d = tt
@@ -240,3 +260,9 @@ distinct-keys (p ∷ ps) d = (alone, distinct-keys ps (d .1))
   where
     alone : In (p .key) (keysOf ps) → ⊥
     alone i = let (q, j, e) = of-map (λ (q : Pair). q .key) (p .key) ps i in d .0 q j e
+
+pub keys-distinct : (ps : List Pair) → Distinct (keysOf ps) → KeysDistinct ps
+unfolding KeysDistinct keysOf
+keys-distinct [] d = tt
+keys-distinct (p ∷ ps) d =
+    (λ q i e. d .0 (subst (λ (k : ℕ). In k (keysOf ps)) (sym e) (in-map (λ (q : Pair). q .key) q ps i)), keys-distinct ps (d .1))

@@ -2,14 +2,16 @@
 -- left in the old one, else the chain of the first filled bucket moved.
 -- Assumes nothing.
 use Prim.Native.Nat.{ℕ, _<_}
-use mathlib.Core.Path.{_≡_, refl, sym, ap, subst, _∙_}
-use mathlib.Core.Logic.{_≢_, _⊎_, inl, inr}
-use mathlib.Core.Bool.{Bool, true, false}
-use mathlib.Core.List.{List, [], _∷_, _++_}
+use mathlib.Core.Path.{_≡_, refl, sym, ap, ap₂, subst, _∙_}
+use mathlib.Core.Logic.{_≢_, inl, inr}
+use mathlib.Core.Bool.{Bool, true, false, not}
+use mathlib.Core.List.{List, [], _∷_}
 use mathlib.Core.Option.{some}
 use native.Mathlib.Decide.{ℕ-discrete}
 use native.Mathlib.Omega.{arith}
 use lib.ListN.{length, getD}
+use lib.Dec.{eqb}
+use borrow.Author.Tests.{eqb-false, ne-eqb, not-true}
 use Rattle.cursor.specs.Member.{In}
 use Rattle.model.specs.declared.State.{State}
 use Rattle.model.specs.declared.Error.{Error}
@@ -19,11 +21,11 @@ use Rattle.model.specs.Keys.{bucketOf}
 use Rattle.model.specs.Memory.{Place, Live, IsBucket}
 use Rattle.model.specs.Calls.{After, keysHeld, finished, movedChain, rehashStepIn}
 use Rattle.model.specs.Calls as calls
-use Rattle.model.specs.Sequences.{valueFor, World, Call, perform, event, mapReply, mapAfter, mapStep, Tables, newOf, tablesStepped, tablesAfter}
+use Rattle.model.specs.Sequences.{valueFor, World, Call, perform, Tables}
 use Rattle.model.proofs.Linked.{Linked}
-use Rattle.refinement.specs.Worlds.{current, other}
-use Rattle.refinement.specs.Demand3.{Ideal, oldKeys, movedKeys, stepValues, joinFresh, freshStepped, freshAfter, AsStep, AsIdeal}
-use Rattle.refinement.proofs.Lists.{in-left, in-right, in-either, joined-fresh}
+use Rattle.refinement.specs.Worlds.{current, other, tablesBy, tablesOf}
+use Rattle.refinement.specs.Demand3.{Ideal, Answer, ideal, answer, keep, moveAnswer, stepAnswer, predict}
+use Rattle.refinement.proofs.Lists.{in-keep, of-keep, distinct-keep}
 use Rattle.refinement.proofs.Shape.{headAt, Shape}
 use Rattle.refinement.proofs.Places.{same, keyPlace, key-bucket, key-live}
 use Rattle.refinement.proofs.LinkedChains.{shape-linked}
@@ -33,10 +35,9 @@ use Rattle.refinement.proofs.RehashMove.{HeldThen, stepped-store}
 use Rattle.refinement.proofs.RehashEnd.{swappedPlace, finished-shape, finished-at}
 use Rattle.refinement.proofs.CallAnswers.{step-none, step-finishes, step-moves}
 use Rattle.refinement.proofs.Orientation.{worldBy, left-reply, left-world}
-use Rattle.refinement.proofs.LiveTables.{tablesBy, tablesOf}
-use Rattle.refinement.proofs.Agreement.{HeldAt, AgreesOn, Agrees, Steps, after-agrees, emptied-agrees, kept-agrees, turned-agrees}
-use Rattle.refinement.proofs.IdealSteps.{answered-tables, answered-ideal, changed, refused-agrees}
-use Rattle.refinement.proofs.MovedKeys.{none-old, held-moved, moved-held, some-moved, moved-count}
+use Rattle.refinement.proofs.Refusals.{refused-keeps}
+use Rattle.refinement.proofs.Agreement.{HeldAt, AgreesOn, Agrees, Steps, leaves, after-agrees, retabled-agrees, kept-agrees, turned-agrees}
+use Rattle.refinement.proofs.MovedKeys.{lowestOf, called-for, none-unmoved, some-unmoved, lowest-first, moved-count}
 
 -- ---- the end of the rehash
 
@@ -79,14 +80,17 @@ module _ {s : State} {current other entries : List ℕ} (h : Shape s current oth
 finished-on : {s : State} {current other entries : List ℕ} {i : Ideal} (a : AgreesOn s current other entries i)
     → s .rehashing ≡ true → s .«old_used» ≡ 0
     → AgreesOn (finished s) other current entries
-    (record { plain = i .plain; tables = Tables.one (s .«new_size»); fresh = [] })
+    (ideal (i .lengths) (i .plain) (Tables.one (s .«new_size»)) [] (not (s .«second_is_current»)))
 unfolding finished keysHeld tablesOf tablesBy
 finished-on a moving none-left =
-    emptied-agrees a (finished-shape (a .shape) moving none-left) refl (omega arith)
+    retabled-agrees a (finished-shape (a .shape) moving none-left) refl (omega arith)
     (finished-before (a .shape) moving none-left) (finished-after (a .shape) moving none-left)
-    (λ key k. omega (arith, k .live))
+    [] (λ key j. absurd j) (λ again key k. let z : _≡_ {A = ℕ} 0 1 = cc in absurd (omega arith)) tt
 
 -- ---- a chain moved
+
+old-number : (b c : ℕ) → Place.old b ≡ Place.old c → b ≡ c
+old-number b c e = cc
 
 module _ {s : State} {current other entries : List ℕ} {i : Ideal} (a : AgreesOn s current other entries i)
     (moving : s .rehashing ≡ true) (b : ℕ) (first : FilledFirst (a .shape) b) where
@@ -103,24 +107,23 @@ module _ {s : State} {current other entries : List ℕ} {i : Ideal} (a : AgreesO
       (movedChain s current other entries b (some (a .shape .at (Place.old b)))) (keysHeld s) HoldsThen
   store = stepped-store (a .shape) moving b (first .live) no-head
 
-  abbrev moved : List ℕ
-  moved = movedKeys (s .«old_size») (oldKeys i)
+  -- the keys that stay
+  abbrev stays : ℕ → Bool
+  stays j = not (eqb (bucketOf j (s .«old_size»)) b)
 
   -- the store then agrees
   moved-on : AgreesOn (store .state) (store .current) (store .other) (store .entries)
-      (record {
-        plain = i .plain;
-        tables = Tables.two (s .«old_size») (s .«new_size»);
-        fresh = joinFresh moved (i .fresh);
-      })
-  unfolding keyPlace Live IsBucket tablesOf tablesBy
+      (ideal (i .lengths) (i .plain) (Tables.two (s .«old_size») (s .«new_size»)) (keep stays (i .unmoved)) (i .turned))
+  unfolding keyPlace Live IsBucket tablesOf tablesBy ideal
   moved-on =
       after-agrees store _ (a .capacity) (a .count) (a .distinct)
       (sym (ap (λ (t : Bool). tablesBy t (s .«old_size») (s .«new_size»)) moving))
+      (a .turned)
       in-map
       in-store
-      (λ c k v l j. subst (λ (ks : List ℕ). In k ks) (sym (joined-fresh moved (i .fresh))) (new-only c k v l j))
-      (λ k j. new-all k (in-either k moved (i .fresh) (subst (λ (ks : List ℕ). In k ks) (joined-fresh moved (i .fresh)) j)))
+      (λ t c k v l h. old-only c k v l h)
+      old-all
+      (distinct-keep stays (i .unmoved) (a .unmoved-once))
     where
       in-map : (t : Place) → Live s t → IsBucket t → (k v : ℕ) → HoldsThen t k v → valueFor k (i .plain .pairs) ≡ some v
       in-map t l bucket k v (inl h) = a .in-map k v (record { place = t; live = l; bucket = bucket; held = h .1 })
@@ -140,124 +143,99 @@ module _ {s : State} {current other entries : List ℕ} {i : Ideal} (a : AgreesO
             | no d ↦ (h .place, h .live, h .bucket, inl (d, h .held))
           ]
 
-      new-only : (c k v : ℕ) → c < s .«new_size» → HoldsThen (Place.new c) k v → In k (moved ++ i .fresh)
-      new-only c k v l (inl h) =
-          in-right k moved (i .fresh) (a .in-fresh k (record { value = v; bucket = c; live = l; held = h .1 }))
-      new-only c k v l (inr h) = in-left k moved (i .fresh) (held-moved a b first k v (h .1))
+      old-only : (c k v : ℕ) → c < s .«old_size» → HoldsThen (Place.old c) k v → In k (keep stays (i .unmoved))
+      old-only c k v l (inl h) =
+          in-keep stays k (i .unmoved) (a .in-unmoved moving k (record { value = v; bucket = c; live = l; held = h .1 }))
+          (ap not
+          (ne-eqb (bucketOf k (s .«old_size»)) b (λ e. h .0 (ap Place.old (sym (called-for a k v c l (h .1)) ∙ e)))))
+      old-only c k v l (inr h) = let new = h .0 in let z : _≡_ {A = ℕ} 0 1 = cc in absurd (omega arith)
 
-      new-all : (k : ℕ) → In k moved ⊎ In k (i .fresh) → (c v : ℕ) × (c < s .«new_size») × HoldsThen (Place.new c) k v
-      new-all k (inl j) =
-          let (v, h) = moved-held a b first k j in
-          (bucketOf k (s .«new_size»), v, key-live (a .shape) k true (λ e. moving), inr (refl, h))
-      new-all k (inr j) =
-          let h = a .fresh-in k j in
-          (h .bucket, h .value, h .live, inl ((λ e. let z : _≡_ {A = ℕ} 0 1 = cc in omega arith), h .held))
+      old-all : (k : ℕ) → In k (keep stays (i .unmoved)) → (c v : ℕ) × (c < s .«old_size») × HoldsThen (Place.old c) k v
+      old-all k j =
+          let (there, t) = of-keep stays k (i .unmoved) j in
+          let h = a .unmoved-in k there in
+          let calls = called-for a k (h .value) (h .bucket) (h .live) (h .held) in
+          let other-one = eqb-false (bucketOf k (s .«old_size»)) b (not-true (eqb (bucketOf k (s .«old_size»)) b) t) in
+          (h .bucket, h .value, h .live, inl ((λ e. other-one (calls ∙ old-number (h .bucket) b e)), h .held))
 
 -- ---- the call
 
--- what a step that moves keys answers
-some-values : (ks : List ℕ) → ks ≢ [] → stepValues ks ≡ length ks ∷ 1 ∷ []
-unfolding stepValues
-some-values [] f = absurd (f refl)
-some-values (k ∷ ks) f = refl
+-- what a step that moves keys answers, and the ideal then
+unfoldable movingFrom : Ideal → ℕ → ℕ → List ℕ → ℕ → Answer
+movingFrom i old new ks b =
+    answer 0 (length (keep (λ j. eqb (bucketOf j old) b) ks) ∷ 1 ∷ [])
+    (ideal (i .lengths) (i .plain) (Tables.two old new) (keep (λ j. not (eqb (bucketOf j old) b)) ks) (i .turned))
 
--- the live tables, by whether a rehash is under way
-tables-while : (w : World) (i : Ideal) → Agrees w i → (t : Bool) → w .state .rehashing ≡ t
-    → i .tables ≡ tablesBy t (w .state .«old_size») (w .state .«new_size»)
-unfolding tablesOf
-tables-while w i a t e = a .tables ∙ ap (λ (f : Bool). tablesBy f (w .state .«old_size») (w .state .«new_size»)) e
+some-moving : (i : Ideal) (old new : ℕ) (ks : List ℕ) → ks ≢ []
+    → moveAnswer i old new ks ≡ movingFrom i old new ks (lowestOf old ks)
+unfolding moveAnswer movingFrom lowestOf
+some-moving i old new [] f = absurd (f refl)
+some-moving i old new (k ∷ ks) f = refl
 
 -- a step answered 0, from what it leaves on the current and the other buffer
-step-answered : (w : World) (i : Ideal) (count old new : ℕ) (t : State) (c o e : List ℕ) (tables : Tables) (fresh : List ℕ)
+step-answered : (w : World) (count : ℕ) (t : State) (c o e : List ℕ) (j : Ideal)
     → rehashStepIn (w .state) (w .entries) (current w) (other w) ≡ After.after (StepAnswer.Stepped count t) c o e
-    → i .tables ≡ Tables.two old new
-    → count ∷ flag (t .rehashing) ∷ [] ≡ stepValues (movedKeys old (oldKeys i))
-    → tablesStepped (Tables.two old new) (count ∷ flag (t .rehashing) ∷ []) ≡ tables → freshStepped i tables ≡ fresh
-    → Agrees (worldBy (w .state .«second_is_current») t c o e)
-    (record { plain = i .plain; tables = tables; fresh = fresh })
-    → Steps w i Call.rehashStep
-unfolding AsIdeal AsStep perform calls.rehashStep stepReply event mapStep mapReply mapAfter tablesAfter freshAfter
-step-answered w i count old new t c o e tables fresh is live values tables-after fresh-after agrees-after =
+    → Agrees (worldBy (w .state .«second_is_current») t c o e) j
+    → Steps w Call.rehashStep (answer 0 (count ∷ flag (t .rehashing) ∷ []) j)
+unfolding perform calls.rehashStep stepReply answer
+step-answered w count t c o e j is agrees =
+    let s = w .state in
+    let replied = left-reply w (stepReply s) (rehashStepIn s (w .entries)) (StepAnswer.Stepped count t) c o e is in
     record {
-      answers =
-          subst (λ (ts : Tables). AsStep i (event w call (perform w call)) ts) (sym live) (number, its-values ∙ values);
+      number = ap (λ (r : Reply). r .number) replied;
+      values = λ f. ap (λ (r : Reply). r .values) replied;
       agrees =
-          changed w i call (worldBy (s .«second_is_current») t c o e)
-          (record { plain = i .plain; tables = tables; fresh = fresh }) agrees-after
-          (left-world w (stepReply s) (rehashStepIn s (w .entries)) (StepAnswer.Stepped count t) c o e is t refl refl)
-          (answered-ideal i (event w call (perform w call)) (i .plain) tables fresh number refl stepped-tables
-          (ap (freshStepped i) (answered-tables i (event w call (perform w call)) number ∙ stepped-tables) ∙ fresh-after));
+          subst (λ (v : World). Agrees v j)
+          (sym (left-world w (stepReply s) (rehashStepIn s (w .entries)) (StepAnswer.Stepped count t) c o e is t refl refl))
+          agrees;
     }
-  where
-    s : State
-    s = w .state
-
-    call : Call
-    call = Call.rehashStep
-
-    reply : perform w call .reply ≡ stepReply s (StepAnswer.Stepped count t)
-    reply = left-reply w (stepReply s) (rehashStepIn s (w .entries)) (StepAnswer.Stepped count t) c o e is
-
-    number : perform w call .reply .number ≡ 0
-    number = ap (λ (r : Reply). r .number) reply
-
-    its-values : perform w call .reply .values ≡ count ∷ flag (t .rehashing) ∷ []
-    its-values = ap (λ (r : Reply). r .values) reply
-
-    stepped-tables : tablesStepped (i .tables) (perform w call .reply .values) ≡ tables
-    stepped-tables =
-        ap (tablesStepped (i .tables)) its-values
-        ∙ ap (λ (ts : Tables). tablesStepped ts (count ∷ flag (t .rehashing) ∷ [])) live
-        ∙ tables-after
 
 -- a step, refused, ending the rehash or moving a chain
-pub step-steps : (w : World) (i : Ideal) → Agrees w i → Steps w i Call.rehashStep
-unfolding AsIdeal AsStep perform calls.rehashStep stepReply errorNumber event mapStep mapReply mapAfter tablesBy tablesStepped newOf flag finished stepValues movedKeys freshStepped
-step-steps w i a = by (s .rehashing) refl
+pub step-steps : (w : World) (i : Ideal) → Agrees w i → Steps w Call.rehashStep (predict i Call.rehashStep)
+unfolding predict stepAnswer perform calls.rehashStep stepReply errorNumber tablesOf tablesBy flag finished moveAnswer movingFrom
+step-steps w i a = subst (λ (t : Tables). Steps w Call.rehashStep (stepAnswer i t)) (sym (a .tables)) (by (s .rehashing) refl)
   where
     s : State
     s = w .state
 
-    refused : s .rehashing ≡ false → Steps w i Call.rehashStep
+    refused : s .rehashing ≡ false → Steps w Call.rehashStep (answer 8 (0 ∷ 0 ∷ []) i)
     refused f =
-        let reply =
+        let replied =
         left-reply w (stepReply s) (rehashStepIn s (w .entries)) (StepAnswer.Refused Error.NotRehashing) (current w)
         (other w) (w .entries) (step-none (a .shape) f) in
-        let number : perform w Call.rehashStep .reply .number ≡ 8 = ap (λ (r : Reply). r .number) reply in
-        let not-done : perform w Call.rehashStep .reply .number ≡ 0 → ⊥ = λ z. omega arith in
-        record {
-          answers =
-              subst (λ (ts : Tables). AsStep i (event w Call.rehashStep (perform w Call.rehashStep)) ts)
-              (sym (tables-while w i a false f)) (number, ap (λ (r : Reply). r .values) reply);
-          agrees = refused-agrees w i Call.rehashStep a not-done refl;
-        }
+        let number : perform w Call.rehashStep .reply .number ≡ 8 = ap (λ (r : Reply). r .number) replied in
+        leaves w i a Call.rehashStep 8 (0 ∷ 0 ∷ []) (refused-keeps w Call.rehashStep (λ z. omega arith)) number
+        (λ f. ap (λ (r : Reply). r .values) replied)
 
-    finishes : s .rehashing ≡ true → s .«old_used» ≡ 0 → Steps w i Call.rehashStep
+    Moves : List ℕ → Type 0
+    Moves ks = Steps w Call.rehashStep (moveAnswer i (s .«old_size») (s .«new_size») ks)
+
+    finishes : s .rehashing ≡ true → s .«old_used» ≡ 0 → Moves (i .unmoved)
     finishes t z =
-        step-answered w i 0 (s .«old_size») (s .«new_size») (finished s) (current w) (other w) (w .entries)
-        (Tables.one (s .«new_size»)) [] (step-finishes (a .shape) t z) (tables-while w i a true t)
-        (sym (ap (λ (ks : List ℕ). stepValues (movedKeys (s .«old_size») ks)) (none-old a z))) refl refl
-        (turned-agrees (s .«second_is_current») (finished s) (current w) (other w) (w .entries)
-        (record { plain = i .plain; tables = Tables.one (s .«new_size»); fresh = [] }) refl (finished-on a t z))
+        let j : Bool → Ideal = λ f. ideal (i .lengths) (i .plain) (Tables.one (s .«new_size»)) [] (not f) in
+        subst Moves (sym (none-unmoved a z))
+        (step-answered w 0 (finished s) (current w) (other w) (w .entries) (j (i .turned)) (step-finishes (a .shape) t z)
+        (turned-agrees (s .«second_is_current») (finished s) (current w) (other w) (w .entries) (j (i .turned)) refl
+        (subst (λ (f : Bool). AgreesOn (finished s) (other w) (current w) (w .entries) (j f)) (sym (a .turned))
+        (finished-on a t z))))
 
-    moves : s .rehashing ≡ true → s .«old_used» ≢ 0 → Steps w i Call.rehashStep
+    moves : s .rehashing ≡ true → s .«old_used» ≢ 0 → Moves (i .unmoved)
     moves t f =
         let (b, first) = first-filled (a .shape) t f in
         let ns = a .shape .at (Place.old b) in
         let l = store a t b first in
-        let ks = movedKeys (s .«old_size») (oldKeys i) in
-        let still : l .state .rehashing ≡ true = l .same .rehashing ∙ t in
-        let two = Tables.two (s .«old_size») (s .«new_size») in
-        step-answered w i (length ns) (s .«old_size») (s .«new_size») (l .state) (l .current) (l .other) (l .entries) two
-        (joinFresh ks (i .fresh)) (step-moves (a .shape) t f b first ∙ l .is) (tables-while w i a true t)
-        (ap (λ (r : Bool). length ns ∷ flag r ∷ []) still
-        ∙ ap (λ (n : ℕ). n ∷ 1 ∷ []) (sym (moved-count a b first))
-        ∙ sym (some-values ks (some-moved a b first)))
-        (ap (λ (r : Bool). tablesStepped two (length ns ∷ flag r ∷ [])) still) refl
-        (kept-agrees (s .«second_is_current») (l .state) (l .current) (l .other) (l .entries)
-        (record { plain = i .plain; tables = two; fresh = joinFresh ks (i .fresh) }) (l .same .current)
-        (moved-on a t b first))
+        let j =
+        ideal (i .lengths) (i .plain) (Tables.two (s .«old_size») (s .«new_size»)) (keep (stays a t b first) (i .unmoved))
+        (i .turned) in
+        subst (λ (x : Answer). Steps w Call.rehashStep x)
+        (ap₂ (λ (n : ℕ) (r : Bool). answer 0 (n ∷ flag r ∷ []) j) (sym (moved-count a t b first)) (l .same .rehashing ∙ t)
+        ∙ ap (movingFrom i (s .«old_size») (s .«new_size») (i .unmoved)) (sym (lowest-first a t b first))
+        ∙ sym (some-moving i (s .«old_size») (s .«new_size») (i .unmoved) (some-unmoved a t b first)))
+        (step-answered w (length ns) (l .state) (l .current) (l .other) (l .entries) j (step-moves (a .shape) t f b first ∙ l .is)
+        (kept-agrees (s .«second_is_current») (l .state) (l .current) (l .other) (l .entries) j (l .same .current)
+        (moved-on a t b first)))
 
-    by : (t : Bool) → s .rehashing ≡ t → Steps w i Call.rehashStep
+    by : (t : Bool) → s .rehashing ≡ t
+        → Steps w Call.rehashStep (stepAnswer i (tablesBy t (s .«old_size») (s .«new_size»)))
     by false e = refused e
     by true e = elim (ℕ-discrete (s .«old_used») 0) [ yes z ↦ finishes e z | no f ↦ moves e f ]

@@ -26,18 +26,20 @@ resizedAt at Place.free = at Place.free
 resizedAt at (Place.old b) = at (Place.old b)
 resizedAt at (Place.new b) = []
 
+-- what a size that is accepted is
+pub allowed : (s : State) (other : List ℕ) (size : ℕ) → acceptable s other size ≡ true
+    → (legalSize size ≡ true) × (s .«old_size» ≡ size → ⊥) × (size ≤ length other)
+unfolding acceptable
+allowed s other size accepted =
+    let same = eqb size (s .«old_size») in
+    let each = three-hold (legalSize size) (not same) (leb size (length other)) accepted in
+    let differ = eqb-false size (s .«old_size») (not-true same (each .1)) in
+    (each .0, λ e. differ (sym e), leb-true size (length other) (each .2))
+
 module _ {s : State} {current other entries : List ℕ} (h : Shape s current other entries) (size : ℕ)
     (resting : s .rehashing ≡ false) (accepted : acceptable s other size ≡ true) where
   still : SoundStill s
   still = facts h .still resting
-
-  allowed : (legalSize size ≡ true) × (s .«old_size» ≡ size → ⊥) × (size ≤ length other)
-  unfolding acceptable
-  allowed =
-      let same = eqb size (s .«old_size») in
-      let each = three-hold (legalSize size) (not same) (leb size (length other)) accepted in
-      let differ = eqb-false size (s .«old_size») (not-true same (each .1)) in
-      (each .0, λ e. differ (sym e), leb-true size (length other) (each .2))
 
   resized-sound : soundState (length current) (length (cleared size other)) (length entries) (resizing s size) ≡ true
   unfolding resizing
@@ -47,9 +49,9 @@ module _ {s : State} {current other entries : List ℕ} (h : Shape s current oth
       (base .old-fits) (omega (arith, base .used-fits)) (base .free-fits)
       (λ e.
       record {
-        new-legal = allowed .0;
-        new-fits = omega (arith, length-cleared size other (allowed .2), allowed .2);
-        sizes-differ = allowed .1;
+        new-legal = allowed s other size accepted .0;
+        new-fits = omega (arith, length-cleared size other (allowed s other size accepted .2), allowed s other size accepted .2);
+        sizes-differ = allowed s other size accepted .1;
         index-fits = omega arith;
       })
       (λ e. let z : _≡_ {A = ℕ} 0 1 = cc in absurd (omega arith))

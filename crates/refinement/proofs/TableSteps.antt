@@ -1,70 +1,80 @@
 -- One call on a store that agrees with the ideal: the suggested size, a look, a start, a resize.
 -- Assumes nothing.
-use Prim.Native.Nat.{ℕ}
-use mathlib.Core.Path.{_≡_, refl, sym, ap, subst, _∙_}
-use mathlib.Core.Bool.{Bool, true, false, cond}
-use mathlib.Core.List.{List, []}
-use native.Mathlib.Decide.{ℕ-discrete}
+use Prim.Native.Nat.{ℕ, zero, suc, _<_}
+use mathlib.Core.Path.{_≡_, refl, sym, ap, subst, subst₂, _∙_}
+use mathlib.Core.Bool.{Bool, true, false, _&&_, cond, not}
+use mathlib.Core.List.{List, [], _∷_}
 use native.Mathlib.Omega.{arith}
-use lib.ListN.{length}
+use lib.ListN.{length, take, length-take}
+use lib.Dec.{leb, eqb}
+use lib.Pow.{pow-pos}
 use Rattle.model.specs.declared.State.{State}
 use Rattle.model.specs.declared.Error.{Error}
 use Rattle.model.specs.declared.InitAnswer.{InitAnswer}
 use Rattle.model.specs.declared.ResizeAnswer.{ResizeAnswer}
-use Rattle.model.specs.Answers.{Reply, errorNumber, initReply, resizeReply}
+use Rattle.model.specs.declared.SizeAnswer.{SizeAnswer}
+use Rattle.model.specs.Answers.{Reply, errorNumber, initReply, resizeReply, sizeReply, bucketsReply}
+use Rattle.model.specs.Limits.{legalSize}
 use Rattle.model.specs.Memory.{Place, Live, IsBucket}
-use Rattle.model.specs.Calls.{After, keysHeld, cleared, noState, newState, withinLimits, longEnough, acceptable, resizing, resized, resizeIn}
+use Rattle.model.specs.Calls.{After, oriented, sound, suggested, suggestedSizeIn, bucketsIn, keysHeld, cleared, noState, newState, withinLimits, longEnough, acceptable, resizing, resized, resizeIn}
 use Rattle.model.specs.Calls as calls
-use Rattle.model.specs.Sequences.{World, Outcome, Call, left, perform, carriedState, carry, event, PlainMap, MapReply, mapInit, refusedMap, mapReply, mapAfter, mapStep, valueFor, Tables, oldOf, tablesAfter}
-use Rattle.refinement.specs.Worlds.{current, other, KeysDistinct}
-use Rattle.refinement.specs.Demand3.{Ideal, freshAfter, idealStep, begun, AsMap, AsIdeal}
+use Rattle.model.specs.Sequences.{World, Outcome, Call, kept, left, perform, carriedState, carry, valueFor, Tables}
+use Rattle.refinement.specs.Worlds.{current, other, tablesBy, tablesOf, KeysDistinct}
+use Rattle.refinement.specs.Demand3.{Lengths, lengthsOf, Ideal, begun, ideal, answer, startNumber, startAnswer, keysOf, resizeAnswer, predict}
 use Rattle.refinement.proofs.Shape.{Shape, shape-sound, facts}
 use Rattle.refinement.proofs.StoreAfter.{HeldIn, held-as}
 use Rattle.refinement.proofs.Init.{startedAt, startedEntries, started-shape, started-at}
 use Rattle.refinement.proofs.Resize.{resizedAt, resized-shape, resized-at}
-use Rattle.refinement.proofs.Orientation.{firstBy, secondBy, worldBy, left-reply, left-world}
-use Rattle.refinement.proofs.Refusals.{suggestedSize-keeps, buckets-keeps}
-use Rattle.refinement.proofs.LiveTables.{tablesBy, tablesOf}
-use Rattle.refinement.proofs.Agreement.{HeldAt, AgreesOn, Agrees, Steps, emptied-agrees, kept-agrees}
-use Rattle.refinement.proofs.IdealSteps.{answered-ideal, same-ideal, changed, refused-agrees}
+use Rattle.refinement.proofs.Orientation.{firstBy, secondBy, worldBy, oriented-read, left-reply, left-world}
+use Rattle.refinement.proofs.Refusals.{suggestedSize-keeps, buckets-keeps, refused-keeps}
+use Rattle.refinement.proofs.LiveTables.{exponent, legal-power}
+use Rattle.refinement.proofs.PlainMaps.{value-key, key-value, distinct-keys}
+use Rattle.refinement.proofs.Agreement.{HeldAt, HeldOld, AgreesOn, Agrees, Steps, leaves, retabled-agrees, kept-agrees}
 
 -- The suggested size and a look change nothing.
 
-pub suggested-steps : (w : World) (i : Ideal) → Agrees w i → (growing : Bool) → Steps w i (Call.suggestedSize growing)
-unfolding AsIdeal event mapStep mapReply mapAfter tablesAfter freshAfter
-suggested-steps w i a growing =
-    let c = Call.suggestedSize growing in
-    record {
-      answers = tt;
-      agrees =
-          changed w i c w i a (suggestedSize-keeps w growing) (same-ideal i (event w c (perform w c)) refl refl refl);
-    }
+-- one entry at least, where there are some
+look-number : (s : State) (heads : List ℕ) → 0 < length heads → bucketsReply s heads .number ≡ 0
+unfolding bucketsReply
+look-number s [] l = absurd (omega (arith, l))
+look-number s (head ∷ heads) l = refl
 
-pub buckets-steps : (w : World) (i : Ideal) → Agrees w i → Steps w i Call.buckets
-unfolding AsIdeal event mapStep mapReply mapAfter tablesAfter freshAfter
-buckets-steps w i a =
-    let c = Call.buckets in
-    record {
-      answers = tt;
-      agrees = changed w i c w i a (buckets-keeps w) (same-ideal i (event w c (perform w c)) refl refl refl);
-    }
+module _ (w : World) (i : Ideal) (a : Agrees w i) where
+  abbrev sound-test : Bool
+  sound-test = sound (w .state) (current w) (other w) (w .entries)
+
+  pub suggested-steps : (growing : Bool) → Steps w (Call.suggestedSize growing) (predict i (Call.suggestedSize growing))
+  unfolding predict perform kept calls.suggestedSize suggestedSizeIn sizeReply
+  suggested-steps growing =
+      let replied =
+      ap (sizeReply (w .state))
+      (oriented-read w (suggestedSizeIn (w .state) (w .entries) growing)
+      ∙ ap
+      (λ (t : Bool).
+      cond t (SizeAnswer.Suggested (suggested growing (keysHeld (w .state)))) (SizeAnswer.Refused Error.BadState))
+      (shape-sound (a .shape))) in
+      leaves w i a (Call.suggestedSize growing) 0 (suggested growing (length (i .plain .pairs)) ∷ [])
+      (suggestedSize-keeps w growing) (ap (λ (r : Reply). r .number) replied)
+      (λ f. ap (λ (r : Reply). r .values) replied ∙ ap (λ (n : ℕ). suggested growing n ∷ []) (sym (a .count)))
+
+  pub buckets-steps : Steps w Call.buckets (predict i Call.buckets)
+  unfolding predict perform kept calls.buckets bucketsIn
+  buckets-steps =
+      let base = facts (a .shape) .base in
+      let heads =
+      oriented-read w (bucketsIn (w .state) (w .entries))
+      ∙ ap (λ (t : Bool). cond t (take (w .state .«old_size») (current w)) []) (shape-sound (a .shape)) in
+      leaves w i a Call.buckets 0 [] (buckets-keeps w)
+      (ap (λ (l : List ℕ). bucketsReply (w .state) l .number) heads
+      ∙ look-number (w .state) (take (w .state .«old_size») (current w))
+      (simp length-take (omega (arith, base .old-fits, legal-power (w .state .«old_size») (base .old-legal) .0, pow-pos (exponent (w .state .«old_size»))))))
+      (λ f. absurd (f refl))
 
 -- A start.
-
--- what the map answers, by whether the limits are kept and the buffers long enough
-abbrev mapStarted : PlainMap → ℕ → Bool → Bool → MapReply
-mapStarted m capacity a b =
-    cond a
-    (cond b (record { number = 0; values = []; map = record { capacity = capacity; pairs = [] } })
-    (record { number = 1; values = []; map = m }))
-    (record { number = 6; values = []; map = m })
 
 module _ (w : World) (capacity size : ℕ) where
   abbrev started : Outcome
   started = perform w (Call.init capacity size)
-
-  abbrev mapped : PlainMap → MapReply
-  mapped m = mapInit m (length (w .first)) (length (w .entries)) capacity size
 
   abbrev limits : Bool
   limits = withinLimits capacity size
@@ -85,43 +95,18 @@ module _ (w : World) (capacity size : ℕ) where
       (cond b ready (After.after (InitAnswer.Refused Error.BadState noState) (w .first) (w .second) (w .entries)))
       (After.after (InitAnswer.Refused Error.BadSize noState) (w .first) (w .second) (w .entries)))
 
-  -- its number and values are the map's
-  init-answers : (m : PlainMap)
-      → (started .reply .number ≡ mapped m .number) × (started .reply .values ≡ mapped m .values)
-  unfolding perform calls.init left initReply errorNumber mapInit refusedMap
-  init-answers m = by limits long
+  -- a start's number goes by the limits and the lengths alone, and it has no values
+  init-answers : (started .reply .number ≡ startNumber (lengthsOf w) capacity size) × (started .reply .values ≡ [])
+  unfolding perform calls.init left initReply errorNumber startNumber lengthsOf
+  init-answers = by limits long
     where
-      by : (a b : Bool)
-          → (startedBy a b .reply .number ≡ mapStarted m capacity a b .number)
-          × (startedBy a b .reply .values ≡ mapStarted m capacity a b .values)
+      by : (a b : Bool) → (startedBy a b .reply .number ≡ cond a (cond b 0 1) 6) × (startedBy a b .reply .values ≡ [])
       by true true = (refl, refl)
       by true false = (refl, refl)
       by false b = (refl, refl)
 
-  -- a start's number goes by the limits and the lengths alone
-  pub init-number : (m : PlainMap)
-      → started .reply .number ≡ mapInit m (length (w .first)) (length (w .entries)) capacity size .number
-  init-number m = init-answers m .0
-
-  -- the map after it
-  map-answered : (m : PlainMap) → mapped m .number ≡ 0 → mapped m .map ≡ record { capacity = capacity; pairs = [] }
-  unfolding mapInit refusedMap
-  map-answered m z = by limits long z
-    where
-      by : (a b : Bool) → mapStarted m capacity a b .number ≡ 0
-          → mapStarted m capacity a b .map ≡ record { capacity = capacity; pairs = [] }
-      by true true e = refl
-      by true false e = absurd (omega arith)
-      by false b e = absurd (omega arith)
-
-  map-refused : (m : PlainMap) → (mapped m .number ≡ 0 → ⊥) → mapped m .map ≡ m
-  unfolding mapInit refusedMap
-  map-refused m f = by limits long f
-    where
-      by : (a b : Bool) → (mapStarted m capacity a b .number ≡ 0 → ⊥) → mapStarted m capacity a b .map ≡ m
-      by true true f = absurd (f refl)
-      by true false f = refl
-      by false b f = refl
+  pub init-number : started .reply .number ≡ startNumber (lengthsOf w) capacity size
+  init-number = init-answers .0
 
   -- answered 0, the tests were passed
   passed : started .reply .number ≡ 0 → (limits ≡ true) × (long ≡ true)
@@ -160,14 +145,14 @@ module _ (w : World) (capacity size : ℕ) where
   none-held entries (Place.new n) b key value h = h .there
 
   -- a start answered 0 leaves a store that agrees with the ideal's beginning, whatever was before
-  pub init-agrees : started .reply .number ≡ 0 → Agrees (carry w started) (begun capacity size)
-  unfolding begun newState keysHeld KeysDistinct valueFor tablesOf tablesBy
-  init-agrees z =
+  pub init-agrees : (lengths : Lengths) → started .reply .number ≡ 0 → Agrees (carry w started) (begun lengths capacity size)
+  unfolding begun newState keysHeld KeysDistinct valueFor tablesOf tablesBy ideal
+  init-agrees lengths z =
       let (p, q) = passed z in
       let h = started-shape capacity size (w .first) (w .second) (w .entries) p q in
       let e = startedEntries capacity (w .entries) in
-      subst (λ (v : World). Agrees v (begun capacity size)) (sym (init-world p q))
-      (kept-agrees false (newState capacity size) (cleared size (w .first)) (w .second) e (begun capacity size) refl
+      subst (λ (v : World). Agrees v (begun lengths capacity size)) (sym (init-world p q))
+      (kept-agrees false (newState capacity size) (cleared size (w .first)) (w .second) e (begun lengths capacity size) refl
       (record {
         shape = h;
         capacity = refl;
@@ -181,34 +166,34 @@ module _ (w : World) (capacity size : ℕ) where
             (started-at capacity size (w .first) (w .second) (w .entries) p q (k .place)) (k .held)));
         in-store = λ key value f. let z : _≡_ {A = ℕ} 0 1 = cc in absurd (omega arith);
         tables = refl;
-        fresh-in = λ key f. absurd f;
-        in-fresh = λ key k. absurd (omega (arith, k .live));
+        turned = refl;
+        unmoved-in = λ key f. absurd f;
+        in-unmoved = λ moving key k. let z : _≡_ {A = ℕ} 0 1 = cc in absurd (omega arith);
+        unmoved-once = tt;
       }))
 
 -- a start, from any store that agrees
-pub init-steps : (w : World) (i : Ideal) → Agrees w i → (capacity size : ℕ) → Steps w i (Call.init capacity size)
-unfolding AsIdeal AsMap event mapStep mapReply mapAfter tablesAfter freshAfter begun
-init-steps w i a capacity size =
-    record {
-      answers = init-answers w capacity size (i .plain);
-      agrees = elim (ℕ-discrete (perform w c .reply .number) 0) [ yes z ↦ answered z | no f ↦ refused f ];
-    }
+pub init-steps : (w : World) (i : Ideal) → Agrees w i → i .lengths ≡ lengthsOf w → (capacity size : ℕ)
+    → Steps w (Call.init capacity size) (predict i (Call.init capacity size))
+unfolding predict startAnswer answer
+init-steps w i a same capacity size = by (startNumber (i .lengths) capacity size) refl
   where
     c : Call
     c = Call.init capacity size
 
-    as-map : perform w c .reply .number ≡ mapInit (i .plain) (length (w .first)) (length (w .entries)) capacity size .number
-    as-map = init-number w capacity size (i .plain)
+    number : perform w c .reply .number ≡ startNumber (i .lengths) capacity size
+    number = init-number w capacity size ∙ ap (λ (l : Lengths). startNumber l capacity size) (sym same)
 
-    answered : perform w c .reply .number ≡ 0 → Agrees (carry w (perform w c)) (idealStep i (event w c (perform w c)))
-    answered z =
-        changed w i c (carry w (perform w c)) (begun capacity size) (init-agrees w capacity size z) refl
-        (answered-ideal i (event w c (perform w c)) (record { capacity = capacity; pairs = [] }) (Tables.one size) [] z
-        (map-answered w capacity size (i .plain) (sym as-map ∙ z)) refl refl)
-
-    refused : (perform w c .reply .number ≡ 0 → ⊥) → Agrees (carry w (perform w c)) (idealStep i (event w c (perform w c)))
-    refused f =
-        refused-agrees w i c a f (map-refused w capacity size (i .plain) (λ z. f (as-map ∙ z)))
+    by : (n : ℕ) → startNumber (i .lengths) capacity size ≡ n → Steps w c (startAnswer i capacity size n)
+    by zero e =
+        record {
+          number = number ∙ e;
+          values = λ f. init-answers w capacity size .1;
+          agrees = init-agrees w capacity size (i .lengths) (number ∙ e);
+        }
+    by (suc n) e =
+        leaves w i a c (suc n) [] (refused-keeps w c (λ z. omega (arith, number, e))) (number ∙ e)
+        (λ f. init-answers w capacity size .1)
 
 -- A resize.
 
@@ -248,58 +233,68 @@ module _ {s : State} {current other entries : List ℕ} (h : Shape s current oth
           }
       by (Place.new n) l b k = absurd (omega (arith, facts h .still resting .no-new))
 
-  -- the new table is empty
-  resized-new : (b : ℕ) → HeldIn entries (then .at (Place.new b)) key value → ⊥
-  unfolding resizedAt
-  resized-new b k =
-      held-as (resized-at h size resting accepted (Place.new b)) k .there
+  -- what was held is in the old table
+  resized-old : HeldAt s entries (h .at) key value → HeldOld (resizing s size) entries (then .at) key
+  unfolding Live IsBucket resizedAt resizing
+  resized-old k = by (k .place) (k .live) (k .bucket) (k .held)
+    where
+      by : (p : Place) → Live s p → IsBucket p → HeldIn entries (h .at p) key value
+          → HeldOld (resizing s size) entries (then .at) key
+      by Place.free l b k = absurd b
+      by (Place.old n) l b k =
+          record {
+            value = value;
+            bucket = n;
+            live = l;
+            held = held-as (sym (resized-at h size resting accepted (Place.old n))) k;
+          }
+      by (Place.new n) l b k = absurd (omega (arith, facts h .still resting .no-new))
 
 -- the store that a resize leaves agrees
 resized-on : (s : State) (current other entries : List ℕ) (i : Ideal) → AgreesOn s current other entries i → (size : ℕ)
     → s .rehashing ≡ false → acceptable s other size ≡ true
     → AgreesOn (resizing s size) current (cleared size other) entries
-    (record { plain = i .plain; tables = Tables.two (s .«old_size») size; fresh = [] })
-unfolding resizing keysHeld tablesOf tablesBy
+    (ideal (i .lengths) (i .plain) (Tables.two (s .«old_size») size) (keysOf (i .plain .pairs)) (s .«second_is_current»))
+unfolding resizing keysHeld tablesOf tablesBy Live IsBucket
 resized-on s current other entries i a size resting accepted =
-    emptied-agrees a (resized-shape (a .shape) size resting accepted) refl
+    retabled-agrees a (resized-shape (a .shape) size resting accepted) refl
     (omega (arith, facts (a .shape) .still resting .no-new-used))
     (resized-before (a .shape) size resting accepted) (resized-after (a .shape) size resting accepted)
-    (λ key k. resized-new (a .shape) size resting accepted key (k .value) (k .bucket) (k .held))
+    (keysOf (i .plain .pairs))
+    (λ key j.
+    let (value, e) = key-value key (i .plain .pairs) j in
+    resized-old (a .shape) size resting accepted key value (a .in-store key value e))
+    (λ moving key k.
+    value-key key (k .value) (i .plain .pairs)
+    (a .in-map key (k .value)
+    (resized-before (a .shape) size resting accepted key (k .value)
+    (record { place = Place.old (k .bucket); live = k .live; bucket = tt; held = k .held }))))
+    (distinct-keys (i .plain .pairs) (a .distinct))
 
--- the old table's size
-old-size : (s : State) → oldOf (tablesOf s) ≡ s .«old_size»
-unfolding oldOf tablesOf tablesBy
-old-size s = by (s .rehashing)
+-- the length of the other bucket buffer
+other-length : (w : World) (l : Lengths) → l ≡ lengthsOf w
+    → cond (w .state .«second_is_current») (l .first) (l .second) ≡ length (other w)
+unfolding lengthsOf other oriented
+other-length w l same =
+    ap (λ (l : Lengths). cond (w .state .«second_is_current») (l .first) (l .second)) same ∙ by (w .state .«second_is_current»)
   where
-    by : (t : Bool) → oldOf (tablesBy t (s .«old_size») (s .«new_size»)) ≡ s .«old_size»
+    by : (t : Bool) → cond t (length (w .first)) (length (w .second))
+        ≡ length (oriented t (λ first second. second) (w .first) (w .second))
     by true = refl
     by false = refl
 
--- a refusal's number is not 0
-not-zero : (e : Error) → errorNumber e ≡ 0 → ⊥
-unfolding errorNumber
-not-zero Error.BadState z = omega arith
-not-zero Error.Damaged z = omega arith
-not-zero Error.Absent z = omega arith
-not-zero Error.Present z = omega arith
-not-zero Error.Full z = omega arith
-not-zero Error.BadSize z = omega arith
-not-zero Error.Rehashing z = omega arith
-not-zero Error.NotRehashing z = omega arith
-
 -- a resize, answered or refused
-pub resize-steps : (w : World) (i : Ideal) → Agrees w i → (size : ℕ) → Steps w i (Call.resize size)
-unfolding AsIdeal perform calls.resize resizeIn resized resizing resizeReply event mapStep mapReply mapAfter tablesAfter freshAfter
-resize-steps w i a size = record { answers = tt; agrees = by (s .rehashing) refl (acceptable s (other w) size) refl }
+pub resize-steps : (w : World) (i : Ideal) → Agrees w i → i .lengths ≡ lengthsOf w → (size : ℕ)
+    → Steps w (Call.resize size) (predict i (Call.resize size))
+unfolding predict resizeAnswer answer perform calls.resize resizeIn resized resizing resizeReply errorNumber acceptable tablesOf tablesBy ideal
+resize-steps w i a same size =
+    subst (λ (t : Tables). Steps w c (resizeAnswer i size t)) (sym (a .tables)) (by (s .rehashing) refl)
   where
     s : State
     s = w .state
 
     c : Call
     c = Call.resize size
-
-    Agreed : Type 0
-    Agreed = Agrees (carry w (perform w c)) (idealStep i (event w c (perform w c)))
 
     outcome : After ResizeAnswer
     outcome = resizeIn s (w .entries) size (current w) (other w)
@@ -326,36 +321,52 @@ resize-steps w i a size = record { answers = tt; agrees = by (s .rehashing) refl
         (After.after (ResizeAnswer.Refused Error.BadSize) (current w) (other w) (w .entries)))
         e
 
-    refused : (n : Error) → outcome ≡ After.after (ResizeAnswer.Refused n) (current w) (other w) (w .entries) → Agreed
-    refused n e =
-        let number : perform w c .reply ≡ resizeReply s (ResizeAnswer.Refused n) =
+    refused : (n : Error) (k : ℕ) → errorNumber n ≡ suc k
+        → outcome ≡ After.after (ResizeAnswer.Refused n) (current w) (other w) (w .entries) → Steps w c (answer (suc k) [] i)
+    refused n k is e =
+        let replied : perform w c .reply ≡ resizeReply s (ResizeAnswer.Refused n) =
         left-reply w (resizeReply s) (resizeIn s (w .entries) size) (ResizeAnswer.Refused n) (current w) (other w)
         (w .entries) e in
-        let f : perform w c .reply .number ≡ 0 → ⊥ = λ z. not-zero n (sym (ap (λ (r : Reply). r .number) number) ∙ z) in
-        refused-agrees w i c a f refl
+        let number : perform w c .reply .number ≡ suc k = ap (λ (r : Reply). r .number) replied ∙ is in
+        leaves w i a c (suc k) [] (refused-keeps w c (λ z. omega (arith, number))) number
+        (λ f. ap (λ (r : Reply). r .values) replied)
 
-    answered : s .rehashing ≡ false → acceptable s (other w) size ≡ true → Agreed
+    answered : s .rehashing ≡ false → acceptable s (other w) size ≡ true
+        → Steps w c (answer 0 [] (ideal (i .lengths) (i .plain) (Tables.two (s .«old_size») size) (keysOf (i .plain .pairs)) (i .turned)))
     answered e f =
         let is : outcome
         ≡ After.after (ResizeAnswer.Resized (resizing s size)) (current w) (cleared size (other w)) (w .entries) =
         resize-by false e ∙ accepting true f in
-        let j : Ideal = record { plain = i .plain; tables = Tables.two (s .«old_size») size; fresh = [] } in
-        let number : perform w c .reply ≡ resizeReply s (ResizeAnswer.Resized (resizing s size)) =
+        let j : Bool → Ideal = λ t. ideal (i .lengths) (i .plain) (Tables.two (s .«old_size») size) (keysOf (i .plain .pairs)) t in
+        let replied : perform w c .reply ≡ resizeReply s (ResizeAnswer.Resized (resizing s size)) =
         left-reply w (resizeReply s) (resizeIn s (w .entries) size) (ResizeAnswer.Resized (resizing s size)) (current w)
         (cleared size (other w)) (w .entries) is in
-        changed w i c
-        (worldBy (s .«second_is_current») (resizing s size) (current w) (cleared size (other w)) (w .entries)) j
-        (kept-agrees (s .«second_is_current») (resizing s size) (current w) (cleared size (other w)) (w .entries) j refl
-        (resized-on s (current w) (other w) (w .entries) i a size e f))
-        (left-world w (resizeReply s) (resizeIn s (w .entries) size) (ResizeAnswer.Resized (resizing s size)) (current w)
-        (cleared size (other w)) (w .entries) is (resizing s size) refl refl)
-        (answered-ideal i (event w c (perform w c)) (i .plain) (Tables.two (s .«old_size») size) []
-        (ap (λ (r : Reply). r .number) number) refl
-        (ap (λ (old : ℕ). Tables.two old size) (ap oldOf (a .tables) ∙ old-size s)) refl)
+        record {
+          number = ap (λ (r : Reply). r .number) replied;
+          values = λ f. ap (λ (r : Reply). r .values) replied;
+          agrees =
+              subst₂ (λ (v : World) (t : Bool). Agrees v (j t))
+              (sym
+              (left-world w (resizeReply s) (resizeIn s (w .entries) size) (ResizeAnswer.Resized (resizing s size)) (current w)
+              (cleared size (other w)) (w .entries) is (resizing s size) refl refl))
+              (sym (a .turned))
+              (kept-agrees (s .«second_is_current») (resizing s size) (current w) (cleared size (other w)) (w .entries)
+              (j (s .«second_is_current»)) refl (resized-on s (current w) (other w) (w .entries) i a size e f));
+        }
 
-    by : (t : Bool) → s .rehashing ≡ t → (f : Bool) → acceptable s (other w) size ≡ f → Agreed
-    by true e f g = refused Error.Rehashing (resize-by true e)
-    by false e true g = answered e g
-    by false e false g =
-        refused Error.BadSize
-        (resize-by false e ∙ accepting false g)
+    -- the ideal's test is the state's
+    tested : legalSize size && not (eqb size (s .«old_size»)) && leb size (cond (i .turned) (i .lengths .first) (i .lengths .second))
+        ≡ acceptable s (other w) size
+    tested =
+        ap (λ (n : ℕ). legalSize size && not (eqb size (s .«old_size»)) && leb size n)
+        (ap (λ (t : Bool). cond t (i .lengths .first) (i .lengths .second)) (a .turned) ∙ other-length w (i .lengths) same)
+
+    by-test : s .rehashing ≡ false → (f : Bool) → acceptable s (other w) size ≡ f
+        → Steps w c
+        (cond f (answer 0 [] (ideal (i .lengths) (i .plain) (Tables.two (s .«old_size») size) (keysOf (i .plain .pairs)) (i .turned))) (answer 6 [] i))
+    by-test e true g = answered e g
+    by-test e false g = refused Error.BadSize 5 refl (resize-by false e ∙ accepting false g)
+
+    by : (t : Bool) → s .rehashing ≡ t → Steps w c (resizeAnswer i size (tablesBy t (s .«old_size») (s .«new_size»)))
+    by true e = refused Error.Rehashing 6 refl (resize-by true e)
+    by false e = by-test e _ (sym tested)

@@ -10,7 +10,7 @@ use mathlib.Core.Option.{some}
 use native.Mathlib.Nat.{max-eq-left, max-eq-right}
 use native.Mathlib.Decide.{decLe}
 use native.Mathlib.Omega.{arith}
-use lib.ListN.{length}
+use lib.ListN.{length, getD}
 use lib.Pow.{pow-pos, pow-mono}
 use Rattle.cursor.specs.Reverse.{reverse}
 use Rattle.cursor.specs.Next.{next}
@@ -20,14 +20,14 @@ use Rattle.cursor.proofs.Walks.{smaller, groupOf, Covers, Ahead, ahead-zero, ca
 use Rattle.model.proofs.Power.{exponent-le}
 use Rattle.model.specs.Sequences.{Call, Event, Pair, valueFor}
 use Rattle.refinement.specs.Demand2.{nextCursor}
-use Rattle.refinement.specs.Demand3.{Ideal, idealStep, keysOf, handed, cursorIn, publishedNext, smallerOf, Visit, Walk, largest, HeldAtEach, HandedOut, WalkHolds}
-use Rattle.refinement.proofs.LiveTables.{Legal, liveOf, live-valid, live-smaller, live-answers, published}
+use Rattle.refinement.specs.Demand3.{Ideal, predict, keysOf, handed, smallerOf, Visit, Walk, largest, HeldAtEach, HandedOut, WalkHolds}
+use Rattle.refinement.proofs.LiveTables.{Legal, liveOf, live-valid, live-smaller, live-answers, publishedNext}
 
 -- ---- what the induction over a sequence carries for its walks
 
 -- an answered walk call answers the published cursor, and hands out every held key that its group covers
 pub record Sweeps (i : Ideal) (e : Event) (cursor : ℕ) : Type 0 where
-  pub answers : cursorIn (e .values) ≡ publishedNext i cursor
+  pub answers : getD (e .values) 0 0 ≡ publishedNext i cursor
   pub hands-out : (key value : ℕ) → valueFor key (i .plain .pairs) ≡ some value → Covers (liveOf (i .tables)) cursor key
       → In key (keysOf (handed e))
 
@@ -36,7 +36,7 @@ AllSweep i [] = Unit {0}
 AllSweep i (e ∷ es) =
     Legal (i .tables)
     × ((cursor : ℕ) (lent : List ℕ) → e .call ≡ Call.scan cursor lent → e .number ≡ 0 → Sweeps i e cursor)
-    × AllSweep (idealStep i e) es
+    × AllSweep (predict i (e .call) .after) es
 
 -- ---- the visits of a walk
 
@@ -44,10 +44,10 @@ AllSweep i (e ∷ es) =
 data Trail : ℕ → List Visit → Bool → Type 0 where
   over : {due : ℕ} → Trail due [] false
   onward : {due : ℕ} {visits : List Visit} {ended : Bool} (v : Visit)
-      → Legal (v .before .tables) → Sweeps (v .before) (v .at) due → cursorIn (v .at .values) ≢ 0
-      → Trail (cursorIn (v .at .values)) visits ended → Trail due (v ∷ visits) ended
+      → Legal (v .before .tables) → Sweeps (v .before) (v .at) due → getD (v .at .values) 0 0 ≢ 0
+      → Trail (getD (v .at .values) 0 0) visits ended → Trail due (v ∷ visits) ended
   last : {due : ℕ} (v : Visit)
-      → Legal (v .before .tables) → Sweeps (v .before) (v .at) due → cursorIn (v .at .values) ≡ 0
+      → Legal (v .before .tables) → Sweeps (v .before) (v .at) due → getD (v .at .values) 0 0 ≡ 0
       → Trail due (v ∷ []) true
 
 trail : {due : ℕ} {i : Ideal} {es : List Event} {visits : List Visit} {ended : Bool}
@@ -55,14 +55,13 @@ trail : {due : ℕ} {i : Ideal} {es : List Event} {visits : List Visit} {ended :
 unfolding AllSweep
 trail a Walk.over = Trail.over
 trail a (Walk.other w) = trail (a .2) w
-trail a (Walk.refused lent c n w) = trail (a .2) w
 trail {due} a (Walk.onward lent c n ne w) = Trail.onward _ (a .0) (a .1 due lent c n) ne (trail (a .2) w)
 trail {due} a (Walk.last lent c n z) = Trail.last _ (a .0) (a .1 due lent c n) z
 
 -- a visit answers 0 with no key held, else the cursor behind the group
 visit-answers : (v : Visit) (cursor : ℕ) → Legal (v .before .tables) → Sweeps (v .before) (v .at) cursor
-    → ((v .before .plain .pairs ≡ []) × (cursorIn (v .at .values) ≡ 0))
-    ⊎ (cursorIn (v .at .values) ≡ groupOf (liveOf (v .before .tables)) cursor .answered)
+    → ((v .before .plain .pairs ≡ []) × (getD (v .at .values) 0 0 ≡ 0))
+    ⊎ (getD (v .at .values) 0 0 ≡ groupOf (liveOf (v .before .tables)) cursor .answered)
 unfolding nextCursor
 visit-answers v cursor t s = pick (v .before .plain .pairs) refl
   where
@@ -70,21 +69,20 @@ visit-answers v cursor t s = pick (v .before .plain .pairs) refl
     answer = next (smallerOf (v .before .tables)) cursor
 
     pick : (ps : List Pair) → v .before .plain .pairs ≡ ps
-        → ((v .before .plain .pairs ≡ []) × (cursorIn (v .at .values) ≡ 0))
-        ⊎ (cursorIn (v .at .values) ≡ groupOf (liveOf (v .before .tables)) cursor .answered)
+        → ((v .before .plain .pairs ≡ []) × (getD (v .at .values) 0 0 ≡ 0))
+        ⊎ (getD (v .at .values) 0 0 ≡ groupOf (liveOf (v .before .tables)) cursor .answered)
     pick [] e =
-        inl (e, s .answers ∙ published (v .before) cursor ∙ ap (λ (qs : List Pair). nextCursor (length qs) answer) e)
+        inl (e, s .answers ∙ ap (λ (qs : List Pair). nextCursor (length qs) answer) e)
     pick (p ∷ ps) e =
         inr
         (s .answers
-        ∙ published (v .before) cursor
         ∙ ap (λ (qs : List Pair). nextCursor (length qs) answer) e
         ∙ sym (live-answers (v .before .tables) t cursor))
 
 -- One visit: a key held and ahead of the cursor is handed out, or it is ahead of the cursor answered, which is not 0.
 visit-step : (v : Visit) (cursor key : ℕ) → Legal (v .before .tables) → Sweeps (v .before) (v .at) cursor → Ahead cursor key
     → (value : ℕ) × (valueFor key (v .before .plain .pairs) ≡ some value)
-    → In key (keysOf (handed (v .at))) ⊎ ((cursorIn (v .at .values) ≢ 0) × Ahead (cursorIn (v .at .values)) key)
+    → In key (keysOf (handed (v .at))) ⊎ ((getD (v .at .values) 0 0 ≢ 0) × Ahead (getD (v .at .values) 0 0) key)
 unfolding valueFor
 visit-step v cursor key t s a (value, held) =
     ⊎-elim

@@ -67,6 +67,6 @@ pub record HandsOut (does : World → Call → Outcome) (w : World) (cursor : �
 
 pub record Demand2 (does : World → Call → Outcome) : Type 0 where
   pub as-the-map : (w : World) (m : PlainMap) → UndamagedAt w → Holds w m → (c : Call) → KeyCall c → (r : MapReply)
-      → mapReply (length (w .first)) (length (w .entries)) m c ≡ some r → AnswersAs does w c r
+      → mapReply m c ≡ some r → AnswersAs does w c r
   pub hands-out : (w : World) → UndamagedAt w → (cursor : ℕ) (lent : List ℕ)
       → does w (Call.scan cursor lent) .reply .number ≡ 0 → HandsOut does w cursor lent

@@ -1,13 +1,15 @@
 -- A store at one moment: its live tables by the state's flag, whether it is undamaged, and the pairs that it holds.
 use Prim.Native.Nat.{ℕ}
 use mathlib.Core.Path.{_≡_}
+use mathlib.Core.Bool.{Bool, true, false}
 use mathlib.Core.List.{List, [], _∷_}
 use mathlib.Core.Option.{some}
 use lib.ListN.{length}
 use Rattle.cursor.specs.Member.{In}
+use Rattle.model.specs.declared.State.{State}
 use Rattle.model.specs.Memory.{Place, Live, IsBucket, entriesAt, Undamaged, keyOf, valueOf}
 use Rattle.model.specs.Calls.{oriented, keysHeld}
-use Rattle.model.specs.Sequences.{World, Pair, PlainMap, valueFor}
+use Rattle.model.specs.Sequences.{World, Pair, PlainMap, valueFor, Tables}
 
 -- the bucket buffer of the old table, or the only one, and the other
 unfoldable pub current : World → List ℕ
@@ -15,6 +17,20 @@ current w = oriented (w .state .«second_is_current») (λ first second. first) 
 
 unfoldable pub other : World → List ℕ
 other w = oriented (w .state .«second_is_current») (λ first second. second) (w .first) (w .second)
+
+-- the live tables
+unfoldable pub tablesBy : Bool → ℕ → ℕ → Tables
+tablesBy false old new = Tables.one old
+tablesBy true old new = Tables.two old new
+
+unfoldable pub tablesOf : State → Tables
+tablesOf s = tablesBy (s .rehashing) (s .«old_size») (s .«new_size»)
+
+-- a bucket of the old table, or the only one
+unfoldable pub inOld : Place → Bool
+inOld Place.free = false
+inOld (Place.old b) = true
+inOld (Place.new b) = false
 
 unfoldable pub UndamagedAt : World → Type 0
 UndamagedAt w = Undamaged (w .state) (current w) (other w) (w .entries)

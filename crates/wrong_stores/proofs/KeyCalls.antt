@@ -3,16 +3,16 @@
 use Prim.Native.Nat.{ℕ}
 use mathlib.Core.Path.{_≡_, refl}
 use mathlib.Core.Logic.{inl}
-use mathlib.Core.List.{List, [], _∷_}
+use mathlib.Core.List.{[], _∷_}
 use mathlib.Core.Option.{Option, some}
 use lib.Dec.{lit<}
 use borrow.Author.Tests.{eqb-false}
 use native.Mathlib.Omega.{arith}
 use Rattle.model.specs.Memory.{Place}
-use Rattle.model.specs.Sequences.{World, Call}
+use Rattle.model.specs.Sequences.{Call}
 use Rattle.refinement.specs.Demand3.{Demand3}
 use Rattle.wrong_stores.specs.KeyCalls.{refusesAll, findsNothing, writesNothing, addedToOld, addsToOld, countsOf, keepsCount}
-use Rattle.wrong_stores.proofs.Start.{computing, zeros, at, differ}
+use Rattle.wrong_stores.proofs.Start.{computing, zeros, at, differ, find-no-look}
 
 -- `begins`: the start's number is fixed by the limits and the lengths
 pub refusesAll-excluded : Demand3 refusesAll → ⊥
@@ -22,21 +22,21 @@ refusesAll-excluded d = eqb-false 1 0 refl (d .begins zeros 1 1)
 -- `answers`: a find answers as the map
 pub findsNothing-excluded : Demand3 findsNothing → ⊥
 unfolding computing findsNothing
-findsNothing-excluded d = eqb-false 3 0 refl (at d 1 refl (Call.add 1 10 ∷ Call.find 1 ∷ []) .answers .1 .0 .0)
+findsNothing-excluded d = eqb-false 3 0 refl (at d 1 refl (Call.add 1 10 ∷ Call.find 1 ∷ []) .answers .1 .0 .number)
 
 -- `answers`: a find after the change answers the map's value
 pub writesNothing-excluded : Demand3 writesNothing → ⊥
 unfolding computing writesNothing
 writesNothing-excluded d =
     differ 0 (10 ∷ []) (20 ∷ []) refl
-    (at d 1 refl (Call.add 1 10 ∷ Call.update 1 20 ∷ Call.find 1 ∷ []) .answers .1 .1 .0 .1)
+    (at d 1 refl (Call.add 1 10 ∷ Call.update 1 20 ∷ Call.find 1 ∷ []) .answers .1 .1 .0 .values find-no-look)
 
 -- `contents`: the pairs in the buckets are the map's
 pub writesNothing-excluded-by-contents : Demand3 writesNothing → ⊥
 unfolding computing writesNothing
 writesNothing-excluded-by-contents d =
     let h : _≡_ {A = Option ℕ} (some 20) (some 10)
-    = at d 1 refl (Call.add 1 10 ∷ Call.update 1 20 ∷ []) .contents .in-map 1 10
+    = at d 1 refl (Call.add 1 10 ∷ Call.update 1 20 ∷ []) .matches .contents .in-map 1 10
     (record {
       entry = 1;
       place = Place.old 0;
@@ -60,4 +60,4 @@ addsToOld-excluded d =
 -- `contents`: as many pairs in the map as keys that the state says are held
 pub keepsCount-excluded : Demand3 keepsCount → ⊥
 unfolding computing keepsCount countsOf
-keepsCount-excluded d = eqb-false 0 1 refl (at d 1 refl (Call.add 1 10 ∷ Call.delete 1 ∷ []) .contents .count)
+keepsCount-excluded d = eqb-false 0 1 refl (at d 1 refl (Call.add 1 10 ∷ Call.delete 1 ∷ []) .matches .contents .count)

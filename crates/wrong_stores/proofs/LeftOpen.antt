@@ -1,31 +1,30 @@
--- The stores of specs/LeftOpen are excluded by demand 1, or by the definition of the call that they change.
+-- The stores of specs/LeftOpen are excluded by `answers`.
 -- Assumes nothing.
-use mathlib.Core.Path.{refl, ap}
-use mathlib.Core.List.{[], _∷_}
-use lib.ListN.{getD}
+use mathlib.Core.Path.{refl}
+use mathlib.Core.List.{List, [], _∷_}
 use borrow.Author.Tests.{eqb-false}
-use Rattle.model.specs.Sequences.{World, Call, Outcome, run}
-use Rattle.refinement.specs.Demand1.{Demand1}
-use Rattle.refinement.proofs.Demand1.{same-number}
-use Rattle.wrong_stores.specs.LeftOpen.{AsDefined, refusesResizes, roomForAll, shortMiscounts}
-use Rattle.wrong_stores.proofs.Start.{computing, started}
+use Rattle.model.specs.Sequences.{Call}
+use Rattle.refinement.specs.Demand3.{Demand3}
+use Rattle.wrong_stores.specs.LeftOpen.{refusesResizes, roomForAll, shortMiscounts}
+use Rattle.wrong_stores.proofs.Start.{computing, at, differ, scan-no-look}
 
--- two buckets, a key in each
-twoKeys : (World → Call → Outcome) → World
-twoKeys does = run does (started does 2) (Call.add 0 10 ∷ Call.add 1 11 ∷ [])
+-- two keys, and then that call
+twoKeys : Call → List Call
+twoKeys c = Call.add 0 10 ∷ Call.add 1 11 ∷ c ∷ []
 
--- `resize`: a legal size that is not the present one, and no longer than the other buffer, is accepted
-pub refusesResizes-excluded : Demand1 refusesResizes → ⊥
+-- a legal size that is not the present one, and no longer than the other buffer, is accepted
+pub refusesResizes-excluded : Demand3 refusesResizes → ⊥
 unfolding computing refusesResizes twoKeys
-refusesResizes-excluded d = eqb-false 6 0 refl (same-number refusesResizes d (twoKeys refusesResizes) (Call.resize 4))
+refusesResizes-excluded d = eqb-false 6 0 refl (at d 2 refl (twoKeys (Call.resize 4)) .answers .1 .1 .0 .number)
 
--- `scan`: two places for each key to be handed out are enough
-pub roomForAll-excluded : Demand1 roomForAll → ⊥
+-- two places for each key to be handed out are enough
+pub roomForAll-excluded : Demand3 roomForAll → ⊥
 unfolding computing roomForAll twoKeys
-roomForAll-excluded d = eqb-false 9 0 refl (same-number roomForAll d (twoKeys roomForAll) (Call.scan 0 (0 ∷ 0 ∷ [])))
+roomForAll-excluded d =
+    eqb-false 9 0 refl (at d 2 refl (twoKeys (Call.scan 0 (0 ∷ 0 ∷ []))) .answers .1 .1 .0 .number)
 
--- `scan`: the number of keys comes with 9
-pub shortMiscounts-excluded : AsDefined shortMiscounts → ⊥
-unfolding computing AsDefined shortMiscounts twoKeys
+-- the number of keys comes with 9
+pub shortMiscounts-excluded : Demand3 shortMiscounts → ⊥
+unfolding computing shortMiscounts twoKeys
 shortMiscounts-excluded d =
-    eqb-false 2 1 refl (ap (λ (o : Outcome). getD (o .reply .values) 1 0) (d (twoKeys shortMiscounts) (Call.scan 0 [])))
+    differ 1 (0 ∷ 2 ∷ []) (0 ∷ 1 ∷ []) refl (at d 2 refl (twoKeys (Call.scan 0 [])) .answers .1 .1 .0 .values scan-no-look)

@@ -6,6 +6,7 @@ use mathlib.Core.Path.{_≡_, _∙_, ap}
 use mathlib.Core.Bool.{false}
 use mathlib.Core.List.{List}
 use lib.ListN.{replicate, getD}
+use native.Mathlib.Omega.{arith}
 use lib.Dec.{eqb}
 use borrow.Author.Tests.{eqb-false}
 use Rattle.cursor.specs.Reverse as reversal
@@ -18,11 +19,11 @@ use Rattle.model.specs.Answers as answers
 use Rattle.model.specs.Calls as calls
 use Rattle.model.specs.Walk as walk
 use Rattle.model.specs.Sequences as sequences
-use Rattle.model.specs.Sequences.{World, Call, Outcome, carry, mapInit}
+use Rattle.model.specs.Sequences.{World, Call, Outcome, carry}
 use Rattle.refinement.specs.Worlds as worlds
 use Rattle.refinement.specs.Demand2 as demand2
 use Rattle.refinement.specs.Demand3 as demand3
-use Rattle.refinement.specs.Demand3.{Demand3, SequenceHolds, noMap}
+use Rattle.refinement.specs.Demand3.{Demand3, SequenceHolds, lengthsOf, begun, startNumber}
 use Rattle.wrong_stores.specs.OneCall as one
 
 -- two bucket buffers of 16 numbers, and an entry buffer for three entries, all zeros
@@ -53,12 +54,12 @@ theCalls = tt
 
 -- histories, the plain map, the live tables; and ours but for one call
 unfoldable pub theHistories : Unit {0}
-unfolding sequences.kept sequences.left sequences.handedOut sequences.perform sequences.carriedState sequences.carry sequences.run sequences.event sequences.events sequences.valueFor sequences.withValue sequences.without sequences.refusedMap sequences.doneMap sequences.mapInit sequences.mapFind sequences.mapUpdate sequences.mapAdd sequences.mapDelete sequences.mapReply sequences.mapAfter sequences.mapStep sequences.oldOf sequences.newOf sequences.tablesStepped sequences.tablesAfter sequences.tablesAnswered sequences.tablesStep one.changed one.same one.sameAdd one.sameScan one.butFind one.butUpdate one.butDelete one.butResize one.butStep one.butAdd one.butScan one.ifDone one.answering one.leaving
+unfolding sequences.kept sequences.left sequences.handedOut sequences.perform sequences.carriedState sequences.carry sequences.run sequences.event sequences.events sequences.valueFor sequences.withValue sequences.without sequences.refusedMap sequences.doneMap sequences.mapFind sequences.mapUpdate sequences.mapAdd sequences.mapDelete sequences.mapReply sequences.oldOf sequences.newOf one.changed one.same one.sameAdd one.sameScan one.butFind one.butUpdate one.butDelete one.butResize one.butStep one.butAdd one.butScan one.ifDone one.answering one.leaving
 theHistories = tt
 
 -- demand 3, and what it says of a world
 unfoldable pub theStatement : Unit {0}
-unfolding worlds.current worlds.other worlds.UndamagedAt worlds.KeysDistinct demand2.KeyCall demand2.placesOf demand2.groupPlaces demand2.entriesIn demand2.nextCursor demand3.keysOf demand3.among demand3.keep demand3.oldKeys demand3.inBucket demand3.lowest demand3.movedKeys demand3.stepValues demand3.freshAdded demand3.joinFresh demand3.freshStepped demand3.freshAfter demand3.freshAnswered demand3.idealStep demand3.replay demand3.begun demand3.AsMap demand3.AsStep demand3.smallerOf demand3.groupAt demand3.InGroup demand3.publishedNext demand3.pairsIn demand3.countIn demand3.cursorIn demand3.handed demand3.AsWalk demand3.AsIdeal demand3.Answered demand3.largest demand3.HeldAtEach demand3.HandedOut demand3.noMap
+unfolding worlds.current worlds.other worlds.tablesBy worlds.tablesOf worlds.inOld worlds.UndamagedAt worlds.KeysDistinct demand2.KeyCall demand2.placesOf demand2.groupPlaces demand2.entriesIn demand2.nextCursor demand3.lengthsOf demand3.ideal demand3.begun demand3.answer demand3.startNumber demand3.startAnswer demand3.mapAnswer demand3.keep demand3.keysOf demand3.resizeAnswer demand3.lowest demand3.moveAnswer demand3.stepAnswer demand3.smallerOf demand3.groupAt demand3.groupIn demand3.among demand3.tableSize demand3.groupPairs demand3.walkAnswer demand3.predict demand3.replay demand3.pairsIn demand3.handed demand3.Answered demand3.largest demand3.HeldAtEach demand3.HandedOut
 theStatement = tt
 
 unfoldable pub computing : Unit {0}
@@ -66,11 +67,21 @@ unfolding zeros started theCursor theMemory theCalls theHistories theStatement
 computing = tt
 
 -- demand 3 at a history that begins with that start, for a size that it accepts
-pub at : {does : World → Call → Outcome} → Demand3 does → (size : ℕ) → mapInit noMap 16 9 3 size .number ≡ 0
-    → (calls : List Call) → SequenceHolds does (started does size) 3 size calls
+pub at : {does : World → Call → Outcome} → Demand3 does → (size : ℕ) → startNumber (lengthsOf zeros) 3 size ≡ 0
+    → (calls : List Call) → SequenceHolds does (started does size) (begun (lengthsOf zeros) 3 size) calls
 unfolding zeros started
 at d size fits calls = d .sequence zeros 3 size (d .begins zeros 3 size ∙ fits) calls
 
 -- two lists that differ at a place
 pub differ : (i : ℕ) (xs ys : List ℕ) → eqb (getD xs i 0) (getD ys i 0) ≡ false → xs ≡ ys → ⊥
 differ i xs ys e same = eqb-false _ _ e (ap (λ (l : List ℕ). getD l i 0) same)
+
+-- no call but a look is one
+pub find-no-look : {key : ℕ} → Call.find key ≡ Call.buckets → ⊥
+find-no-look e = let z : _≡_ {A = ℕ} 0 1 = cc in omega arith
+
+pub step-no-look : Call.rehashStep ≡ Call.buckets → ⊥
+step-no-look e = let z : _≡_ {A = ℕ} 0 1 = cc in omega arith
+
+pub scan-no-look : {cursor : ℕ} {lent : List ℕ} → Call.scan cursor lent ≡ Call.buckets → ⊥
+scan-no-look e = let z : _≡_ {A = ℕ} 0 1 = cc in omega arith

@@ -1,20 +1,19 @@
 -- The stores of specs/Walks are excluded.
 -- Assumes nothing.
 use Prim.Native.Nat.{ℕ}
-use mathlib.Core.Path.{_≡_, refl}
+use mathlib.Core.Path.{refl, ap}
 use mathlib.Core.Bool.{true, false}
 use mathlib.Core.Logic.{_⊎_, inl, inr}
 use mathlib.Core.List.{List, [], _∷_}
-use mathlib.Core.Option.{Option, some}
 use lib.ListN.{replicate}
 use lib.Dec.{lit<}
 use borrow.Author.Tests.{eqb-false}
 use native.Mathlib.Omega.{arith}
-use Rattle.model.specs.Sequences.{World, Call}
+use Rattle.model.specs.Sequences.{Call, Pair}
 use Rattle.refinement.specs.Demand3.{Demand3, Walk.over, Walk.other, Walk.onward, Walk.last}
 use Rattle.wrong_stores.specs.Walks as wrong
-use Rattle.wrong_stores.specs.Walks.{refusesWalks, alwaysShort, allThenEnd, allThenNone, upwards, nextOfLarger, skipsEmpty, endsEarly, backwards, handsTwice, losesValues, writesBeyond, writesRefused}
-use Rattle.wrong_stores.proofs.Start.{computing, at, differ}
+use Rattle.wrong_stores.specs.Walks.{refusesWalks, alwaysShort, allThenEnd, allThenNone, upwards, nextOfLarger, skipsEmpty, endsEarly, backwards, handsTwice, losesValues, writesBeyond, writesRefused, handsEither}
+use Rattle.wrong_stores.proofs.Start.{computing, at, differ, scan-no-look}
 
 -- a lent list with room for every key
 room : List ℕ
@@ -27,38 +26,48 @@ neither f g (inr b) = g b
 -- `answers`: a walk call's only refusal is 9
 pub refusesWalks-excluded : Demand3 refusesWalks → ⊥
 unfolding computing refusesWalks room
-refusesWalks-excluded d = eqb-false 2 9 refl (at d 1 refl (Call.add 1 10 ∷ Call.scan 0 room ∷ []) .answers .1 .0 .0)
+refusesWalks-excluded d = eqb-false 2 0 refl (at d 1 refl (Call.add 1 10 ∷ Call.scan 0 room ∷ []) .answers .1 .0 .number)
 
 -- `answers`: with two places for every key held, a walk call is answered
 pub alwaysShort-excluded : Demand3 alwaysShort → ⊥
 unfolding computing alwaysShort room
 alwaysShort-excluded d =
-    let h = at d 1 refl (Call.add 1 10 ∷ Call.scan 0 room ∷ []) .answers .1 .0 .1 in omega arith
+    eqb-false 9 0 refl (at d 1 refl (Call.add 1 10 ∷ Call.scan 0 room ∷ []) .answers .1 .0 .number)
 
--- `of-its-group`: only keys of the call's group
+-- `values`: as many keys as the ideal has in the call's group
 pub allThenEnd-excluded : Demand3 allThenEnd → ⊥
 unfolding computing allThenEnd wrong.handing wrong.allBuckets wrong.allEntries room
 allThenEnd-excluded d =
-    eqb-false 1 0 refl
-    (at d 2 refl (Call.add 1 10 ∷ Call.scan 0 room ∷ []) .answers .1 .0 .of-its-group _ (inl refl))
+    differ 1 (0 ∷ 1 ∷ []) (1 ∷ 0 ∷ []) refl
+    (at d 2 refl (Call.add 1 10 ∷ Call.scan 0 room ∷ []) .answers .1 .0 .values scan-no-look)
 
--- `of-its-group` again
+-- again
 pub allThenNone-excluded : Demand3 allThenNone → ⊥
 unfolding computing allThenNone wrong.allFirst wrong.handing wrong.allBuckets wrong.allEntries room
 allThenNone-excluded d =
-    eqb-false 1 0 refl
-    (at d 2 refl (Call.add 1 10 ∷ Call.scan 0 room ∷ []) .answers .1 .0 .of-its-group _ (inl refl))
+    differ 1 (1 ∷ 1 ∷ []) (1 ∷ 0 ∷ []) refl
+    (at d 2 refl (Call.add 1 10 ∷ Call.scan 0 room ∷ []) .answers .1 .0 .values scan-no-look)
+
+-- `values`: key 0 is in bucket 0 of the new table, of size 4, which the group of cursor 2 does not have; it has bucket 0 of the
+-- old one
+pub handsEither-excluded : Demand3 handsEither → ⊥
+unfolding computing handsEither wrong.eitherBucket wrong.handing wrong.allBuckets wrong.allEntries room
+handsEither-excluded d =
+    differ 1 (1 ∷ 1 ∷ []) (1 ∷ 0 ∷ []) refl
+    (at d 2 refl (Call.add 0 10 ∷ Call.resize 4 ∷ Call.rehashStep ∷ Call.scan 2 room ∷ []) .answers .1 .1 .1 .0 .values
+    scan-no-look)
 
 -- the next cursor is the published one of the smaller live size
 pub skipsEmpty-excluded : Demand3 skipsEmpty → ⊥
 unfolding computing skipsEmpty wrong.skipping room
 skipsEmpty-excluded d =
-    differ 0 (0 ∷ 1 ∷ []) (1 ∷ 1 ∷ []) refl (at d 2 refl (Call.add 1 10 ∷ Call.scan 0 room ∷ []) .answers .1 .0 .values)
+    differ 0 (0 ∷ 1 ∷ []) (1 ∷ 0 ∷ []) refl
+    (at d 2 refl (Call.add 1 10 ∷ Call.scan 0 room ∷ []) .answers .1 .0 .values scan-no-look)
 
 pub endsEarly-excluded : Demand3 endsEarly → ⊥
 unfolding computing endsEarly wrong.emptyFrom room
 endsEarly-excluded d =
-    differ 0 (0 ∷ 1 ∷ []) (1 ∷ 1 ∷ []) refl (at d 2 refl (Call.add 0 10 ∷ Call.scan 0 room ∷ []) .answers .1 .0 .values)
+    differ 0 (0 ∷ 1 ∷ []) (1 ∷ 1 ∷ []) refl (at d 2 refl (Call.add 0 10 ∷ Call.scan 0 room ∷ []) .answers .1 .0 .values scan-no-look)
 
 -- `exact`: in chain order
 pub backwards-excluded : Demand3 backwards → ⊥
@@ -71,29 +80,28 @@ backwards-excluded d =
 pub handsTwice-excluded : Demand3 handsTwice → ⊥
 unfolding computing handsTwice wrong.firstTwice wrong.handing room
 handsTwice-excluded d =
-    at d 1 refl (Call.add 1 10 ∷ Call.scan 0 room ∷ []) .answers .1 .0 .none-twice .0 (inl refl)
+    at d 1 refl (Call.add 1 10 ∷ Call.scan 0 room ∷ []) .answers .1 .0 .answered-walk 0 room refl refl .none-twice .0 (inl refl)
 
--- `held`: each with the map's value
+-- `only`: each with the map's value
 pub losesValues-excluded : Demand3 losesValues → ⊥
 unfolding computing losesValues wrong.keysOnly room
 losesValues-excluded d =
-    let h : _≡_ {A = Option ℕ} (some 10) (some 0)
-    = at d 1 refl (Call.add 1 10 ∷ Call.scan 0 room ∷ []) .answers .1 .0 .held _ (inl refl) in
-    let z : _≡_ {A = ℕ} 10 0 = cc in
-    omega arith
+    neither (λ e. eqb-false 0 10 refl (ap (λ (p : Pair). p .value) e)) (λ h. h)
+    (at d 1 refl (Call.add 1 10 ∷ Call.scan 0 room ∷ []) .answers .1 .0 .answered-walk 0 room refl refl .only _ (inl refl))
 
 -- `beyond`: the places behind the pairs stay
 pub writesBeyond-excluded : Demand3 writesBeyond → ⊥
 unfolding computing writesBeyond
 writesBeyond-excluded d =
     differ 0 (0 ∷ []) (7 ∷ []) refl
-    (at d 1 refl (Call.add 1 10 ∷ Call.scan 0 (0 ∷ 0 ∷ 7 ∷ []) ∷ []) .answers .1 .0 .beyond)
+    (at d 1 refl (Call.add 1 10 ∷ Call.scan 0 (0 ∷ 0 ∷ 7 ∷ []) ∷ []) .answers .1 .0 .answered-walk 0 (0 ∷ 0 ∷ 7 ∷ []) refl refl .beyond)
 
 -- `answers`: a short walk call leaves the list
 pub writesRefused-excluded : Demand3 writesRefused → ⊥
 unfolding computing writesRefused
 writesRefused-excluded d =
-    differ 0 (0 ∷ []) (7 ∷ []) refl (at d 1 refl (Call.add 1 10 ∷ Call.scan 0 (7 ∷ []) ∷ []) .answers .1 .0 .2)
+    differ 0 (0 ∷ []) (7 ∷ []) refl
+    (at d 1 refl (Call.add 1 10 ∷ Call.scan 0 (7 ∷ []) ∷ []) .answers .1 .0 .refused-walk 0 (7 ∷ []) refl (eqb-false 9 0 refl))
 
 -- `walks`, `covers`: bucket 4 of the larger table is lost, where a walk's first call was at size 16 and a move to 4 began
 -- before its second, at cursor 8

@@ -1,8 +1,7 @@
--- Wrong stores that demand 3 does not exclude. Demand 1 does, or the definition of the call, which its contract promises.
+-- Wrong stores by a number or a count that goes by the live tables or the lent list.
 use Prim.Native.Nat.{suc, _*_}
-use mathlib.Core.Path.{_≡_}
 use mathlib.Core.Bool.{cond}
-use lib.ListN.{length}
+use lib.ListN.{length, getD}
 use lib.Dec.{leb, eqb}
 use Rattle.model.specs.declared.Error.{Error}
 use Rattle.model.specs.declared.ResizeAnswer.{ResizeAnswer}
@@ -10,13 +9,8 @@ use Rattle.model.specs.declared.ScanAnswer.{ScanAnswer}
 use Rattle.model.specs.Answers.{resizeReply, shortNumber}
 use Rattle.model.specs.Calls.{keysHeld}
 use Rattle.model.specs.Walk.{Handed}
-use Rattle.model.specs.Sequences.{World, Call, Outcome, perform, kept, handedOut}
-use Rattle.refinement.specs.Demand3.{countIn}
+use Rattle.model.specs.Sequences.{World, Call, Outcome, kept, handedOut}
 use Rattle.wrong_stores.specs.OneCall.{butResize, butScan, ifDone}
-
--- each call as its definition says
-unfoldable pub AsDefined : (World → Call → Outcome) → Type 0
-AsDefined does = (w : World) (c : Call) → does w c ≡ perform w c
 
 -- refuses every resize
 unfoldable pub refusesResizes : World → Call → Outcome
@@ -28,11 +22,11 @@ roomForAll =
     butScan
     (λ w cursor lent o.
     cond (leb (keysHeld (w .state) * 2) (length lent)) o
-    (ifDone (handedOut w (Handed.handed (ScanAnswer.Short (countIn (o .reply .values))) lent)) o))
+    (ifDone (handedOut w (Handed.handed (ScanAnswer.Short (getD (o .reply .values) 1 0)) lent)) o))
 
 -- a short walk call that makes up the number of keys
 unfoldable pub shortMiscounts : World → Call → Outcome
 shortMiscounts =
     butScan
     (λ w cursor lent o.
-    cond (eqb (o .reply .number) shortNumber) (handedOut w (Handed.handed (ScanAnswer.Short (suc (countIn (o .reply .values)))) lent)) o)
+    cond (eqb (o .reply .number) shortNumber) (handedOut w (Handed.handed (ScanAnswer.Short (suc (getD (o .reply .values) 1 0))) lent)) o)

@@ -1,21 +1,22 @@
 -- Wrong stores by a walk call.
 use Prim.Native.Nat.{ℕ, zero, suc, _+_, _*_, _/_, _%_}
-use mathlib.Core.Bool.{Bool, true, false, cond}
+use mathlib.Core.Bool.{Bool, true, false, _||_, cond}
 use mathlib.Core.List.{List, [], _∷_, _++_, reverse}
 use mathlib.Core.Option.{some}
-use lib.ListN.{length, set, replicate}
+use lib.ListN.{length, getD, set, replicate}
 use lib.Dec.{ltb}
 use Rattle.cursor.specs.Next.{next}
 use Rattle.cursor.specs.Group.{Group, betweenZero}
 use Rattle.model.specs.declared.State.{State}
 use Rattle.model.specs.declared.Error.{Error}
 use Rattle.model.specs.declared.ScanAnswer.{ScanAnswer}
-use Rattle.model.specs.Memory.{Place, entriesAt}
+use Rattle.model.specs.Keys.{bucketOf}
+use Rattle.model.specs.Memory.{Place, entriesAt, keyOf}
 use Rattle.model.specs.Walk.{Handed, handOut, groupEntries}
 use Rattle.model.specs.Sequences.{World, Call, Outcome, perform, handedOut}
-use Rattle.refinement.specs.Worlds.{current, other}
+use Rattle.refinement.specs.Worlds.{current, other, tablesOf}
 use Rattle.refinement.specs.Demand2.{groupPlaces, entriesIn}
-use Rattle.refinement.specs.Demand3.{countIn, cursorIn}
+use Rattle.refinement.specs.Demand3.{keep, among, groupIn}
 use Rattle.wrong_stores.specs.OneCall.{butScan, ifDone, answering, leaving}
 
 -- refuses every walk call as damaged
@@ -26,7 +27,7 @@ refusesWalks = butScan (λ w cursor lent o. handedOut w (Handed.handed (ScanAnsw
 unfoldable pub alwaysShort : World → Call → Outcome
 alwaysShort =
     butScan
-    (λ w cursor lent o. ifDone (handedOut w (Handed.handed (ScanAnswer.Short (countIn (o .reply .values))) lent)) o)
+    (λ w cursor lent o. ifDone (handedOut w (Handed.handed (ScanAnswer.Short (getD (o .reply .values) 1 0)) lent)) o)
 
 -- these entries handed out, and that cursor answered
 unfoldable pub handing : World → ℕ → List ℕ → List ℕ → Outcome
@@ -48,8 +49,8 @@ allThenEnd = butScan (λ w cursor lent o. ifDone (handing w 0 lent (allEntries w
 
 -- hands out all keys in its first call and none in the further ones, with the published cursors
 unfoldable pub allFirst : World → List ℕ → ℕ → Outcome → Outcome
-allFirst w lent zero o = handing w (cursorIn (o .reply .values)) lent (allEntries w)
-allFirst w lent (suc cursor) o = handing w (cursorIn (o .reply .values)) lent []
+allFirst w lent zero o = handing w (getD (o .reply .values) 0 0) lent (allEntries w)
+allFirst w lent (suc cursor) o = handing w (getD (o .reply .values) 0 0) lent []
 
 unfoldable pub allThenNone : World → Call → Outcome
 allThenNone = butScan (λ w cursor lent o. ifDone (allFirst w lent cursor o) o)
@@ -104,8 +105,8 @@ nextOfLarger =
 unfoldable pub skipping : ℕ → World → List ℕ → Outcome → Outcome
 skipping zero w lent o = o
 skipping (suc n) w lent o =
-    elim (countIn (o .reply .values)) [
-      | zero ↦ elim (cursorIn (o .reply .values)) [
+    elim (getD (o .reply .values) 1 0) [
+      | zero ↦ elim (getD (o .reply .values) 0 0) [
         | zero ↦ o
         | suc c ↦ skipping n w lent (perform w (Call.scan (suc c) lent))
       ]
@@ -121,8 +122,8 @@ emptyFrom zero w lent cursor = false
 emptyFrom (suc n) w lent zero = true
 emptyFrom (suc n) w lent (suc c) =
     let o = perform w (Call.scan (suc c) lent) in
-    elim (countIn (o .reply .values)) [
-      | zero ↦ emptyFrom n w lent (cursorIn (o .reply .values))
+    elim (getD (o .reply .values) 1 0) [
+      | zero ↦ emptyFrom n w lent (getD (o .reply .values) 0 0)
       | suc count ↦ false
     ]
 
@@ -130,8 +131,8 @@ unfoldable pub endsEarly : World → Call → Outcome
 endsEarly =
     butScan
     (λ w cursor lent o.
-    elim (emptyFrom (w .state .«old_size») w lent (cursorIn (o .reply .values))) [
-      | true ↦ ifDone (answering (0 ∷ countIn (o .reply .values) ∷ []) o) o
+    elim (emptyFrom (w .state .«old_size») w lent (getD (o .reply .values) 0 0)) [
+      | true ↦ ifDone (answering (0 ∷ getD (o .reply .values) 1 0 ∷ []) o) o
       | false ↦ o
     ])
 
@@ -145,7 +146,7 @@ unfoldable pub backwards : World → Call → Outcome
 backwards =
     butScan
     (λ w cursor lent o.
-    ifDone (handing w (cursorIn (o .reply .values)) lent (backwardsIn w (groupPlaces (w .state) cursor))) o)
+    ifDone (handing w (getD (o .reply .values) 0 0) lent (backwardsIn w (groupPlaces (w .state) cursor))) o)
 
 -- the first pair of a call handed out twice
 unfoldable pub firstTwice : List ℕ → List ℕ
@@ -156,7 +157,7 @@ unfoldable pub handsTwice : World → Call → Outcome
 handsTwice =
     butScan
     (λ w cursor lent o.
-    ifDone (handing w (cursorIn (o .reply .values)) lent (firstTwice (entriesIn w (groupPlaces (w .state) cursor)))) o)
+    ifDone (handing w (getD (o .reply .values) 0 0) lent (firstTwice (entriesIn w (groupPlaces (w .state) cursor)))) o)
 
 -- values handed out as 0
 unfoldable pub keysOnly : ℕ → List ℕ → List ℕ
@@ -166,14 +167,31 @@ keysOnly (suc n) (key ∷ []) = key ∷ []
 keysOnly (suc n) (key ∷ value ∷ rest) = key ∷ 0 ∷ keysOnly n rest
 
 unfoldable pub losesValues : World → Call → Outcome
-losesValues = butScan (λ w cursor lent o. ifDone (leaving (keysOnly (countIn (o .reply .values)) (o .lent)) o) o)
+losesValues = butScan (λ w cursor lent o. ifDone (leaving (keysOnly (getD (o .reply .values) 1 0) (o .lent)) o) o)
 
 -- the places behind the pairs written too
 unfoldable pub writesBeyond : World → Call → Outcome
-writesBeyond = butScan (λ w cursor lent o. ifDone (leaving (set (o .lent) (countIn (o .reply .values) * 2) 0) o) o)
+writesBeyond = butScan (λ w cursor lent o. ifDone (leaving (set (o .lent) (getD (o .reply .values) 1 0 * 2) 0) o) o)
 
 -- a refused call that writes the lent list
 unfoldable pub writesRefused : World → Call → Outcome
 writesRefused =
     butScan
     (λ w cursor lent o. elim (o .reply .number) [ zero ↦ o | suc refused ↦ leaving (replicate (length lent) 0) o ])
+
+-- during a move, every key whose bucket in either table is one of the group's
+unfoldable pub eitherBucket : World → ℕ → ℕ → Bool
+eitherBucket w cursor n =
+    let key = keyOf (w .entries) n in
+    let t = tablesOf (w .state) in
+    among (bucketOf key (w .state .«old_size»)) (groupIn t cursor (w .state .«old_size»))
+    || among (bucketOf key (w .state .«new_size»)) (groupIn t cursor (w .state .«new_size»))
+
+unfoldable pub handsEither : World → Call → Outcome
+handsEither =
+    butScan
+    (λ w cursor lent o.
+    elim (w .state .rehashing) [
+      | true ↦ ifDone (handing w (getD (o .reply .values) 0 0) lent (keep (eitherBucket w cursor) (allEntries w))) o
+      | false ↦ o
+    ])

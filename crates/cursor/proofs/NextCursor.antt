@@ -9,7 +9,7 @@ use Rattle.cursor.specs.Reverse.{reverse, rev}
 use Rattle.cursor.specs.Next.{next, setHigh, addOne}
 use Rattle.cursor.proofs.Reversal.{reverse-lt, reverse-split, reverse-mod, reverse-twice, reverse-ones, reverse-zero, reverse-shifted, mod-shifted}
 
--- the paper's rule, at any word size n
+-- the published rule, at any word size n
 nextAt : ℕ → ℕ → ℕ → ℕ
 nextAt n size v = reverse n ((reverse n (v % size + (2 ^ n - size)) + 1) % 2 ^ n)
 
@@ -26,7 +26,7 @@ next-at b d v =
     let up : reverse b v * 2 ^ d + (2 ^ d - 1) + 1 ≡ suc (reverse b v) * 2 ^ d = rw suc-mul (omega (arith, pow-pos d)) in
     rw (set-high-reversed, up, mod-shifted, reverse-shifted)
 
--- the paper's next cursor is one more in the reversed lowest b bits
+-- the published next cursor is one more in the reversed lowest b bits
 pub next-short : (b v : ℕ) → b ≤ 32 → next (2 ^ b) v ≡ reverse b (suc (reverse b v) % 2 ^ b)
 unfolding nextAt next setHigh addOne rev
 next-short b v h = let (d, e) = le-dest h in subst (λ n. nextAt n (2 ^ b) v ≡ reverse b (suc (reverse b v) % 2 ^ b)) e (next-at b d v)

@@ -1,4 +1,4 @@
--- The buckets that one walk call hands out, and the cursor that it answers (paper 01, "The walk": group).
+-- The buckets that one walk call hands out, and the cursor that it answers (SPECIFICATION, "The walk": group).
 use Prim.Native.Nat.{ℕ, zero, suc, _/_, _%_}
 use mathlib.Core.Bool.{Bool, true, false}
 use mathlib.Core.List.{List, [], _∷_}

@@ -1,4 +1,4 @@
--- The next cursor of a table (paper 01, "The walk").
+-- The next cursor of a table (SPECIFICATION, "The walk").
 use Prim.Native.Nat.{ℕ, _+_, _-_, _%_, _^_}
 use Rattle.cursor.specs.Reverse.{rev}
 

@@ -6,6 +6,6 @@ unfoldable pub reverse : ℕ → ℕ → ℕ
 reverse zero x = 0
 reverse (suc n) x = x % 2 * 2 ^ n + reverse n (x / 2)
 
--- a cursor has 32 bits (paper 01: rev)
+-- a cursor has 32 bits (SPECIFICATION, "The walk": rev)
 unfoldable pub rev : ℕ → ℕ
 rev x = reverse 32 x

@@ -1,2 +1,3 @@
--- What the loops keep and what each turn gives, and what the parts of a call come to.
+-- What the steps of add come to in numbers, and from there to the definition.
 mod Pushing
+mod Adding

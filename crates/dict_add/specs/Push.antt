@@ -1,34 +1,44 @@
--- What the functions below add hand up: what happened to the buffers, in numbers, of which add makes its answer.
-use Prim.Native.Nat.{ℕ, _*_, _≤_, _<_}
-use mathlib.Core.Path.{_≡_}
-use mathlib.Core.Bool.{true}
+-- What the functions below add hand up, and what they promise, in numbers: they know one table and no state. Add makes its
+-- answer of it.
+use Prim.Native.Nat.{ℕ, _+_}
+use mathlib.Core.Bool.{_&&_, not, cond}
 use mathlib.Core.List.{List}
-use lib.ListN.{length}
-use Rattle.model.specs.Limits.{legalSize}
+use lib.ListN.{getD, set}
+use lib.Dec.{leb, eqb}
 use Rattle.model.specs.declared.State.{State}
+use Rattle.model.specs.declared.Table.{Table}
+use Rattle.model.specs.declared.Error.{Error}
 use Rattle.model.specs.declared.AddAnswer.{AddAnswer}
-use Rattle.model.specs.Calls.{After, addedOld, addedNew}
+use Rattle.model.specs.Keys.{bucketOf}
+use Rattle.model.specs.Memory.{linkOf, setEntry, usedOf}
+use Rattle.model.specs.Calls.{recounted, withCount, target}
+use Rattle.search.specs.declared.found.Found.{Found}
 use Rattle.dict_add.specs.declared.add.Push.{Push}
 
--- what writing entry n at the head of a bucket asks: a table of that size in the buffer, and an entry within its buffer
-pub record Pushable (buckets entries : List ℕ) (size n : ℕ) : Type 0 where
-  pub legal : legalSize size ≡ true
-  pub fits : size ≤ length buckets
-  pub some-entry : 0 < n
-  pub entry-fits : n * 3 ≤ length entries
+-- what is handed up, and the table's buckets and the entries as they are left
+pub data Left : Type 0 where
+  left : Push → List ℕ → List ℕ → Left
+
+-- the first free entry at the head of the key's bucket
+unfoldable pub pushFree : List ℕ → List ℕ → (size capacity held free key value : ℕ) → Left
+pushFree buckets entries size capacity held free key value =
+    cond (eqb held capacity)
+    (Left.left (Push.Refused Error.Full) buckets entries)
+    (cond (not (eqb free 0) && leb (linkOf entries free) capacity)
+    (Left.left (Push.Done (linkOf entries free)) (set buckets (bucketOf key size) free)
+    (setEntry entries free (getD buckets (bucketOf key size) 0) key value))
+    (Left.left (Push.Refused Error.Damaged) buckets entries))
+
+-- what the search found decides; the third is what an absent key leads to
+unfoldable pub pushFound : List ℕ → List ℕ → Left → Found → Left
+pushFound buckets entries absent Found.Damaged = Left.left (Push.Refused Error.Damaged) buckets entries
+pushFound buckets entries absent Found.Absent = absent
+pushFound buckets entries absent (Found.At n) = Left.left (Push.Refused Error.Present) buckets entries
+
+-- one key more in a table, and another free head
+unfoldable pub oneMore : State → Table → ℕ → State
+oneMore s t free = recounted s free (withCount s t (usedOf s t + 1))
 
 unfoldable pub pushAnswer : State → Push → AddAnswer
 pushAnswer s (Push.Refused e) = AddAnswer.Refused e
-pushAnswer s (Push.Old free) = AddAnswer.Added (addedOld s free)
-pushAnswer s (Push.New free) = AddAnswer.Added (addedNew s free)
-
--- the count that goes up has room below the capacity
-unfoldable pub pushRoom : State → Push → Type 0
-pushRoom s (Push.Refused e) = Unit {0}
-pushRoom s (Push.Old free) = s .«old_used» < s .capacity
-pushRoom s (Push.New free) = s .«new_used» < s .capacity
-
--- the answer made of it, with the buffers as they are left, is what is meant
-pub record Pushed (s : State) (r : Push) (first second entries : List ℕ) (meant : After AddAnswer) : Type 0 where
-  pub meets : After.after (pushAnswer s r) first second entries ≡ meant
-  pub room : pushRoom s r
+pushAnswer s (Push.Done free) = AddAnswer.Added (oneMore s (target (s .rehashing)) free)

@@ -1,123 +1,155 @@
-// Add a key that is not held (paper 01: add).
-use lookup::entry::link_of;
-use lookup::entry::set_entry;
-use lookup::search::look_up;
-use lookup::state::bucket_index;
-use lookup::state::is_sound;
+// Add a key that is not held (SPECIFICATION, "Add"). It is a timed call: the state is tested on the lent lengths, then whether
+// a rehash is under way, then which buffer is current. What has more than one caller below that takes numbers and no state.
+use memory::entry::link_of;
+use memory::entry::set_entry;
+use memory::state::bucket_index;
+use memory::state::is_sound_lent;
 use model::AddAnswer;
 use model::Error;
-use model::Lookup;
 use model::State;
+use search::found::Found;
+use search::found::entry_in;
+use search::found::entry_in_both;
 ghost use mathlib.Core.Path.{_≡_};
+ghost use mathlib.Core.Bool.{true, false};
+ghost use Prim.Native.Nat.{_+_, _≤_, _<_};
+ghost use lib.ListN.{length, getD, set};
+ghost use Rattle.model.specs.declared.Table.{Table};
 ghost use Rattle.model.specs.Keys.{bucketOf};
+ghost use Rattle.model.specs.Memory.{setEntry};
 ghost use Rattle.model.specs.Calls as calls;
 ghost use Rattle.model.specs.Calls.After.{after};
-ghost use Rattle.model.proofs.Soundness.{Sound};
-ghost use Rattle.model.specs.declared.Lookup.the-variants as found;
-ghost use Rattle.dict_add.specs.Push.{Pushable, Pushed};
+ghost use Rattle.model.proofs.Soundness.{Counted};
+ghost use Rattle.memory.specs.Lent.{soundLent};
+ghost use Rattle.search.specs.Tables.{searchedIn, Readable};
+ghost use Rattle.search.specs.Found.{foundOf};
+ghost use Rattle.dict_add.specs.Push.{pushFree, pushFound, oneMore, pushAnswer};
+ghost use Rattle.dict_add.specs.Push.Left.{left};
 
 // What happened to the buffers, in numbers: the public call makes the answer of it.
 enum Push {
     Refused(Error),
-    // The first free entry is in the old or the new table, and this is the free list's next one.
-    Old(u32),
-    New(u32),
+    // The first free entry is taken, and this is the free list's next one.
+    Done(u32),
 }
 
 // Entry n, with the key and the value, at the head of the key's bucket.
 fn push_entry(buckets: &mut [u32], entries: &mut [u32], size: u32, n: u32, key: u32, value: u32)
-    requires { ⌜ Pushable (now buckets) (now entries) size n ⌝ }
-    ensures { λ _. ⌜ now (buckets .exit) ≡ calls.pushBucket (now (buckets .entry)) (bucketOf key size) n ⌝ }
+    requires { ⌜ 0 < n ⌝ }
+    requires { ⌜ Readable size (length (now buckets)) n (length (now entries)) ⌝ }
+    ensures { λ _. ⌜ now (buckets .exit) ≡ set (now (buckets .entry)) (bucketOf key size) n ⌝ }
     ensures { λ _. ⌜ now (entries .exit)
-        ≡ calls.pushEntry (now (buckets .entry)) (now (entries .entry)) (bucketOf key size) n key value ⌝ }
+        ≡ setEntry (now (entries .entry)) n (getD (now (buckets .entry)) (bucketOf key size) 0) key value ⌝ }
 {
     let b = bucket_index(key, size);
     set_entry(entries, n, buckets[b], key, value);
     buckets[b] = n;
 }
 
-// The key is on neither chain: take the first free entry. Only it and its link are read of the free list, and nothing
-// is written before the last test.
+// The key is on no chain: take the first free entry. Only it and its link are read of the free list, and nothing is
+// written before the last test.
 fn push_free(
-    current: &mut [u32],
-    other: &mut [u32],
+    buckets: &mut [u32],
     entries: &mut [u32],
-    s: State,
+    size: u32,
+    capacity: u32,
+    held: u32,
+    free: u32,
     key: u32,
     value: u32,
 ) -> Push
-    requires { ⌜ Sound s (now current) (now other) (now entries) ⌝ }
-    ensures { λ r. ⌜ Pushed s r (now (current .exit)) (now (other .exit)) (now (entries .exit))
-        (calls.added s (now (current .entry)) (now (other .entry)) (now (entries .entry)) key value found.Absent) ⌝ }
+    requires { ⌜ Readable size (length (now buckets)) capacity (length (now entries)) ⌝ }
+    requires { ⌜ free ≤ capacity ⌝ }
+    ensures { λ r. ⌜ left r (now (buckets .exit)) (now (entries .exit))
+        ≡ pushFree (now (buckets .entry)) (now (entries .entry)) size capacity held free key value ⌝ }
 {
-    let free = s.free_head;
-    if s.old_used + s.new_used == s.capacity {
+    if held == capacity {
         return Push::Refused(Error::Full);
     }
     if free == 0 {
         return Push::Refused(Error::Damaged);
     }
     let next = link_of(entries, free);
-    if next <= s.capacity {
-        if s.rehashing {
-            push_entry(other, entries, s.new_size, free, key, value);
-            Push::New(next)
-        } else {
-            push_entry(current, entries, s.old_size, free, key, value);
-            Push::Old(next)
-        }
+    if next <= capacity {
+        push_entry(buckets, entries, size, free, key, value);
+        Push::Done(next)
     } else {
         Push::Refused(Error::Damaged)
     }
 }
 
-// In a sound state: the two chains of the key are read once, and a key on one of them is refused.
-fn push_sound(
-    current: &mut [u32],
-    other: &mut [u32],
+// Into the only table, by what the search in it found.
+fn push_one(
+    buckets: &mut [u32],
     entries: &mut [u32],
-    s: State,
+    capacity: u32,
+    used: u32,
+    size: u32,
+    free: u32,
     key: u32,
     value: u32,
 ) -> Push
-    requires { ⌜ Sound s (now current) (now other) (now entries) ⌝ }
-    ensures { λ r. ⌜ Pushed s r (now (current .exit)) (now (other .exit)) (now (entries .exit))
-        (calls.added s (now (current .entry)) (now (other .entry)) (now (entries .entry)) key value
-        (calls.lookup s (now (current .entry)) (now (other .entry)) (now (entries .entry)) key)) ⌝ }
+    requires { ⌜ Readable size (length (now buckets)) capacity (length (now entries)) ⌝ }
+    requires { ⌜ free ≤ capacity ⌝ }
+    ensures { λ r. ⌜ left r (now (buckets .exit)) (now (entries .exit))
+        ≡ pushFound (now (buckets .entry)) (now (entries .entry))
+        (pushFree (now (buckets .entry)) (now (entries .entry)) size capacity used free key value)
+        (foundOf (searchedIn (now (entries .entry)) capacity used (now (buckets .entry)) size key Table.Old)) ⌝ }
 {
-    let at = look_up(current, other, entries, s, key);
+    let at = entry_in(entries, capacity, used, buckets, size, key);
     match at {
-        Lookup::Damaged => Push::Refused(Error::Damaged),
-        Lookup::Absent => push_free(current, other, entries, s, key, value),
-        Lookup::At {
-            in_new: _,
-            before: _,
-            entry: _,
-        } => Push::Refused(Error::Present),
+        Found::Damaged => Push::Refused(Error::Damaged),
+        Found::Absent => push_free(buckets, entries, size, capacity, used, free, key, value),
+        Found::At(_) => Push::Refused(Error::Present),
     }
 }
 
-// On the current and the other buffer: a state that is not sound is refused before anything is read.
-fn push_in(
-    current: &mut [u32],
-    other: &mut [u32],
+// Into the new table, by what the search in both found.
+fn push_two(
+    old: &[u32],
+    new: &mut [u32],
     entries: &mut [u32],
-    s: State,
+    capacity: u32,
+    old_used: u32,
+    new_used: u32,
+    old_size: u32,
+    new_size: u32,
+    free: u32,
     key: u32,
     value: u32,
 ) -> Push
-    ensures { λ r. ⌜ Pushed s r (now (current .exit)) (now (other .exit)) (now (entries .exit))
-        (calls.addIn s (now (entries .entry)) key value (now (current .entry)) (now (other .entry))) ⌝ }
+    requires { ⌜ Readable «old_size» (length (now old)) capacity (length (now entries)) ⌝ }
+    requires { ⌜ Readable «new_size» (length (now new)) capacity (length (now entries)) ⌝ }
+    requires { ⌜ «old_used» + «new_used» ≤ capacity ⌝ }
+    requires { ⌜ free ≤ capacity ⌝ }
+    ensures { λ r. ⌜ left r (now (new .exit)) (now (entries .exit))
+        ≡ pushFound (now (new .entry)) (now (entries .entry))
+        (pushFree (now (new .entry)) (now (entries .entry)) «new_size» capacity («old_used» + «new_used») free key value)
+        (foundOf (calls.both
+        (searchedIn (now (entries .entry)) capacity «old_used» (now (old .entry)) «old_size» key Table.Old)
+        (searchedIn (now (entries .entry)) capacity «new_used» (now (new .entry)) «new_size» key Table.New))) ⌝ }
 {
-    if is_sound(current.len(), other.len(), entries.len(), s) {
-        push_sound(current, other, entries, s, key, value)
-    } else {
-        Push::Refused(Error::BadState)
+    let held = old_used + new_used;
+    let at = entry_in_both(
+        old,
+        new,
+        entries,
+        capacity,
+        old_used,
+        new_used,
+        old_size,
+        new_size,
+        key,
+    );
+    match at {
+        Found::Damaged => Push::Refused(Error::Damaged),
+        Found::Absent => push_free(new, entries, new_size, capacity, held, free, key, value),
+        Found::At(_) => Push::Refused(Error::Present),
     }
 }
 
-// The state's flag is read here, once: everything below knows the current and the other buffer.
-fn push_oriented(
+// With no rehash under way the flag says which lent buffer has the only table.
+fn push_resting(
     first: &mut [u32],
     second: &mut [u32],
     entries: &mut [u32],
@@ -125,13 +157,114 @@ fn push_oriented(
     key: u32,
     value: u32,
 ) -> Push
-    ensures { λ r. ⌜ Pushed s r (now (first .exit)) (now (second .exit)) (now (entries .exit))
-        (calls.add s (now (first .entry)) (now (second .entry)) (now (entries .entry)) key value) ⌝ }
+    requires { ⌜ soundLent (length (now first)) (length (now second)) (length (now entries)) s ≡ true ⌝ }
+    requires { ⌜ s .rehashing ≡ false ⌝ }
+    ensures { λ r. ⌜ after (pushAnswer s r) (now (first .exit)) (now (second .exit)) (now (entries .exit))
+        ≡ calls.add s (now (first .entry)) (now (second .entry)) (now (entries .entry)) key value ⌝ }
 {
     if s.second_is_current {
-        push_in(second, first, entries, s, key, value)
+        push_one(
+            second,
+            entries,
+            s.capacity,
+            s.old_used,
+            s.old_size,
+            s.free_head,
+            key,
+            value,
+        )
     } else {
-        push_in(first, second, entries, s, key, value)
+        push_one(
+            first,
+            entries,
+            s.capacity,
+            s.old_used,
+            s.old_size,
+            s.free_head,
+            key,
+            value,
+        )
+    }
+}
+
+// During a rehash it says which has the old table, and the other has the new one.
+fn push_rehashing(
+    first: &mut [u32],
+    second: &mut [u32],
+    entries: &mut [u32],
+    s: State,
+    key: u32,
+    value: u32,
+) -> Push
+    requires { ⌜ soundLent (length (now first)) (length (now second)) (length (now entries)) s ≡ true ⌝ }
+    requires { ⌜ s .rehashing ≡ true ⌝ }
+    ensures { λ r. ⌜ after (pushAnswer s r) (now (first .exit)) (now (second .exit)) (now (entries .exit))
+        ≡ calls.add s (now (first .entry)) (now (second .entry)) (now (entries .entry)) key value ⌝ }
+{
+    if s.second_is_current {
+        push_two(
+            second,
+            first,
+            entries,
+            s.capacity,
+            s.old_used,
+            s.new_used,
+            s.old_size,
+            s.new_size,
+            s.free_head,
+            key,
+            value,
+        )
+    } else {
+        push_two(
+            first,
+            second,
+            entries,
+            s.capacity,
+            s.old_used,
+            s.new_used,
+            s.old_size,
+            s.new_size,
+            s.free_head,
+            key,
+            value,
+        )
+    }
+}
+
+// Once the state is known to be sound.
+fn push_sound(
+    first: &mut [u32],
+    second: &mut [u32],
+    entries: &mut [u32],
+    s: State,
+    key: u32,
+    value: u32,
+) -> Push
+    requires { ⌜ soundLent (length (now first)) (length (now second)) (length (now entries)) s ≡ true ⌝ }
+    ensures { λ r. ⌜ after (pushAnswer s r) (now (first .exit)) (now (second .exit)) (now (entries .exit))
+        ≡ calls.add s (now (first .entry)) (now (second .entry)) (now (entries .entry)) key value ⌝ }
+{
+    if s.rehashing {
+        push_rehashing(first, second, entries, s, key, value)
+    } else {
+        push_resting(first, second, entries, s, key, value)
+    }
+}
+
+// One key more in the table that keys are added to, and another free head.
+fn one_more(s: State, free: u32) -> State
+    requires { ⌜ Counted s ⌝ }
+    ensures { λ r. ⌜ r ≡ oneMore s (calls.target (s .rehashing)) free ⌝ }
+{
+    let mut n = s;
+    n.free_head = free;
+    if s.rehashing {
+        n.new_used = s.new_used + 1;
+        n
+    } else {
+        n.old_used = s.old_used + 1;
+        n
     }
 }
 
@@ -146,20 +279,13 @@ pub fn add(
     ensures { λ r. ⌜ after r (now (first .exit)) (now (second .exit)) (now (entries .exit))
         ≡ calls.add s (now (first .entry)) (now (second .entry)) (now (entries .entry)) key value ⌝ }
 {
-    let pushed = push_oriented(first, second, entries, s, key, value);
-    match pushed {
-        Push::Refused(e) => AddAnswer::Refused(e),
-        Push::Old(free) => {
-            let mut n = s;
-            n.old_used = s.old_used + 1;
-            n.free_head = free;
-            AddAnswer::Added(n)
+    if is_sound_lent(first.len(), second.len(), entries.len(), s) {
+        let pushed = push_sound(first, second, entries, s, key, value);
+        match pushed {
+            Push::Refused(e) => AddAnswer::Refused(e),
+            Push::Done(free) => AddAnswer::Added(one_more(s, free)),
         }
-        Push::New(free) => {
-            let mut n = s;
-            n.new_used = s.new_used + 1;
-            n.free_head = free;
-            AddAnswer::Added(n)
-        }
+    } else {
+        AddAnswer::Refused(Error::BadState)
     }
 }

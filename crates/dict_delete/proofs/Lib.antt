@@ -1,2 +1,2 @@
--- What the loops keep and what each turn gives, and what the parts of a call come to.
+-- What the steps of a delete come to.
 mod Removing

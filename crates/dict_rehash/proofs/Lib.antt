@@ -1,3 +1,4 @@
 -- What the loops keep and what each turn gives, and what the parts of a call come to.
-mod Moving
+mod Filling
+mod Relinking
 mod Stepping

@@ -1,11 +1,11 @@
-// One step of a rehash (paper 01: step).
-use lookup::chain::ChainLength;
-use lookup::chain::chain_length;
-use lookup::entry::key_of;
-use lookup::entry::link_of;
-use lookup::entry::set_link;
-use lookup::state::bucket_index;
-use lookup::state::is_sound;
+// One step of a rehash (SPECIFICATION, "Step").
+use memory::chain::ChainLength;
+use memory::chain::chain_length;
+use memory::entry::key_of;
+use memory::entry::link_of;
+use memory::entry::set_link;
+use memory::state::bucket_index;
+use memory::state::is_sound;
 use model::Error;
 use model::State;
 use model::StepAnswer;
@@ -13,14 +13,16 @@ ghost use mathlib.Core.Path.{_≡_};
 ghost use mathlib.Core.Bool.{true};
 ghost use Prim.Native.Nat.{_-_, _*_, _≤_, _<_};
 ghost use lib.ListN.{length};
+ghost use Rattle.model.specs.declared.Error.the-variants as why;
+ghost use Rattle.model.specs.declared.StepAnswer.the-variants as answer;
 ghost use Rattle.model.specs.Limits.{legalSize};
 ghost use Rattle.model.specs.Calls as calls;
 ghost use Rattle.model.specs.Calls.After.{after};
-ghost use Rattle.model.proofs.Soundness.{SoundBase, SoundMove};
-ghost use Rattle.dict_rehash.specs.Move.{MoveDone, filledAt, ChainOf, ChainMoved, EntryMoved};
+ghost use Rattle.model.proofs.Soundness.{Sound};
+ghost use Rattle.dict_rehash.specs.Progress.{stepAnswer, stepRoom, filledAt, chains, ChainOf, ChainMoved, EntryMoved};
 
 // What happened to the buffers, in numbers: the public call makes the answer of it.
-enum Move {
+enum Progress {
     Refused(Error),
     // The old table holds no keys.
     Finished,
@@ -48,7 +50,8 @@ fn first_filled(buckets: &[u32], from: u32, size: u32) -> u32
 fn move_entry(buckets: &mut [u32], entries: &mut [u32], size: u32, n: u32) -> u32
     requires { ⌜ (legalSize size ≡ true) × (size ≤ length (now buckets)) ⌝ }
     requires { ⌜ (0 < n) × (n * 3 ≤ length (now entries)) ⌝ }
-    ensures { λ r. ⌜ EntryMoved size (now (buckets .entry)) (now (entries .entry)) n r (now (buckets .exit)) (now (entries .exit)) ⌝ }
+    ensures { λ r. ⌜ EntryMoved size n r (chains (now (buckets .entry)) (now (entries .entry)))
+        (chains (now (buckets .exit)) (now (entries .exit))) ⌝ }
 {
     let rest = link_of(entries, n);
     let b = bucket_index(key_of(entries, n), size);
@@ -62,7 +65,8 @@ fn move_entry(buckets: &mut [u32], entries: &mut [u32], size: u32, n: u32) -> u3
 fn move_chain(buckets: &mut [u32], entries: &mut [u32], size: u32, head: u32, count: u32)
     requires { ⌜ (legalSize size ≡ true) × (size ≤ length (now buckets)) ⌝ }
     requires { ⌜ ChainOf (now entries) head count ⌝ }
-    ensures { λ _. ⌜ ChainMoved size (now (buckets .entry)) (now (entries .entry)) head (now (buckets .exit)) (now (entries .exit)) ⌝ }
+    ensures { λ _. ⌜ ChainMoved size head (chains (now (buckets .entry)) (now (entries .entry)))
+        (chains (now (buckets .exit)) (now (entries .exit))) ⌝ }
 {
     let mut at = head;
     for _ in 0..count {
@@ -72,59 +76,63 @@ fn move_chain(buckets: &mut [u32], entries: &mut [u32], size: u32, head: u32, co
 
 // The chain of the first filled bucket from the next one to move. It is read once to test it, so that a refusal leaves
 // the buffers as they were, and once to move it.
-fn move_bucket(current: &mut [u32], other: &mut [u32], entries: &mut [u32], s: State) -> Move
-    requires { ⌜ SoundBase s (length (now current)) (length (now entries)) ⌝ }
-    requires { ⌜ SoundMove s (length (now other)) ⌝ }
-    ensures { λ r. ⌜ MoveDone s r (now (current .exit)) (now (other .exit)) (now (entries .exit))
-        (calls.movedFrom s (now (current .entry)) (now (other .entry)) (now (entries .entry))
-        (calls.firstFilled (now (current .entry)) (s .«rehash_index») (s .«old_size» - s .«rehash_index»))) ⌝ }
+fn move_bucket(current: &mut [u32], other: &mut [u32], entries: &mut [u32], s: State) -> Progress
+    requires { ⌜ Sound s (length (now current)) (length (now other)) (length (now entries)) ⌝ }
+    requires { ⌜ s .rehashing ≡ true ⌝ }
+    ensures { λ r. ⌜ after (stepAnswer s r) (now (current .exit)) (now (other .exit)) (now (entries .exit))
+        ≡ calls.movedFrom s (now (current .entry)) (now (other .entry)) (now (entries .entry))
+        (calls.firstFilled (now (current .entry)) (s .«rehash_index») (s .«old_size» - s .«rehash_index»)) ⌝ }
+    ensures { λ r. ⌜ stepRoom s r ⌝ }
 {
     let b = first_filled(current, s.rehash_index, s.old_size);
     if b < s.old_size {
         let head = current[b as usize];
         let length = chain_length(entries, s.capacity, s.old_used, head);
         match length {
-            ChainLength::Unsound => Move::Refused(Error::Damaged),
+            ChainLength::Unsound => Progress::Refused(Error::Damaged),
             ChainLength::Sound(count) => {
                 move_chain(other, entries, s.new_size, head, count);
                 current[b as usize] = 0;
-                Move::Past(b, count)
+                Progress::Past(b, count)
             }
         }
     } else {
-        Move::Refused(Error::Damaged)
+        Progress::Refused(Error::Damaged)
     }
 }
 
 // On the current and the other bucket buffer: the tests in the order of the answers.
-fn move_in(current: &mut [u32], other: &mut [u32], entries: &mut [u32], s: State) -> Move
-    ensures { λ r. ⌜ MoveDone s r (now (current .exit)) (now (other .exit)) (now (entries .exit))
-        (calls.rehashStepIn s (now (entries .entry)) (now (current .entry)) (now (other .entry))) ⌝ }
+fn step_in(current: &mut [u32], other: &mut [u32], entries: &mut [u32], s: State) -> Progress
+    ensures { λ r. ⌜ after (stepAnswer s r) (now (current .exit)) (now (other .exit)) (now (entries .exit))
+        ≡ calls.checked s (now (entries .entry)) (λ c o. after (answer.Refused why.BadState) c o (now (entries .entry)))
+        (λ c o. calls.stepped s c o (now (entries .entry)) (s .rehashing)) (now (current .entry)) (now (other .entry)) ⌝ }
+    ensures { λ r. ⌜ stepRoom s r ⌝ }
 {
     if is_sound(current.len(), other.len(), entries.len(), s) {
         if s.rehashing {
             if s.old_used == 0 {
-                Move::Finished
+                Progress::Finished
             } else {
                 move_bucket(current, other, entries, s)
             }
         } else {
-            Move::Refused(Error::NotRehashing)
+            Progress::Refused(Error::NotRehashing)
         }
     } else {
-        Move::Refused(Error::BadState)
+        Progress::Refused(Error::BadState)
     }
 }
 
 // The state says which of the lent buffers is the current one.
-fn move_oriented(first: &mut [u32], second: &mut [u32], entries: &mut [u32], s: State) -> Move
-    ensures { λ r. ⌜ MoveDone s r (now (first .exit)) (now (second .exit)) (now (entries .exit))
-        (calls.rehashStep s (now (first .entry)) (now (second .entry)) (now (entries .entry))) ⌝ }
+fn step_oriented(first: &mut [u32], second: &mut [u32], entries: &mut [u32], s: State) -> Progress
+    ensures { λ r. ⌜ after (stepAnswer s r) (now (first .exit)) (now (second .exit)) (now (entries .exit))
+        ≡ calls.rehashStep s (now (first .entry)) (now (second .entry)) (now (entries .entry)) ⌝ }
+    ensures { λ r. ⌜ stepRoom s r ⌝ }
 {
     if s.second_is_current {
-        move_in(second, first, entries, s)
+        step_in(second, first, entries, s)
     } else {
-        move_in(first, second, entries, s)
+        step_in(first, second, entries, s)
     }
 }
 
@@ -138,10 +146,10 @@ pub fn rehash_step(
     ensures { λ r. ⌜ after r (now (first .exit)) (now (second .exit)) (now (entries .exit))
         ≡ calls.rehashStep s (now (first .entry)) (now (second .entry)) (now (entries .entry)) ⌝ }
 {
-    let moved = move_oriented(first, second, entries, s);
-    match moved {
-        Move::Refused(e) => StepAnswer::Refused(e),
-        Move::Finished => {
+    let progress = step_oriented(first, second, entries, s);
+    match progress {
+        Progress::Refused(e) => StepAnswer::Refused(e),
+        Progress::Finished => {
             let mut n = s;
             n.second_is_current = !s.second_is_current;
             n.old_size = s.new_size;
@@ -152,7 +160,7 @@ pub fn rehash_step(
             n.rehash_index = 0;
             StepAnswer::Stepped(0, n)
         }
-        Move::Past(b, count) => {
+        Progress::Past(b, count) => {
             let mut n = s;
             n.old_used = s.old_used - count;
             n.new_used = s.new_used + count;

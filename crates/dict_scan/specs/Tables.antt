@@ -1,20 +1,31 @@
--- What reading the live tables asks of their sizes, their buffers and the keys held.
-use Prim.Native.Nat.{ℕ, _*_, _≤_}
+-- What the functions below the walk call ask of the state, the tables, the buffers and the keys held.
+use Prim.Native.Nat.{ℕ, _+_, _*_, _≤_}
 use mathlib.Core.Path.{_≡_}
-use mathlib.Core.Bool.{true}
+use mathlib.Core.Bool.{Bool, true}
 use mathlib.Core.List.{List}
 use lib.ListN.{length}
-use Rattle.model.specs.Limits.{legalSize}
-use Rattle.scan_group.specs.Tables.{Both}
+use Rattle.model.specs.declared.State.{State}
+use Rattle.model.specs.Limits.{legalSize, largestCapacity}
+use Rattle.memory.specs.Lent.{soundLent}
+use Rattle.scan_group.specs.Tables.{TableIn}
+
+-- a sound state beside lent buffers of these lengths, some keys held, and whether a rehash is under way
+pub record Holding (first second entries : ℕ) (s : State) (rehashing : Bool) : Type 0 where
+  pub sound : soundLent first second entries s ≡ true
+  pub some-keys : s .«old_used» + s .«new_used» ≡ 0 → ⊥
+  pub known : s .rehashing ≡ rehashing
 
 -- one live table
-pub record One (buckets entries : List ℕ) (capacity used size : ℕ) : Type 0 where
+pub record One (entries : List ℕ) (capacity used size : ℕ) : Type 0 where
   pub legal : legalSize size ≡ true
-  pub fits : size ≤ length buckets
   pub entries-fit : capacity * 3 ≤ length entries
   pub used-fits : used ≤ capacity
 
 -- two live tables
-pub record Two (smaller larger entries : List ℕ) (capacity small-used large-used small large : ℕ) : Type 0 where
-  pub both : Both larger entries capacity small-used large-used small large
-  pub small-fits : small ≤ length smaller
+pub record Two (current other entries : List ℕ) (capacity old-used new-used old new : ℕ) : Type 0 where
+  pub old-in : TableIn current old
+  pub new-in : TableIn other new
+  pub sizes-differ : old ≡ new → ⊥
+  pub entries-fit : capacity * 3 ≤ length entries
+  pub capacity-limit : capacity ≤ largestCapacity
+  pub keys-fit : old-used + new-used ≤ capacity

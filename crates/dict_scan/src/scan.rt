@@ -1,26 +1,30 @@
-// The walk call: the group of a cursor, in one live table or two.
+// The walk call: the group of a cursor, in one live table or two. It is a timed call, so the state is tested on the lent
+// lengths before a buffer is chosen, and what has more than one caller below takes numbers and no state.
 use cursor::next_cursor;
-use lookup::chain::ChainLength;
-use lookup::chain::chain_length;
-use lookup::state::bucket_index;
-use lookup::state::is_sound;
+use memory::chain::ChainLength;
+use memory::chain::chain_length;
+use memory::state::is_sound_lent;
 use model::Error;
 use model::ScanAnswer;
 use model::State;
+use scan_group::bucket::bucket_head;
 use scan_group::count::count_group;
 use scan_group::write::write_chain;
 use scan_group::write::write_group;
 ghost use mathlib.Core.Path.{_≡_};
-ghost use mathlib.Core.List.{[], _∷_};
-ghost use Rattle.cursor.specs.Group.{oneTable, twoTables};
+ghost use mathlib.Core.Bool.{true, false};
+ghost use lib.ListN.{length};
+ghost use Rattle.cursor.specs.Group.{oneTable};
+ghost use Rattle.model.specs.Memory.{chain};
 ghost use Rattle.model.specs.Walk as walk;
-ghost use Rattle.model.specs.Walk.Handed.{handed};
-ghost use Rattle.model.proofs.Soundness.{Sound};
-ghost use Rattle.dict_scan.specs.Tables.{One, Two};
+ghost use Rattle.model.specs.Walk.AfterScan.{after};
+ghost use Rattle.scan_group.specs.Tables.{Both};
+ghost use Rattle.dict_scan.specs.Tables.{Holding, One, Two};
+ghost use Rattle.dict_scan.specs.Groups.{scannedTwo, scannedBoth};
 
-// One live table: the bucket of the cursor. Nothing is written before its chain was tested and the room is known.
+// One live table: the chain of the cursor's bucket. Nothing is written before it was tested and the room is known.
 fn scan_one(
-    buckets: &[u32],
+    head: u32,
     entries: &[u32],
     list: &mut [u32],
     capacity: u32,
@@ -28,20 +32,18 @@ fn scan_one(
     size: u32,
     cursor: u32,
 ) -> ScanAnswer
-    requires { ⌜ One (now buckets) (now entries) capacity used size ⌝ }
-    ensures { λ r. ⌜ handed r (now (list .exit))
-        ≡ walk.handOut (now (entries .entry)) (now (list .entry)) (oneTable size cursor .answered)
-        (walk.chains (now (entries .entry)) capacity used (now (buckets .entry)) (oneTable size cursor .small ∷ [])) ⌝ }
+    requires { ⌜ One (now entries) capacity used size ⌝ }
+    ensures { λ r. ⌜ after r (now (list .exit))
+        ≡ walk.scanned (now (entries .entry)) (now (list .entry)) (oneTable size cursor .answered)
+        (chain (now (entries .entry)) capacity used head) ⌝ }
 {
     let next = next_cursor(size, cursor);
-    let b = bucket_index(cursor, size);
-    let head = buckets[b];
     let length = chain_length(entries, capacity, used, head);
     match length {
         ChainLength::Unsound => ScanAnswer::Refused(Error::Damaged),
         ChainLength::Sound(count) => {
             if count as usize * 2 <= list.len() {
-                write_chain(entries, list, head, 0);
+                write_chain(head, entries, list, 0);
                 ScanAnswer::Scanned(next, count)
             } else {
                 ScanAnswer::Short(count)
@@ -50,10 +52,10 @@ fn scan_one(
     }
 }
 
-// Two live tables: the smaller one's bucket of the cursor, then the larger one's buckets. The next cursor is that of
-// the smaller size.
+// Two live tables: the chain of the smaller one's bucket, then those of the larger one's buckets. The next cursor is that
+// of the smaller size.
 fn scan_two(
-    smaller: &[u32],
+    head: u32,
     larger: &[u32],
     entries: &[u32],
     list: &mut [u32],
@@ -64,17 +66,14 @@ fn scan_two(
     large: u32,
     cursor: u32,
 ) -> ScanAnswer
-    requires { ⌜ Two (now smaller) (now larger) (now entries) capacity «small_used» «large_used» small large ⌝ }
-    ensures { λ r. ⌜ handed r (now (list .exit))
-        ≡ walk.handOut (now (entries .entry)) (now (list .entry)) (twoTables small large cursor .answered)
-        (walk.joined
-        (walk.chains (now (entries .entry)) capacity «small_used» (now (smaller .entry)) (twoTables small large cursor .small ∷ []))
-        (walk.chains (now (entries .entry)) capacity «large_used» (now (larger .entry)) (twoTables small large cursor .large))) ⌝ }
+    requires { ⌜ Both (now larger) (now entries) capacity «small_used» «large_used» small large ⌝ }
+    ensures { λ r. ⌜ after r (now (list .exit))
+        ≡ scannedTwo (now (entries .entry)) (now (list .entry)) capacity head (now (larger .entry)) «small_used» «large_used»
+        small large cursor ⌝ }
 {
     let next = next_cursor(small, cursor);
-    let b = bucket_index(cursor, small);
-    let head = smaller[b];
     let length = count_group(
+        head,
         larger,
         entries,
         capacity,
@@ -82,14 +81,13 @@ fn scan_two(
         large_used,
         small,
         large,
-        head,
         cursor,
     );
     match length {
         ChainLength::Unsound => ScanAnswer::Refused(Error::Damaged),
         ChainLength::Sound(total) => {
             if total as usize * 2 <= list.len() {
-                write_group(larger, entries, list, small, large, head, cursor);
+                write_group(head, larger, entries, list, small, large, cursor);
                 ScanAnswer::Scanned(next, total)
             } else {
                 ScanAnswer::Short(total)
@@ -98,51 +96,125 @@ fn scan_two(
     }
 }
 
-// In a sound state that holds keys: during a rehash the smaller size comes first.
-fn scan_sound(
+// The smaller of the two tables comes first, whichever is the new one.
+fn scan_rehashing(
     current: &[u32],
     other: &[u32],
+    entries: &[u32],
+    list: &mut [u32],
+    capacity: u32,
+    old_used: u32,
+    new_used: u32,
+    old_size: u32,
+    new_size: u32,
+    cursor: u32,
+) -> ScanAnswer
+    requires { ⌜ Two (now current) (now other) (now entries) capacity «old_used» «new_used» «old_size» «new_size» ⌝ }
+    ensures { λ r. ⌜ after r (now (list .exit))
+        ≡ scannedBoth (now (entries .entry)) (now (list .entry)) capacity (now (current .entry)) (now (other .entry))
+        «old_used» «new_used» «old_size» «new_size» cursor ⌝ }
+{
+    if old_size < new_size {
+        let head = bucket_head(current, old_size, cursor);
+        scan_two(
+            head,
+            other,
+            entries,
+            list,
+            capacity,
+            old_used,
+            new_used,
+            old_size,
+            new_size,
+            cursor,
+        )
+    } else {
+        let head = bucket_head(other, new_size, cursor);
+        scan_two(
+            head,
+            current,
+            entries,
+            list,
+            capacity,
+            new_used,
+            old_used,
+            new_size,
+            old_size,
+            cursor,
+        )
+    }
+}
+
+// During a rehash both tables are live.
+fn scan_both_tables(
+    first: &[u32],
+    second: &[u32],
     entries: &[u32],
     list: &mut [u32],
     s: State,
     cursor: u32,
 ) -> ScanAnswer
-    requires { ⌜ Sound s (now current) (now other) (now entries) ⌝ }
-    ensures { λ r. ⌜ handed r (now (list .exit))
-        ≡ walk.handOut (now (entries .entry)) (now (list .entry)) (walk.group s cursor .answered)
-        (walk.groupEntries s (now (current .entry)) (now (other .entry)) (now (entries .entry)) (walk.group s cursor)) ⌝ }
+    requires { ⌜ Holding (length (now first)) (length (now second)) (length (now entries)) s true ⌝ }
+    ensures { λ r. ⌜ after r (now (list .exit))
+        ≡ walk.scan s (now (first .entry)) (now (second .entry)) (now (entries .entry)) (now (list .entry)) cursor ⌝ }
 {
-    if s.rehashing {
-        if s.old_size < s.new_size {
-            scan_two(
-                current,
-                other,
-                entries,
-                list,
-                s.capacity,
-                s.old_used,
-                s.new_used,
-                s.old_size,
-                s.new_size,
-                cursor,
-            )
-        } else {
-            scan_two(
-                other,
-                current,
-                entries,
-                list,
-                s.capacity,
-                s.new_used,
-                s.old_used,
-                s.new_size,
-                s.old_size,
-                cursor,
-            )
-        }
+    if s.second_is_current {
+        scan_rehashing(
+            second,
+            first,
+            entries,
+            list,
+            s.capacity,
+            s.old_used,
+            s.new_used,
+            s.old_size,
+            s.new_size,
+            cursor,
+        )
     } else {
+        scan_rehashing(
+            first,
+            second,
+            entries,
+            list,
+            s.capacity,
+            s.old_used,
+            s.new_used,
+            s.old_size,
+            s.new_size,
+            cursor,
+        )
+    }
+}
+
+// At any other time only the old one is.
+fn scan_only_table(
+    first: &[u32],
+    second: &[u32],
+    entries: &[u32],
+    list: &mut [u32],
+    s: State,
+    cursor: u32,
+) -> ScanAnswer
+    requires { ⌜ Holding (length (now first)) (length (now second)) (length (now entries)) s false ⌝ }
+    ensures { λ r. ⌜ after r (now (list .exit))
+        ≡ walk.scan s (now (first .entry)) (now (second .entry)) (now (entries .entry)) (now (list .entry)) cursor ⌝ }
+{
+    if s.second_is_current {
+        let head = bucket_head(second, s.old_size, cursor);
         scan_one(
-            current,
+            head,
+            entries,
+            list,
+            s.capacity,
+            s.old_used,
+            s.old_size,
+            cursor,
+        )
+    } else {
+        let head = bucket_head(first, s.old_size, cursor);
+        scan_one(
+            head,
             entries,
             list,
             s.capacity,
@@ -153,30 +225,7 @@ fn scan_sound(
     }
 }
 
-// On the current and the other buffer. With no keys held no chain is read.
-fn scan_in(
-    current: &[u32],
-    other: &[u32],
-    entries: &[u32],
-    list: &mut [u32],
-    s: State,
-    cursor: u32,
-) -> ScanAnswer
-    ensures { λ r. ⌜ handed r (now (list .exit))
-        ≡ walk.scanIn s (now (entries .entry)) (now (list .entry)) cursor (now (current .entry)) (now (other .entry)) ⌝ }
-{
-    if is_sound(current.len(), other.len(), entries.len(), s) {
-        if s.old_used + s.new_used == 0 {
-            ScanAnswer::Scanned(0, 0)
-        } else {
-            scan_sound(current, other, entries, list, s, cursor)
-        }
-    } else {
-        ScanAnswer::Refused(Error::BadState)
-    }
-}
-
-// The state's flag is read here, once: everything below knows the current and the other buffer.
+// With no keys held no chain is read.
 pub fn scan(
     first: &[u32],
     second: &[u32],
@@ -185,12 +234,18 @@ pub fn scan(
     s: State,
     cursor: u32,
 ) -> ScanAnswer
-    ensures { λ r. ⌜ handed r (now (list .exit))
+    ensures { λ r. ⌜ after r (now (list .exit))
         ≡ walk.scan s (now (first .entry)) (now (second .entry)) (now (entries .entry)) (now (list .entry)) cursor ⌝ }
 {
-    if s.second_is_current {
-        scan_in(second, first, entries, list, s, cursor)
+    if is_sound_lent(first.len(), second.len(), entries.len(), s) {
+        if s.old_used + s.new_used == 0 {
+            ScanAnswer::Scanned(0, 0)
+        } else if s.rehashing {
+            scan_both_tables(first, second, entries, list, s, cursor)
+        } else {
+            scan_only_table(first, second, entries, list, s, cursor)
+        }
     } else {
-        scan_in(first, second, entries, list, s, cursor)
+        ScanAnswer::Refused(Error::BadState)
     }
 }

@@ -3,17 +3,14 @@
 use Prim.Native.Nat.{ℕ, _≤_}
 use mathlib.Core.Path.{_≡_}
 use mathlib.Core.Bool.{Bool, true, _&&_}
-use mathlib.Core.List.{List}
-use lib.ListN.{length}
 use lib.Dec.{leb}
-use borrow.Author.Tests.{leb-true}
-use Rattle.model.proofs.Soundness.{two-hold}
+use Rattle.model.proofs.Tests.{told, tells-true, tells-and, tells-le}
 
-module _ (n : ℕ) (buffer : List ℕ) (rest : Bool) where
+module _ (n buffer : ℕ) (rest : Bool) where
   -- the first part of the test
-  pub fits-first : (leb n (length buffer) && rest) ≡ true → n ≤ length buffer
-  fits-first h = leb-true n (length buffer) (two-hold (leb n (length buffer)) rest h .0)
+  pub fits-first : (leb n buffer && rest) ≡ true → n ≤ buffer
+  fits-first h = told (tells-and (tells-le n buffer) (tells-true rest)) h .0
 
   -- the last part of it
-  pub fits-last : (rest && leb n (length buffer)) ≡ true → n ≤ length buffer
-  fits-last h = leb-true n (length buffer) (two-hold rest (leb n (length buffer)) h .1)
+  pub fits-last : (rest && leb n buffer) ≡ true → n ≤ buffer
+  fits-last h = told (tells-and (tells-true rest) (tells-le n buffer)) h .1

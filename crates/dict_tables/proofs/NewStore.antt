@@ -9,25 +9,25 @@ use lib.Dec.{leb}
 use Rattle.model.specs.declared.State.{State}
 use Rattle.model.specs.declared.Error.{Error}
 use Rattle.model.specs.declared.InitAnswer.{InitAnswer}
-use Rattle.model.specs.Limits.{largestCapacity, legalSize}
-use Rattle.model.specs.Calls.{After, cleared, freeEntries, noState, newState, withinLimits, longEnough, init}
+use Rattle.model.specs.Limits.{legalCapacity, legalSize}
+use Rattle.model.specs.Calls.{After, cleared, freeEntries, emptyState, noState, longEnough, init}
 
 module _ (first second entries : List ℕ) (capacity size : ℕ) (legal : Bool) (l : legal ≡ legalSize size) where
-  pub refused-limits : (t : State) → (leb 1 capacity && leb capacity largestCapacity && legal) ≡ false → t ≡ noState
+  pub refused-limits : (t : State) → (legalCapacity capacity && legal) ≡ false → t ≡ noState
       → After.after (InitAnswer.Refused Error.BadSize t) first second entries ≡ init first second entries capacity size
-  unfolding init withinLimits
+  unfolding init
   refused-limits t limits e = rw (e, ← l, limits)
 
-  module _ (limits : (leb 1 capacity && leb capacity largestCapacity && legal) ≡ true) where
+  module _ (limits : (legalCapacity capacity && legal) ≡ true) where
     pub refused-buffers : (t : State) → (leb size (length first) && leb (capacity * 3) (length entries)) ≡ false → t ≡ noState
         → After.after (InitAnswer.Refused Error.BadState t) first second entries ≡ init first second entries capacity size
-    unfolding init withinLimits longEnough
+    unfolding init longEnough
     refused-buffers t long e = rw (e, ← l, limits, long)
 
     pub made-ready : (t : State) (first′ entries′ : List ℕ)
         → (leb size (length first) && leb (capacity * 3) (length entries)) ≡ true
         → first′ ≡ cleared size first → entries′ ≡ freeEntries 1 capacity ++ drop (capacity * 3) entries
-        → t ≡ newState capacity size
+        → t ≡ emptyState size 1 capacity
         → After.after (InitAnswer.Ready t) first′ second entries′ ≡ init first second entries capacity size
-    unfolding init withinLimits longEnough
+    unfolding init longEnough
     made-ready t first′ entries′ long f n e = rw (f, n, e, ← l, limits, long)

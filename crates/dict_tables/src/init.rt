@@ -1,7 +1,7 @@
-// A new store (paper 01: start).
+// A new store (SPECIFICATION, "Start").
 use crate::clear::clear;
-use lookup::entry::set_entry;
-use lookup::state::is_legal_size;
+use memory::entry::set_entry;
+use memory::state::is_legal_size;
 use model::Error;
 use model::InitAnswer;
 use model::LARGEST_CAPACITY;
@@ -28,26 +28,9 @@ fn link_free(entries: &mut [u32], capacity: u32)
     }
 }
 
-// The state of zeros: what a refused start hands back, and what the program holds before a good start.
-pub fn no_state() -> State
-    ensures { λ r. ⌜ r ≡ calls.noState ⌝ }
-{
-    State {
-        second_is_current: false,
-        old_size: 0,
-        new_size: 0,
-        old_used: 0,
-        new_used: 0,
-        rehashing: false,
-        rehash_index: 0,
-        free_head: 0,
-        capacity: 0,
-    }
-}
-
-// The state of a store with every entry free.
-fn new_state(capacity: u32, size: u32) -> State
-    ensures { λ r. ⌜ r ≡ calls.newState capacity size ⌝ }
+// The state of one table with no keys.
+fn empty_state(size: u32, free_head: u32, capacity: u32) -> State
+    ensures { λ r. ⌜ r ≡ calls.emptyState size «free_head» capacity ⌝ }
 {
     State {
         second_is_current: false,
@@ -57,9 +40,16 @@ fn new_state(capacity: u32, size: u32) -> State
         new_used: 0,
         rehashing: false,
         rehash_index: 0,
-        free_head: 1,
+        free_head,
         capacity,
     }
+}
+
+// The state of zeros: what a refused start hands back, and what the program holds before a good start.
+pub fn no_state() -> State
+    ensures { λ r. ⌜ r ≡ calls.noState ⌝ }
+{
+    empty_state(0, 0, 0)
 }
 
 pub fn init(
@@ -78,7 +68,7 @@ pub fn init(
         if long_enough {
             clear(first, size);
             link_free(entries, capacity);
-            InitAnswer::Ready(new_state(capacity, size))
+            InitAnswer::Ready(empty_state(size, 1, capacity))
         } else {
             InitAnswer::Refused(Error::BadState, no_state())
         }

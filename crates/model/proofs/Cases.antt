@@ -7,15 +7,14 @@ use mathlib.Core.Bool.{Bool, true, false, _&&_}
 use mathlib.Core.List.{List, [], _∷_}
 use native.Mathlib.Omega.{arith}
 use lib.Dec.{eqb, lit≤}
-use borrow.Author.Tests.{eqb-true}
 use Rattle.cursor.specs.Reverse.{rev, reverse}
 use Rattle.cursor.specs.Next.{next, setHigh, addOne}
 use Rattle.cursor.specs.Group.{Group, oneTable, twoTables, sweep, betweenZero}
 use Rattle.cursor.proofs.NextCursor.{next-lt}
 use Rattle.model.specs.Limits.{largestExponent}
-use Rattle.model.specs.Calls.{suggested, sizeFor, powerFrom}
-use Rattle.model.specs.Cases.{Row, Gives, Holds, AllHold, cases}
-use Rattle.model.proofs.Soundness.{two-hold, three-hold}
+use Rattle.model.specs.Calls.{suggested, powerFrom}
+use Rattle.model.specs.Cases.{Row, Gives, Walks, Holds, AllHold, cases}
+use Rattle.model.proofs.Tests.{Tells, told, tells-true, tells-same, tells-and, tells-eq}
 
 same : List ℕ → List ℕ → Bool
 same [] [] = true
@@ -23,30 +22,43 @@ same [] (y ∷ ys) = false
 same (x ∷ xs) [] = false
 same (x ∷ xs) (y ∷ ys) = eqb x y && same xs ys
 
-same-true : (xs ys : List ℕ) → same xs ys ≡ true → xs ≡ ys
+tells-list : (xs ys : List ℕ) → Tells (xs ≡ ys) (same xs ys)
 unfolding same
-same-true [] [] h = refl
-same-true [] (y ∷ ys) h = cc
-same-true (x ∷ xs) [] h = cc
-same-true (x ∷ xs) (y ∷ ys) h =
-    let each = two-hold (eqb x y) (same xs ys) h in ap₂ _∷_ (eqb-true x y (each .0)) (same-true xs ys (each .1))
+tells-list [] [] = Tells.holds refl
+tells-list [] (y ∷ ys) = Tells.fails (λ e. let z : _≡_ {A = ℕ} 0 1 = cc in omega arith)
+tells-list (x ∷ xs) [] = Tells.fails (λ e. let z : _≡_ {A = ℕ} 0 1 = cc in omega arith)
+tells-list (x ∷ xs) (y ∷ ys) =
+    tells-same (λ h. ap₂ _∷_ (h .0) (h .1)) (λ e. (cc, cc)) (tells-and (tells-eq x y) (tells-list xs ys))
 
 -- the test of a row
 gives : Group → ℕ → List ℕ → ℕ → Bool
 gives g bucket buckets next = eqb (g .small) bucket && same (g .large) buckets && eqb (g .answered) next
 
+tells-gives : (g : Group) (bucket : ℕ) (buckets : List ℕ) (next : ℕ)
+    → Tells (Gives g bucket buckets next) (gives g bucket buckets next)
+unfolding gives Gives
+tells-gives g bucket buckets next =
+    tells-same (λ h. (h .0 .0, h .0 .1, h .1)) (λ h. ((h .0, h .1), h .2))
+    (tells-and (tells-and (tells-eq (g .small) bucket) (tells-list (g .large) buckets)) (tells-eq (g .answered) next))
+
+walks : ℕ → List ℕ → Bool
+walks size [] = true
+walks size (cursor ∷ []) = true
+walks size (cursor ∷ next ∷ rest) = gives (oneTable size cursor) cursor [] next && walks size (next ∷ rest)
+
+tells-walks : (size : ℕ) (cursors : List ℕ) → Tells (Walks size cursors) (walks size cursors)
+unfolding walks Walks
+tells-walks size [] = Tells.holds tt
+tells-walks size (cursor ∷ []) = Tells.holds tt
+tells-walks size (cursor ∷ next ∷ rest) =
+    tells-and (tells-gives (oneTable size cursor) cursor [] next) (tells-walks size (next ∷ rest))
+
 test : Row → Bool
 test (Row.at-one size cursor bucket next) = gives (oneTable size cursor) bucket [] next
 test (Row.at-two small large cursor bucket buckets next) = gives (twoTables small large cursor) bucket buckets next
+test (Row.walk size cursors) = walks size cursors
 test (Row.at-any size next) = eqb size 1 && eqb next 0
 test (Row.suggests growing keys size) = eqb (suggested growing keys) size
-
-gives-true : (g : Group) (bucket : ℕ) (buckets : List ℕ) (next : ℕ) → gives g bucket buckets next ≡ true
-    → Gives g bucket buckets next
-unfolding gives Gives
-gives-true g bucket buckets next h =
-    let each = three-hold (eqb (g .small) bucket) (same (g .large) buckets) (eqb (g .answered) next) h in
-    (eqb-true (g .small) bucket (each .0), same-true (g .large) buckets (each .1), eqb-true (g .answered) next (each .2))
 
 -- one bucket: whatever the cursor, the walk ends
 one-bucket : (cursor : ℕ) → oneTable 1 cursor .answered ≡ 0
@@ -55,15 +67,15 @@ one-bucket cursor = omega (arith, next-lt 0 cursor (lit≤ tt))
 
 row-true : (row : Row) → test row ≡ true → Holds row
 unfolding test Holds
-row-true (Row.at-one size cursor bucket next) h = gives-true (oneTable size cursor) bucket [] next h
+row-true (Row.at-one size cursor bucket next) h = told (tells-gives (oneTable size cursor) bucket [] next) h
 row-true (Row.at-two small large cursor bucket buckets next) h =
-    gives-true (twoTables small large cursor) bucket buckets next h
+    told (tells-gives (twoTables small large cursor) bucket buckets next) h
+row-true (Row.walk size cursors) h = told (tells-walks size cursors) h
 row-true (Row.at-any size next) h =
-    let each = two-hold (eqb size 1) (eqb next 0) h in
+    let each = told (tells-and (tells-eq size 1) (tells-eq next 0)) h in
     λ cursor.
-    subst (λ (n : ℕ). oneTable n cursor .answered ≡ next) (sym (eqb-true size 1 (each .0)))
-    (one-bucket cursor ∙ sym (eqb-true next 0 (each .1)))
-row-true (Row.suggests growing keys size) h = eqb-true (suggested growing keys) size h
+    subst (λ (n : ℕ). oneTable n cursor .answered ≡ next) (sym (each .0)) (one-bucket cursor ∙ sym (each .1))
+row-true (Row.suggests growing keys size) h = told (tells-eq (suggested growing keys) size) h
 
 testAll : List Row → Bool
 testAll [] = true
@@ -73,10 +85,11 @@ all-true : (rows : List Row) → testAll rows ≡ true → AllHold rows
 unfolding testAll AllHold
 all-true [] h = tt
 all-true (row ∷ rows) h =
-    let each = two-hold (test row) (testAll rows) h in (row-true row (each .0), all-true rows (each .1))
+    let each = told (tells-and (tells-true (test row)) (tells-true (testAll rows))) h in
+    (row-true row (each .0), all-true rows (each .1))
 
 computed : testAll cases ≡ true
-unfolding testAll test gives same cases oneTable twoTables sweep betweenZero next setHigh addOne rev reverse suggested sizeFor powerFrom largestExponent
+unfolding testAll test gives walks same cases oneTable twoTables sweep betweenZero next setHigh addOne rev reverse suggested powerFrom largestExponent
 computed = refl
 
 pub cases-hold : AllHold cases

@@ -1,4 +1,5 @@
 -- Laws about the definitions of specs/.
+pub mod Tests
 pub mod Power
 pub mod Fields
 pub mod Chains
@@ -6,3 +7,5 @@ pub mod Linked
 pub mod Soundness
 pub mod Cases
 pub mod Lookups
+pub mod Pairs
+pub mod Suggested

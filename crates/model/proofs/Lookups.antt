@@ -10,29 +10,25 @@ use lib.ListN.{length}
 use lib.Dec.{leb, eqb}
 use borrow.Author.Tests.{leb-true}
 use Rattle.model.specs.declared.State.{State}
+use Rattle.model.specs.declared.Table.{Table}
 use Rattle.model.specs.declared.Lookup.{Lookup}
-use Rattle.model.specs.Memory.{linkOf, keyOf, met, chain, bucketChain}
-use Rattle.model.specs.Calls.{firstWith, searched, both, lookupIn, lookup}
+use Rattle.model.specs.Memory.{linkOf, keyOf, usedOf, met, chain, headAt, budgetAt, chainAt, keyPlace}
+use Rattle.model.specs.Calls.{firstWith, searched, both, lookupIn, lookupWhile, lookup}
 use Rattle.model.proofs.Soundness.{Sound}
 
--- the keys held in the new or the old table
-unfoldable pub usedIn : State → Bool → ℕ
-usedIn s true = s .«new_used»
-usedIn s false = s .«old_used»
-
 -- an entry that a lookup found, and the one before it
-pub record Located (s : State) (inNew : Bool) (before n : ℕ) : Type 0 where
+pub record Located (s : State) (t : Table) (before n : ℕ) : Type 0 where
   pub before-fits : before ≤ s .capacity
   pub entry-some : 0 < n
   pub entry-fits : n ≤ s .capacity
-  pub used-some : 0 < usedIn s inNew
-  pub rehashing-new : inNew ≡ true → s .rehashing ≡ true
+  pub used-some : 0 < usedOf s t
+  pub rehashing-new : t ≡ Table.New → s .rehashing ≡ true
 
 -- nothing is said where a lookup found no entry
 Found : State → Lookup → Type 0
 Found s Lookup.Damaged = Unit {0}
 Found s Lookup.Absent = Unit {0}
-Found s (Lookup.At inNew before n) = Located s inNew before n
+Found s (Lookup.At t before n) = Located s t before n
 
 -- the entries of a chain are in range, and one that has entries had a budget
 InRange : ℕ → ℕ → List ℕ → Type 0
@@ -68,48 +64,50 @@ found-both : (s : State) (old new : Lookup) → Found s old → Found s new → 
 unfolding Found both
 found-both s Lookup.Damaged new o h = tt
 found-both s Lookup.Absent new o h = h
-found-both s (Lookup.At inNew before n) Lookup.Damaged o h = tt
-found-both s (Lookup.At inNew before n) Lookup.Absent o h = o
-found-both s (Lookup.At inNew before n) (Lookup.At inNew′ before′ n′) o h = o
+found-both s (Lookup.At t before n) Lookup.Damaged o h = tt
+found-both s (Lookup.At t before n) Lookup.Absent o h = o
+found-both s (Lookup.At t before n) (Lookup.At t′ before′ n′) o h = o
 
 found-cond : (s : State) (t : Bool) (a b : Lookup) → (t ≡ true → Found s a) → Found s b → Found s (cond t a b)
 found-cond s true a b f g = f refl
 found-cond s false a b f g = g
 
 -- in one table
-module _ (s : State) (entries : List ℕ) (key : ℕ) (inNew : Bool) (live : inNew ≡ true → s .rehashing ≡ true) where
-  found-first : (before : ℕ) (ns : List ℕ) → before ≤ s .capacity → InRange (s .capacity) (usedIn s inNew) ns
-      → Found s (firstWith entries key inNew before ns)
+module _ (s : State) (entries : List ℕ) (key : ℕ) (t : Table) (live : t ≡ Table.New → s .rehashing ≡ true) where
+  found-first : (before : ℕ) (ns : List ℕ) → before ≤ s .capacity → InRange (s .capacity) (usedOf s t) ns
+      → Found s (firstWith entries key t before ns)
   unfolding Found InRange firstWith
   found-first before [] b h = tt
   found-first before (n ∷ ns) b h =
-      found-cond s (eqb (keyOf entries n) key) (Lookup.At inNew before n) (firstWith entries key inNew n ns)
+      found-cond s (eqb (keyOf entries n) key) (Lookup.At t before n) (firstWith entries key t n ns)
       (λ e. record { before-fits = b; entry-some = h .1; entry-fits = h .2; used-some = h .0; rehashing-new = live })
       (found-first n ns (h .2) (h .3))
 
-  found-searched : (o : Option (List ℕ)) → InRangeIf (s .capacity) (usedIn s inNew) o
-      → Found s (searched entries key inNew 0 o)
+  found-searched : (o : Option (List ℕ)) → InRangeIf (s .capacity) (usedOf s t) o
+      → Found s (searched entries key t 0 o)
   unfolding Found InRangeIf searched
   found-searched none h = tt
   found-searched (some ns) h = found-first 0 ns (omega arith) h
 
-  found-in : (buckets : List ℕ) (size : ℕ)
-      → Found s (lookupIn inNew entries (s .capacity) (usedIn s inNew) buckets size key)
-  unfolding lookupIn bucketChain
-  found-in buckets size = found-searched _ (chain-in-range entries (s .capacity) (usedIn s inNew) _)
+  found-in : (current other : List ℕ) → Found s (lookupIn s current other entries key t)
+  unfolding lookupIn chainAt keyPlace budgetAt
+  found-in current other = found-searched _ (chain-in-range entries (s .capacity) (usedOf s t) _)
 
 module _ (s : State) (current other entries : List ℕ) (key : ℕ) where
-  found-lookup : Found s (lookup s current other entries key)
-  unfolding lookup usedIn
-  found-lookup =
-      let old = found-in s entries key false (λ e. (cc)) current (s .«old_size») in
-      found-cond s (s .rehashing) _ _
-      (λ t. found-both s _ _ old (found-in s entries key true (λ e. t) other (s .«new_size»)))
-      old
+  found-while : (t : Bool) → s .rehashing ≡ t → Found s (lookupWhile t s current other entries key)
+  unfolding lookupWhile
+  found-while false e = found-in s entries key Table.Old (λ e. let z : _≡_ {A = ℕ} 0 1 = cc in absurd (omega arith)) current other
+  found-while true e =
+      found-both s _ _
+      (found-in s entries key Table.Old (λ e. let z : _≡_ {A = ℕ} 0 1 = cc in absurd (omega arith)) current other)
+      (found-in s entries key Table.New (λ f. e) current other)
 
-  module _ (r : Lookup) (inNew : Bool) (before n : ℕ) (e : r ≡ lookup s current other entries key)
-      (a : r ≡ Lookup.At inNew before n) where
-    pub located : Located s inNew before n
+  found-lookup : Found s (lookup s current other entries key)
+  unfolding lookup
+  found-lookup = found-while (s .rehashing) refl
+
+  module _ (r : Lookup) (t : Table) (before n : ℕ) (e : r ≡ lookup s current other entries key) (a : r ≡ Lookup.At t before n) where
+    pub located : Located s t before n
     unfolding Found
     located = subst (Found s) (sym e ∙ a) found-lookup
 
@@ -117,5 +115,5 @@ module _ (s : State) (current other entries : List ℕ) (key : ℕ) where
     pub found-some : 0 < n
     found-some = located .entry-some
 
-    pub found-fits : Sound s current other entries → n * 3 ≤ length entries
-    found-fits h = let l = located in let b = h .base in omega arith
+    pub found-fits : Sound s (length current) (length other) (length entries) → n * 3 ≤ length entries
+    found-fits h = let l = located in omega arith

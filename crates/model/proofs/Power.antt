@@ -12,6 +12,7 @@ use lib.Bits.{bitAnd, and-step, and-self, and-mask}
 use lib.Dec.{eqb, leb}
 use lib.Pow.{pow-pos, pow-mono}
 use borrow.Author.Tests.{eqb-true, eqb-false, eq-eqb, ne-eqb, leb-true, le-leb}
+use Rattle.cursor.proofs.HighBits.{exponent-le}
 use Rattle.model.specs.Limits.{powerUpTo}
 
 -- ---- exponents
@@ -23,11 +24,6 @@ exponent-lt {n} {m} b c p q h = pick (decLt b c)
     pick : Dec (b < c) → b < c
     pick (yes l) = l
     pick (no f) = let l : c ≤ b = omega arith in omega (arith, pow-mono l)
-
--- the same with equality allowed, for bounds such as n ≤ 2 ^ e
-pub exponent-le : (b c : ℕ) → 2 ^ b ≤ 2 ^ c → b ≤ c
-exponent-le b c h =
-    let l : 2 ^ b < 2 ^ suc c = omega (arith, pow-suc 2 c, pow-pos c) in omega (arith, exponent-lt b (suc c) refl refl l)
 
 -- equal powers have equal exponents
 pub exponent-unique : (b c : ℕ) → 2 ^ b ≡ 2 ^ c → b ≡ c

@@ -1,167 +1,179 @@
--- What a sound state tells, fact by fact.
+-- What a sound state tells, fact by fact, and that these facts make it sound.
 -- Assumes nothing.
 use Prim.Native.Nat.{ℕ, _+_, _*_, _≤_, _<_}
-use mathlib.Core.Path.{_≡_, refl, sym, ap, subst, _∙_}
+use mathlib.Core.Path.{_≡_, refl, sym, ap, _∙_}
 use mathlib.Core.Bool.{Bool, true, false, _&&_, not}
 use mathlib.Core.List.{List}
 use lib.ListN.{length}
 use lib.Dec.{leb, eqb}
-use borrow.Author.Tests.{leb-true, eqb-true, eqb-false, not-true}
 use Rattle.model.specs.declared.State.{State}
-use Rattle.model.specs.Limits.{largestCapacity, legalSize}
-use Rattle.model.specs.Memory.{soundCapacity, soundTable, soundMove, soundBase, soundState}
+use Rattle.model.specs.declared.Table.{Table}
+use Rattle.model.specs.Limits.{largestCapacity, legalCapacity, legalSize}
+use Rattle.model.specs.Memory.{sizeOf, keysHeld, bucketsOf, soundCapacity, soundTable, soundRehash, soundBase, soundState}
 use Rattle.model.specs.Calls.{sound}
+use Rattle.model.proofs.Tests.{Tells, told, tested, tells-true, tells-same, tells-and, tells-not, tells-le, tells-eq, true-not-false}
 
--- the parts of a test that holds
-pub two-hold : (a b : Bool) → (a && b) ≡ true → (a ≡ true) × (b ≡ true)
-two-hold true b h = (refl, h)
-two-hold false b h = (h, cc)
+-- with no rehash under way
+pub record Resting (s : State) : Type 0 where
+  pub no-size : s .«new_size» ≡ 0
+  pub no-keys : s .«new_used» ≡ 0
+  pub no-index : s .«rehash_index» ≡ 0
 
-pub three-hold : (a b c : Bool) → (a && b && c) ≡ true → (a ≡ true) × (b ≡ true) × (c ≡ true)
-three-hold a b c h =
-    let ab = two-hold (a && b) c h in
-    let each = two-hold a b (ab .0) in
-    (each .0, each .1, ab .1)
+pub record Rehashing (s : State) (other : ℕ) : Type 0 where
+  pub new-legal : legalSize (s .«new_size») ≡ true
+  pub new-fits : s .«new_size» ≤ other
+  pub sizes-differ : s .«old_size» ≡ s .«new_size» → ⊥
+  pub index-fits : s .«rehash_index» ≤ s .«old_size»
 
--- what holds of a sound state whether or not a rehash is under way
-pub record SoundBase (s : State) (current entries : ℕ) : Type 0 where
-  pub some-entries : 0 < s .capacity
+-- Beside buffers of these lengths. It is also what the functions below the calls require.
+pub record Sound (s : State) (current other entries : ℕ) : Type 0 where
+  pub some-entries : 1 ≤ s .capacity
   pub capacity-limit : s .capacity ≤ largestCapacity
   pub entries-fit : s .capacity * 3 ≤ entries
   pub old-legal : legalSize (s .«old_size») ≡ true
   pub old-fits : s .«old_size» ≤ current
   pub used-fits : s .«old_used» + s .«new_used» ≤ s .capacity
   pub free-fits : s .«free_head» ≤ s .capacity
+  pub resting : s .rehashing ≡ false → Resting s
+  pub rehashing : s .rehashing ≡ true → Rehashing s other
 
-pub record SoundMove (s : State) (other : ℕ) : Type 0 where
-  pub new-legal : legalSize (s .«new_size») ≡ true
-  pub new-fits : s .«new_size» ≤ other
-  pub sizes-differ : s .«old_size» ≡ s .«new_size» → ⊥
-  pub index-fits : s .«rehash_index» ≤ s .«old_size»
+-- The parts of the test.
 
-pub record SoundStill (s : State) : Type 0 where
-  pub no-new : s .«new_size» ≡ 0
-  pub no-new-used : s .«new_used» ≡ 0
-  pub no-index : s .«rehash_index» ≡ 0
+pub tells-legal : (capacity : ℕ) → Tells ((1 ≤ capacity) × (capacity ≤ largestCapacity)) (legalCapacity capacity)
+unfolding legalCapacity
+tells-legal capacity = tells-and (tells-le 1 capacity) (tells-le capacity largestCapacity)
 
-pub capacity-sound : (entries capacity : ℕ) → soundCapacity entries capacity ≡ true
-    → (1 ≤ capacity) × (capacity ≤ largestCapacity) × (capacity * 3 ≤ entries)
+pub tells-capacity : (entries capacity : ℕ)
+    → Tells ((1 ≤ capacity) × (capacity ≤ largestCapacity) × (capacity * 3 ≤ entries)) (soundCapacity entries capacity)
 unfolding soundCapacity
-capacity-sound entries capacity h =
-    let each = three-hold (leb 1 capacity) (leb capacity largestCapacity) (leb (capacity * 3) entries) h in
-    (leb-true 1 capacity (each .0), leb-true capacity largestCapacity (each .1), leb-true (capacity * 3) entries (each .2))
+tells-capacity entries capacity =
+    tells-same (λ h. (h .0 .0, h .0 .1, h .1)) (λ h. ((h .0, h .1), h .2))
+    (tells-and (tells-legal capacity) (tells-le (capacity * 3) entries))
 
-pub table-sound : (buffer size : ℕ) → soundTable buffer size ≡ true → (legalSize size ≡ true) × (size ≤ buffer)
+pub tells-table : (buffer size : ℕ) → Tells ((legalSize size ≡ true) × (size ≤ buffer)) (soundTable buffer size)
 unfolding soundTable
-table-sound buffer size h =
-    let each = two-hold (legalSize size) (leb size buffer) h in (each .0, leb-true size buffer (each .1))
+tells-table buffer size = tells-and (tells-true (legalSize size)) (tells-le size buffer)
 
-base-sound : (current entries : ℕ) (s : State) → soundBase current entries s ≡ true → SoundBase s current entries
-unfolding soundBase
-base-sound current entries s h =
-    let used = leb (s .«old_used» + s .«new_used») (s .capacity) in
-    let tables = soundCapacity entries (s .capacity) && soundTable current (s .«old_size») in
-    let each = three-hold tables used (leb (s .«free_head») (s .capacity)) h in
-    let both = two-hold (soundCapacity entries (s .capacity)) (soundTable current (s .«old_size»)) (each .0) in
-    let cap = capacity-sound entries (s .capacity) (both .0) in
-    let old = table-sound current (s .«old_size») (both .1) in
-    record {
-      some-entries = cap .0;
-      capacity-limit = cap .1;
-      entries-fit = cap .2;
-      old-legal = old .0;
-      old-fits = old .1;
-      used-fits = leb-true (s .«old_used» + s .«new_used») (s .capacity) (each .1);
-      free-fits = leb-true (s .«free_head») (s .capacity) (each .2);
-    }
+module _ (s : State) where
+  tells-base : (current entries : ℕ)
+      → Tells
+      ((((1 ≤ s .capacity) × (s .capacity ≤ largestCapacity) × (s .capacity * 3 ≤ entries))
+      × ((legalSize (s .«old_size») ≡ true) × (s .«old_size» ≤ current)))
+      × (s .«old_used» + s .«new_used» ≤ s .capacity)
+      × (s .«free_head» ≤ s .capacity))
+      (soundBase current entries s)
+  unfolding soundBase keysHeld
+  tells-base current entries =
+      tells-same (λ h. (h .0 .0, h .0 .1, h .1)) (λ h. ((h .0, h .1), h .2))
+      (tells-and
+      (tells-and (tells-and (tells-capacity entries (s .capacity)) (tells-table current (s .«old_size»)))
+      (tells-le (s .«old_used» + s .«new_used») (s .capacity)))
+      (tells-le (s .«free_head») (s .capacity)))
 
-move-sound : (other : ℕ) (s : State) → soundMove other s true ≡ true → SoundMove s other
-unfolding soundMove
-move-sound other s h =
-    let differ = eqb (s .«old_size») (s .«new_size») in
-    let each = three-hold (soundTable other (s .«new_size»)) (not differ) (leb (s .«rehash_index») (s .«old_size»)) h in
-    let new = table-sound other (s .«new_size») (each .0) in
-    record {
-      new-legal = new .0;
-      new-fits = new .1;
-      sizes-differ = eqb-false (s .«old_size») (s .«new_size») (not-true differ (each .1));
-      index-fits = leb-true (s .«rehash_index») (s .«old_size») (each .2);
-    }
+  tells-rehashing : (other : ℕ) → Tells (Rehashing s other) (soundRehash other s true)
+  unfolding soundRehash
+  tells-rehashing other =
+      tells-same
+      (λ h. record { new-legal = h .0 .0 .0; new-fits = h .0 .0 .1; sizes-differ = h .0 .1; index-fits = h .1 })
+      (λ h. (((h .new-legal, h .new-fits), h .sizes-differ), h .index-fits))
+      (tells-and
+      (tells-and (tells-table other (s .«new_size»)) (tells-not (tells-eq (s .«old_size») (s .«new_size»))))
+      (tells-le (s .«rehash_index») (s .«old_size»)))
 
-still-sound : (other : ℕ) (s : State) → soundMove other s false ≡ true → SoundStill s
-unfolding soundMove
-still-sound other s h =
-    let each = three-hold (eqb (s .«new_size») 0) (eqb (s .«new_used») 0) (eqb (s .«rehash_index») 0) h in
-    record {
-      no-new = eqb-true (s .«new_size») 0 (each .0);
-      no-new-used = eqb-true (s .«new_used») 0 (each .1);
-      no-index = eqb-true (s .«rehash_index») 0 (each .2);
-    }
+  tells-resting : (other : ℕ) → Tells (Resting s) (soundRehash other s false)
+  unfolding soundRehash
+  tells-resting other =
+      tells-same (λ h. record { no-size = h .0 .0; no-keys = h .0 .1; no-index = h .1 })
+      (λ h. ((h .no-size, h .no-keys), h .no-index))
+      (tells-and (tells-and (tells-eq (s .«new_size») 0) (tells-eq (s .«new_used») 0)) (tells-eq (s .«rehash_index») 0))
 
--- what the functions below the calls require: what the state and the lent buffers are known to be
-pub record Sound (s : State) (current other entries : List ℕ) : Type 0 where
-  pub base : SoundBase s (length current) (length entries)
-  pub move : s .rehashing ≡ true → SoundMove s (length other)
-  pub still : s .rehashing ≡ false → SoundStill s
+  tells-flag : (other : ℕ) (t : Bool) → s .rehashing ≡ t
+      → Tells ((s .rehashing ≡ false → Resting s) × (s .rehashing ≡ true → Rehashing s other)) (soundRehash other s t)
+  tells-flag other true e =
+      tells-same (λ h. (λ f. absurd (true-not-false (sym e ∙ f)), λ f. h)) (λ h. h .1 e) (tells-rehashing other)
+  tells-flag other false e =
+      tells-same (λ h. (λ f. h, λ f. absurd (true-not-false (sym f ∙ e)))) (λ h. h .0 e) (tells-resting other)
 
-module _ (s : State) (current other entries : List ℕ) (h : sound s current other entries ≡ true) where
-  parts : (soundBase (length current) (length entries) s ≡ true) × (soundMove (length other) s (s .rehashing) ≡ true)
-  unfolding sound soundState
-  parts = two-hold (soundBase (length current) (length entries) s) (soundMove (length other) s (s .rehashing)) h
-
-  pub sound-facts : Sound s current other entries
-  sound-facts =
+  -- the whole test
+  pub tells-sound : (current other entries : ℕ) → Tells (Sound s current other entries) (soundState current other entries s)
+  unfolding soundState
+  tells-sound current other entries =
+      tells-same
+      (λ h.
       record {
-        base = base-sound (length current) (length entries) s (parts .0);
-        move =
-            λ e. move-sound (length other) s (subst (λ (t : Bool). soundMove (length other) s t ≡ true) e (parts .1));
-        still =
-            λ e. still-sound (length other) s (subst (λ (t : Bool). soundMove (length other) s t ≡ true) e (parts .1));
-      }
+        some-entries = h .0 .0 .0 .0;
+        capacity-limit = h .0 .0 .0 .1;
+        entries-fit = h .0 .0 .0 .2;
+        old-legal = h .0 .0 .1 .0;
+        old-fits = h .0 .0 .1 .1;
+        used-fits = h .0 .1;
+        free-fits = h .0 .2;
+        resting = h .1 .0;
+        rehashing = h .1 .1;
+      })
+      (λ h. (
+        (
+          ((h .some-entries, h .capacity-limit, h .entries-fit), (h .old-legal, h .old-fits)),
+          h .used-fits,
+          h .free-fits,
+        ),
+        (h .resting, h .rehashing),
+      ))
+      (tells-and (tells-base current entries) (tells-flag other (s .rehashing) refl))
 
--- the same from the code's test
-pub tested-sound : (s : State) (current other entries : List ℕ) (r : Bool)
-    → r ≡ soundState (length current) (length other) (length entries) s → r ≡ true → Sound s current other entries
-unfolding sound
-tested-sound s current other entries r e h = sound-facts s current other entries (sym e ∙ h)
+-- from the code's test
+pub tested-sound : (s : State) (current other entries : ℕ) (r : Bool) → r ≡ soundState current other entries s → r ≡ true
+    → Sound s current other entries
+tested-sound s current other entries r e h = told (tells-sound s current other entries) (sym e ∙ h)
+
+-- from the definitions' test, and to it
+
+module _ (s : State) (current other entries : List ℕ) where
+  pub sound-facts : sound s current other entries ≡ true → Sound s (length current) (length other) (length entries)
+  unfolding sound
+  sound-facts h = told (tells-sound s (length current) (length other) (length entries)) h
+
+  pub sound-test : Sound s (length current) (length other) (length entries) → sound s current other entries ≡ true
+  unfolding sound
+  sound-test h = tested (tells-sound s (length current) (length other) (length entries)) h
 
 -- the part of it that counts keys
 pub record Counted (s : State) : Type 0 where
   pub held-fit : s .«old_used» + s .«new_used» ≤ s .capacity
   pub capacity-limit : s .capacity ≤ largestCapacity
 
-pub tested-counts : (s : State) (current other entries : List ℕ) (r : Bool)
-    → r ≡ soundState (length current) (length other) (length entries) s → r ≡ true → Counted s
+pub tested-counts : (s : State) (current other entries : ℕ) (r : Bool) → r ≡ soundState current other entries s → r ≡ true
+    → Counted s
 tested-counts s current other entries r e h =
-    let base = tested-sound s current other entries r e h .base in
-    record { held-fit = base .used-fits; capacity-limit = base .capacity-limit }
+    let all = tested-sound s current other entries r e h in
+    record { held-fit = all .used-fits; capacity-limit = all .capacity-limit }
 
-module _ (s : State) (current other entries : List ℕ) (h : Sound s current other entries) where
-  -- what reading a table asks
-  pub old-table : (legalSize (s .«old_size») ≡ true) × (s .«old_size» ≤ length current) × (s .capacity * 3 ≤ length entries)
-  old-table = (h .base .old-legal, h .base .old-fits, h .base .entries-fit)
+-- what reading a table asks
+module _ (s : State) (current other entries : ℕ) (h : Sound s current other entries) where
+  pub old-table : (legalSize (s .«old_size») ≡ true) × (s .«old_size» ≤ current) × (s .capacity * 3 ≤ entries)
+  old-table = (h .old-legal, h .old-fits, h .entries-fit)
 
   pub new-table : s .rehashing ≡ true
-      → (legalSize (s .«new_size») ≡ true) × (s .«new_size» ≤ length other) × (s .capacity * 3 ≤ length entries)
-  new-table e = (h .move e .new-legal, h .move e .new-fits, h .base .entries-fit)
+      → (legalSize (s .«new_size») ≡ true) × (s .«new_size» ≤ other) × (s .capacity * 3 ≤ entries)
+  new-table e = (h .rehashing e .new-legal, h .rehashing e .new-fits, h .entries-fit)
 
 -- The code's test, once it knows whether a rehash is under way.
 
 sound-at : (current other entries : ℕ) (s : State) (t : Bool) → s .rehashing ≡ t
-    → (soundBase current entries s && soundMove other s t) ≡ soundState current other entries s
+    → (soundBase current entries s && soundRehash other s t) ≡ soundState current other entries s
 unfolding soundState
-sound-at current other entries s t e = ap (λ (f : Bool). soundBase current entries s && soundMove other s f) (sym e)
+sound-at current other entries s t e = ap (λ (f : Bool). soundBase current entries s && soundRehash other s f) (sym e)
 
 pub sound-rehashing : (current other entries : ℕ) (s : State) (base new : Bool) → s .rehashing ≡ true
     → base ≡ soundBase current entries s → new ≡ soundTable other (s .«new_size»)
     → (base && (new && not (eqb (s .«old_size») (s .«new_size»)) && leb (s .«rehash_index») (s .«old_size»)))
     ≡ soundState current other entries s
-unfolding soundMove
+unfolding soundRehash
 sound-rehashing current other entries s base new e b n = rw (b, n) (sound-at current other entries s true e)
 
 pub sound-resting : (current other entries : ℕ) (s : State) (base : Bool) → s .rehashing ≡ false
     → base ≡ soundBase current entries s
     → (base && (eqb (s .«new_size») 0 && eqb (s .«new_used») 0 && eqb (s .«rehash_index») 0))
     ≡ soundState current other entries s
-unfolding soundMove
+unfolding soundRehash
 sound-resting current other entries s base e b = rw b (sound-at current other entries s false e)

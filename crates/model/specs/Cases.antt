@@ -1,4 +1,4 @@
--- Paper 01, "Cases": those that are marked to be proved, as one table with one statement over it, `AllHold cases`.
+-- SPECIFICATION, "Cases": those that are marked to be proved, as one table with one statement over it, `AllHold cases`.
 use Prim.Native.Nat.{ℕ}
 use mathlib.Core.Path.{_≡_}
 use mathlib.Core.Bool.{Bool, true, false}
@@ -6,10 +6,11 @@ use mathlib.Core.List.{List, [], _∷_}
 use Rattle.cursor.specs.Group.{Group, oneTable, twoTables}
 use Rattle.model.specs.Calls.{suggested}
 
--- A walk's cursor at one live table, or at two; any cursor at one table; the suggested size for some keys.
+-- A walk's cursor at one live table, or at two; the cursors of a whole walk; any cursor; the suggested size for some keys.
 pub data Row : Type 0 where
   at-one : (size cursor bucket next : ℕ) → Row
   at-two : (small large cursor bucket : ℕ) (buckets : List ℕ) (next : ℕ) → Row
+  walk : (size : ℕ) (cursors : List ℕ) → Row
   at-any : (size next : ℕ) → Row
   suggests : (growing : Bool) (keys size : ℕ) → Row
 
@@ -17,9 +18,16 @@ pub data Row : Type 0 where
 unfoldable pub Gives : Group → ℕ → List ℕ → ℕ → Type 0
 Gives g bucket buckets next = (g .small ≡ bucket) × (g .large ≡ buckets) × (g .answered ≡ next)
 
+-- each cursor names its own bucket, and the one after it is answered
+unfoldable pub Walks : ℕ → List ℕ → Type 0
+Walks size [] = Unit {0}
+Walks size (cursor ∷ []) = Unit {0}
+Walks size (cursor ∷ next ∷ rest) = Gives (oneTable size cursor) cursor [] next × Walks size (next ∷ rest)
+
 unfoldable pub Holds : Row → Type 0
 Holds (Row.at-one size cursor bucket next) = Gives (oneTable size cursor) bucket [] next
 Holds (Row.at-two small large cursor bucket buckets next) = Gives (twoTables small large cursor) bucket buckets next
+Holds (Row.walk size cursors) = Walks size cursors
 Holds (Row.at-any size next) = (cursor : ℕ) → oneTable size cursor .answered ≡ next
 Holds (Row.suggests growing keys size) = suggested growing keys ≡ size
 
@@ -29,18 +37,8 @@ AllHold (row ∷ rows) = Holds row × AllHold rows
 
 unfoldable pub cases : List Row
 cases =
-    Row.at-one 4 0 0 2
-    ∷ Row.at-one 4 2 2 1
-    ∷ Row.at-one 4 1 1 3
-    ∷ Row.at-one 4 3 3 0
-    ∷ Row.at-one 8 0 0 4
-    ∷ Row.at-one 8 4 4 2
-    ∷ Row.at-one 8 2 2 6
-    ∷ Row.at-one 8 6 6 1
-    ∷ Row.at-one 8 1 1 5
-    ∷ Row.at-one 8 5 5 3
-    ∷ Row.at-one 8 3 3 7
-    ∷ Row.at-one 8 7 7 0
+    Row.walk 4 (0 ∷ 2 ∷ 1 ∷ 3 ∷ 0 ∷ [])
+    ∷ Row.walk 8 (0 ∷ 4 ∷ 2 ∷ 6 ∷ 1 ∷ 5 ∷ 3 ∷ 7 ∷ 0 ∷ [])
     ∷ Row.at-any 1 0
     ∷ Row.at-one 4 5 1 3
     ∷ Row.at-one 4 4294967295 3 0

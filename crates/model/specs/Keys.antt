@@ -1,4 +1,4 @@
--- Paper 01, "In and out".
+-- SPECIFICATION, "What it holds".
 use Prim.Native.Nat.{ℕ, _%_}
 
 -- the hash of a key is the key itself

@@ -1,4 +1,4 @@
--- What the store is and what each call means: one file for each heading of paper 01, in its order. Definitions only;
+-- What the store is and what each call means: a file for each part of SPECIFICATION. Definitions only;
 -- laws about them stand in proofs/.
 pub mod Keys
 pub mod Limits

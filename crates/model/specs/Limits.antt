@@ -1,7 +1,7 @@
--- The limits (paper 01, "The memory").
+-- SPECIFICATION, "Limits".
 use Prim.Native.Nat.{ℕ, zero, suc, _^_}
-use mathlib.Core.Bool.{Bool, _||_}
-use lib.Dec.{eqb}
+use mathlib.Core.Bool.{Bool, _&&_, _||_}
+use lib.Dec.{leb, eqb}
 
 -- the largest capacity
 unfoldable pub largestCapacity : ℕ
@@ -10,6 +10,9 @@ largestCapacity = 4096
 -- the largest table has 2 to this power buckets
 unfoldable pub largestExponent : ℕ
 largestExponent = 12
+
+unfoldable pub legalCapacity : ℕ → Bool
+legalCapacity n = leb 1 n && leb n largestCapacity
 
 -- whether n is a power of two, from 2^0 to 2^b
 unfoldable pub powerUpTo : ℕ → ℕ → Bool

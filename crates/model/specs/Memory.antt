@@ -1,4 +1,4 @@
--- Paper 01, "The memory": entries, a sound state, a sound chain, an undamaged store.
+-- SPECIFICATION, "The memory" and "Sound state, sound chain, undamaged store".
 use Prim.Native.Nat.{ℕ, zero, suc, _+_, _*_, _-_, _<_, _≤_}
 use mathlib.Core.Path.{_≡_}
 use mathlib.Core.Bool.{Bool, true, false, _&&_, not}
@@ -8,8 +8,9 @@ use lib.ListN.{length, getD, set}
 use lib.Dec.{leb, eqb}
 use Rattle.cursor.specs.Member.{In}
 use Rattle.model.specs.declared.State.{State}
+use Rattle.model.specs.declared.Table.{Table}
 use Rattle.model.specs.Keys.{bucketOf}
-use Rattle.model.specs.Limits.{largestCapacity, legalSize}
+use Rattle.model.specs.Limits.{legalCapacity, legalSize}
 
 -- Entries are numbered from 1, and 0 means none. An entry is three numbers: link, key, value.
 
@@ -40,32 +41,50 @@ setValue entries (suc n) value = set entries (n * 3 + 2) value
 unfoldable pub setEntry : List ℕ → ℕ → ℕ → ℕ → ℕ → List ℕ
 setEntry entries n link key value = setValue (setKey (setLink entries n link) n key) n value
 
+-- The live tables. The old one lies in the current bucket buffer, the new one in the other.
+
+unfoldable pub sizeOf : State → Table → ℕ
+sizeOf s Table.Old = s .«old_size»
+sizeOf s Table.New = s .«new_size»
+
+unfoldable pub usedOf : State → Table → ℕ
+usedOf s Table.Old = s .«old_used»
+usedOf s Table.New = s .«new_used»
+
+unfoldable pub bucketsOf : List ℕ → List ℕ → Table → List ℕ
+bucketsOf current other Table.Old = current
+bucketsOf current other Table.New = other
+
+-- keys held in both tables
+unfoldable pub keysHeld : State → ℕ
+keysHeld s = s .«old_used» + s .«new_used»
+
 -- A sound state. The lent buffers enter by their lengths: of the current bucket buffer, the other one, the entry buffer.
 
 -- the limit on the capacity, and an entry buffer long enough for it
 unfoldable pub soundCapacity : ℕ → ℕ → Bool
-soundCapacity entries capacity = leb 1 capacity && leb capacity largestCapacity && leb (capacity * 3) entries
+soundCapacity entries capacity = legalCapacity capacity && leb (capacity * 3) entries
 
 -- a table's size is legal, and its buffer long enough
 unfoldable pub soundTable : ℕ → ℕ → Bool
 soundTable buffer size = legalSize size && leb size buffer
 
--- the new table during a move, and none at any other time
-unfoldable pub soundMove : ℕ → State → Bool → Bool
-soundMove other s true =
+-- the new table during a rehash, and none at any other time
+unfoldable pub soundRehash : ℕ → State → Bool → Bool
+soundRehash other s true =
     soundTable other (s .«new_size») && not (eqb (s .«old_size») (s .«new_size»)) && leb (s .«rehash_index») (s .«old_size»)
-soundMove other s false = eqb (s .«new_size») 0 && eqb (s .«new_used») 0 && eqb (s .«rehash_index») 0
+soundRehash other s false = eqb (s .«new_size») 0 && eqb (s .«new_used») 0 && eqb (s .«rehash_index») 0
 
--- what is asked whether or not a move is under way
+-- what is asked whether or not a rehash is under way
 unfoldable pub soundBase : ℕ → ℕ → State → Bool
 soundBase current entries s =
     soundCapacity entries (s .capacity)
     && soundTable current (s .«old_size»)
-    && leb (s .«old_used» + s .«new_used») (s .capacity)
+    && leb (keysHeld s) (s .capacity)
     && leb (s .«free_head») (s .capacity)
 
 unfoldable pub soundState : ℕ → ℕ → ℕ → State → Bool
-soundState current other entries s = soundBase current entries s && soundMove other s (s .rehashing)
+soundState current other entries s = soundBase current entries s && soundRehash other s (s .rehashing)
 
 -- A chain as it is read from a head: its entries in order, or none where it is not sound. Each number met is tested
 -- before its entry is read, and at most the budget of entries may be met before 0.
@@ -81,30 +100,34 @@ chain entries capacity (suc budget) zero = some []
 chain entries capacity (suc budget) (suc n) =
     met (leb (suc n) capacity) (suc n) (chain entries capacity budget (linkOf entries (suc n)))
 
--- the chain of a bucket, in a table that holds that many keys
-unfoldable pub bucketChain : List ℕ → ℕ → ℕ → List ℕ → ℕ → Option (List ℕ)
-bucketChain entries capacity used buckets b = chain entries capacity used (getD buckets b 0)
-
--- An undamaged store. Its chains are those of every live bucket, by the table they are in, and the free list.
+-- The chains of a store: the free list's, and that of every live bucket.
 
 pub data Place : Type 0 where
   free : Place
-  old : ℕ → Place
-  new : ℕ → Place
+  bucket : Table → ℕ → Place
 
 unfoldable pub Live : State → Place → Type 0
 Live s Place.free = Unit {0}
-Live s (Place.old b) = b < s .«old_size»
-Live s (Place.new b) = b < s .«new_size»
+Live s (Place.bucket t b) = b < sizeOf s t
 
--- the chain as it is read there: a bucket's budget is the keys its table holds, the free list's the capacity less all keys
+-- the bucket that a key calls for
+unfoldable pub keyPlace : State → ℕ → Table → Place
+keyPlace s key t = Place.bucket t (bucketOf key (sizeOf s t))
+
+-- the first entry there
+unfoldable pub headAt : State → List ℕ → List ℕ → Place → ℕ
+headAt s current other Place.free = s .«free_head»
+headAt s current other (Place.bucket t b) = getD (bucketsOf current other t) b 0
+
+-- the most entries there: the keys that the table holds, or the capacity less all keys
+unfoldable pub budgetAt : State → Place → ℕ
+budgetAt s Place.free = s .capacity - keysHeld s
+budgetAt s (Place.bucket t b) = usedOf s t
+
 unfoldable pub chainAt : State → List ℕ → List ℕ → List ℕ → Place → Option (List ℕ)
-chainAt s current other entries Place.free =
-    chain entries (s .capacity) (s .capacity - (s .«old_used» + s .«new_used»)) (s .«free_head»)
-chainAt s current other entries (Place.old b) = bucketChain entries (s .capacity) (s .«old_used») current b
-chainAt s current other entries (Place.new b) = bucketChain entries (s .capacity) (s .«new_used») other b
+chainAt s current other entries p = chain entries (s .capacity) (budgetAt s p) (headAt s current other p)
 
--- the entries of a chain that is sound
+-- the entries of a chain that is sound, and none of one that is not
 unfoldable pub listed : Option (List ℕ) → List ℕ
 listed none = []
 listed (some ns) = ns
@@ -112,22 +135,12 @@ listed (some ns) = ns
 unfoldable pub entriesAt : State → List ℕ → List ℕ → List ℕ → Place → List ℕ
 entriesAt s current other entries p = listed (chainAt s current other entries p)
 
--- a bucket that the key of its entries calls for
-unfoldable pub Home : State → ℕ → Place → Type 0
-Home s key Place.free = Unit {0}
-Home s key (Place.old b) = bucketOf key (s .«old_size») ≡ b
-Home s key (Place.new b) = bucketOf key (s .«new_size») ≡ b
-
-unfoldable pub IsBucket : Place → Type 0
-IsBucket Place.free = ⊥
-IsBucket (Place.old b) = Unit {0}
-IsBucket (Place.new b) = Unit {0}
-
 -- f 0 + f 1 + .. + f (n - 1)
 unfoldable pub sum : (ℕ → ℕ) → ℕ → ℕ
 sum f zero = 0
 sum f (suc n) = sum f n + f n
 
+-- An undamaged store. The entries of bucket b of table t are those at `Place.bucket t b`.
 pub record Undamaged (s : State) (current other entries : List ℕ) : Type 0 where
   pub state-sound : soundState (length current) (length other) (length entries) s ≡ true
   pub chains-sound : (p : Place) → Live s p
@@ -135,10 +148,11 @@ pub record Undamaged (s : State) (current other entries : List ℕ) : Type 0 whe
   pub on-a-chain : (n : ℕ) → 0 < n → n ≤ s .capacity → (p : Place) × Live s p × In n (entriesAt s current other entries p)
   pub on-one-chain : (n : ℕ) (p q : Place) → Live s p → Live s q
       → In n (entriesAt s current other entries p) → In n (entriesAt s current other entries q) → p ≡ q
-  pub in-its-bucket : (n : ℕ) (p : Place) → Live s p → In n (entriesAt s current other entries p) → Home s (keyOf entries n) p
-  pub keys-distinct : (n m : ℕ) (p q : Place) → Live s p → Live s q → IsBucket p → IsBucket q
-      → In n (entriesAt s current other entries p) → In m (entriesAt s current other entries q)
+  pub in-its-bucket : (n : ℕ) (t : Table) (b : ℕ) → b < sizeOf s t
+      → In n (entriesAt s current other entries (Place.bucket t b)) → bucketOf (keyOf entries n) (sizeOf s t) ≡ b
+  pub keys-distinct : (n m : ℕ) (t u : Table) (a b : ℕ) → a < sizeOf s t → b < sizeOf s u
+      → In n (entriesAt s current other entries (Place.bucket t a)) → In m (entriesAt s current other entries (Place.bucket u b))
       → keyOf entries n ≡ keyOf entries m → n ≡ m
   pub passed-empty : (b : ℕ) → b < s .«rehash_index» → getD current b 0 ≡ 0
-  pub old-count : s .«old_used» ≡ sum (λ b. length (entriesAt s current other entries (Place.old b))) (s .«old_size»)
-  pub new-count : s .«new_used» ≡ sum (λ b. length (entriesAt s current other entries (Place.new b))) (s .«new_size»)
+  pub counts : (t : Table)
+      → usedOf s t ≡ sum (λ b. length (entriesAt s current other entries (Place.bucket t b))) (sizeOf s t)

@@ -6,7 +6,7 @@ pub const LARGEST_CAPACITY: u32 = 4096;
 // The most buckets that a table can have.
 pub const LARGEST_SIZE: u32 = 4096;
 
-// What the caller holds between calls (paper 01: the state), in the paper's order.
+// What the caller holds between calls (SPECIFICATION, "The memory"), in the order given there.
 pub struct State {
     // Which bucket buffer is the current one: the second, or else the first.
     pub second_is_current: bool,
@@ -17,7 +17,7 @@ pub struct State {
     // The keys held in each table.
     pub old_used: u32,
     pub new_used: u32,
-    // Whether a rehash (paper 01: a move) is under way, and the next bucket of the old table to move.
+    // Whether a rehash (the specification's move) is under way, and the next bucket of the old table to move.
     pub rehashing: bool,
     pub rehash_index: u32,
     // The first entry of the free list, 0 where there is none.
@@ -25,7 +25,7 @@ pub struct State {
     pub capacity: u32,
 }
 
-// Why a call refused (paper 01, "Answers"). A walk that is short of room says so in its own answer.
+// Why a call refused (SPECIFICATION, "Answers"). A walk that is short of room says so in its own answer.
 pub enum Error {
     BadState,
     Damaged,
@@ -37,6 +37,12 @@ pub enum Error {
     NotRehashing,
 }
 
+// The two live tables. The only one counts as the old one.
+pub enum Table {
+    Old,
+    New,
+}
+
 // Where a key is, after its chains were read.
 pub enum Lookup {
     // A chain is not sound.
@@ -45,7 +51,7 @@ pub enum Lookup {
     Absent,
     // The first entry with the key: in which table, and the entry before it on its chain, 0 at the head.
     At {
-        in_new: bool,
+        table: Table,
         before: u32,
         entry: u32,
     },

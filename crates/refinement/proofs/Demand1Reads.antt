@@ -2,148 +2,110 @@
 -- bucket that a step moves.
 -- Assumes nothing.
 use Prim.Native.Nat.{ℕ, _+_, _-_, _<_}
-use mathlib.Core.Path.{_≡_, refl, sym, subst, subst₂, _∙_}
-use mathlib.Core.Bool.{Bool, true, false, cond}
-use mathlib.Core.List.{List, [], _∷_}
+use mathlib.Core.Path.{_≡_, refl, sym, subst, _∙_}
+use mathlib.Core.Bool.{Bool, true, false}
+use mathlib.Core.List.{List, [], _∷_, map}
 use mathlib.Core.Logic.{inl, inr}
 use mathlib.Core.Option.{Option, none, some}
 use native.Mathlib.Omega.{arith}
 use lib.ListN.{length, length-append}
 use Rattle.cursor.specs.Member.{In}
+use Rattle.model.specs.declared.Table.{Table}
 use Rattle.model.specs.declared.Lookup.{Lookup}
-use Rattle.model.specs.Keys.{bucketOf}
-use Rattle.model.specs.Memory.{Place, chainAt}
-use Rattle.model.specs.Calls.{searched, both, lookupIn, lookup, firstFilled}
-use Rattle.model.specs.Walk.{joined, group, groupEntries}
+use Rattle.model.specs.Memory.{Place, bucketsOf, keyPlace, headAt, chainAt}
+use Rattle.model.specs.Calls.{firstWith, searched, both, lookupIn, lookupWhile, lookup, firstFilled}
+use Rattle.model.specs.Walk.{joined, chainsAt}
 use Rattle.model.specs.Sequences.{World}
 use Rattle.refinement.specs.Worlds.{current, other}
-use Rattle.refinement.specs.Demand2.{groupPlaces}
-use Rattle.refinement.specs.Demand1.{headOf, SoundChain, Damaged, OnChain, keyBucketsWhile, keyBuckets, FirstFilled, AllEmpty, groupBuckets, KeysOn}
-use Rattle.refinement.proofs.Lists.{in-middle}
-use Rattle.refinement.proofs.FirstEntries.{AllBefore, Filled, search-filled}
-use Rattle.refinement.proofs.Lookups.{FirstIn, first-in}
-use Rattle.refinement.proofs.GroupChains.{chainOf, chainsOf, group-chains, same-places}
+use Rattle.refinement.specs.Demand1.{headOf, SoundChain, Damaged, OnChain, liveTables, keyPlaces, EmptyFrom, FirstFilled, KeysOn}
+use Rattle.invariant.proofs.Lists.{in-middle}
+use Rattle.invariant.proofs.Lookups.{FirstIn, first-in}
+use Rattle.invariant.proofs.FirstEntries.{AllBefore, Filled, search-filled}
 use Rattle.refinement.proofs.Demand1Chains.{AtPlace, place-read, place-chain, place-sound, same-count, on-chain, in-chain}
 
+-- one of a list is such
+abbrev Some : {A : Type 0} → (A → Type 0) → List A → Type 0
+Some {A} Q xs = (x : A) × In x xs × Q x
+
+module _ {A : Type 0} {Q : A → Type 0} (x : A) (xs : List A) where
+  some-here : Q x → Some Q (x ∷ xs)
+  some-here q = (x, inl refl, q)
+
+  some-later : Some Q xs → Some Q (x ∷ xs)
+  some-later (y, i, q) = (y, inr i, q)
+
+  some-not : ¬ Q x → ¬ Some Q xs → ¬ Some Q (x ∷ xs)
+  some-not f g (y, inl e, q) = f (subst Q e q)
+  some-not f g (y, inr i, q) = g (y, i, q)
+
 module _ (w : World) where
-  -- ---- damage, chain by chain
-
-  damaged-none : ¬ Damaged w []
-  unfolding Damaged
-  damaged-none d = d .1
-
-  damaged-here : (p : Place) (ps : List Place) → ¬ SoundChain w p → Damaged w (p ∷ ps)
-  unfolding Damaged
-  damaged-here p ps f = (p, inl refl, f)
-
-  damaged-later : (p : Place) (ps : List Place) → Damaged w ps → Damaged w (p ∷ ps)
-  unfolding Damaged
-  damaged-later p ps d = (d .0, inr (d .1), d .2)
-
-  damaged-not : (p : Place) (ps : List Place) → SoundChain w p → ¬ Damaged w ps → ¬ Damaged w (p ∷ ps)
-  unfolding Damaged
-  damaged-not p ps c f (q, inl e, g) = g (subst (SoundChain w) (sym e) c)
-  damaged-not p ps c f (q, inr i, g) = f (q, i, g)
-
   -- ---- a lookup
 
-  unfoldable pub Among : ℕ → List Place → Type 0
-  Among key ps = (p : Place) × In p ps × OnChain w key p
-
-  -- what a lookup's answer says of the chains of some places
-  unfoldable pub Says : ℕ → List Place → Lookup → Type 0
-  Says key ps Lookup.Damaged = Damaged w ps
-  Says key ps Lookup.Absent = (¬ Damaged w ps) × (¬ Among key ps)
-  Says key ps (Lookup.At inNew before n) = (¬ Damaged w ps) × Among key ps
-
-  -- the first entry with the key in one chain
-  module _ (key : ℕ) (inNew : Bool) where
-    first-says : (p : Place) (ns : List ℕ) → AtPlace w p (some ns) → (l : Lookup) → FirstIn (w .entries) key inNew 0 ns l
-        → Says key (p ∷ []) l
-    unfolding FirstIn Says Among
-    first-says p ns r Lookup.Damaged h = absurd h
-    first-says p ns r Lookup.Absent h = (damaged-not p [] (place-sound w p ns r) damaged-none, absent)
-      where
-        absent : ¬ ((q : Place) × In q (p ∷ []) × OnChain w key q)
-        absent (q, inl e, c) =
-            let i = in-chain w key p ns r (subst (OnChain w key) e c) in h (i .0) (i .1) (i .2)
-        absent (q, inr i, c) = i
-    first-says p ns r (Lookup.At isNew before n) (us, vs, split, last, e, new) = (
-      damaged-not p [] (place-sound w p ns r) damaged-none,
-      (p, inl refl, on-chain w key p ns r n (subst (λ (ms : List ℕ). In n ms) (sym split) (in-middle n us vs)) e),
-    )
-
-    searched-says : (p : Place) (o : Option (List ℕ)) → AtPlace w p o → Says key (p ∷ []) (searched (w .entries) key inNew 0 o)
-    unfolding Says AtPlace searched
-    searched-says p none f = damaged-here p [] f
-    searched-says p (some ns) r = first-says p ns r _ (first-in (w .entries) key inNew 0 ns)
-
-  -- the first chain and the others
-
-  damaged-first : (p : Place) (ps : List Place) → Damaged w (p ∷ []) → Damaged w (p ∷ ps)
-  unfolding Damaged
-  damaged-first p ps (q, inl e, f) = (q, inl e, f)
-  damaged-first p ps (q, inr i, f) = absurd i
-
-  damaged-split : (p : Place) (ps : List Place) → ¬ Damaged w (p ∷ []) → ¬ Damaged w ps → ¬ Damaged w (p ∷ ps)
-  unfolding Damaged
-  damaged-split p ps f g (q, inl e, h) = f (q, inl e, h)
-  damaged-split p ps f g (q, inr i, h) = g (q, i, h)
-
-  among-first : (key : ℕ) (p : Place) (ps : List Place) → Among key (p ∷ []) → Among key (p ∷ ps)
-  unfolding Among
-  among-first key p ps (q, inl e, c) = (q, inl e, c)
-  among-first key p ps (q, inr i, c) = absurd i
-
-  among-later : (key : ℕ) (p : Place) (ps : List Place) → Among key ps → Among key (p ∷ ps)
-  unfolding Among
-  among-later key p ps a = (a .0, inr (a .1), a .2)
-
-  among-split : (key : ℕ) (p : Place) (ps : List Place) → ¬ Among key (p ∷ []) → ¬ Among key ps → ¬ Among key (p ∷ ps)
-  unfolding Among
-  among-split key p ps f g (q, inl e, c) = f (q, inl e, c)
-  among-split key p ps f g (q, inr i, c) = g (q, i, c)
-
-  both-says : (key : ℕ) (p : Place) (ps : List Place) (l m : Lookup) → Says key (p ∷ []) l → Says key ps m
-      → Says key (p ∷ ps) (both l m)
-  unfolding Says both
-  both-says key p ps Lookup.Damaged m a b = damaged-first p ps a
-  both-says key p ps Lookup.Absent Lookup.Damaged a b = damaged-later p ps b
-  both-says key p ps Lookup.Absent Lookup.Absent a b =
-      (damaged-split p ps (a .0) (b .0), among-split key p ps (a .1) (b .1))
-  both-says key p ps Lookup.Absent (Lookup.At inNew before n) a b =
-      (damaged-split p ps (a .0) (b .0), among-later key p ps (b .1))
-  both-says key p ps (Lookup.At inNew before n) Lookup.Damaged a b = damaged-later p ps b
-  both-says key p ps (Lookup.At inNew before n) Lookup.Absent a b =
-      (damaged-split p ps (a .0) (b .0), among-first key p ps (a .1))
-  both-says key p ps (Lookup.At inNew before n) (Lookup.At isNew prior m) a b =
-      (damaged-split p ps (a .0) (b .0), among-first key p ps (a .1))
-
   module _ (key : ℕ) where
-    old-says : Says key (Place.old (bucketOf key (w .state .«old_size»)) ∷ [])
-        (lookupIn false (w .entries) (w .state .capacity) (w .state .«old_used») (current w) (w .state .«old_size») key)
-    unfolding lookupIn chainAt
-    old-says = searched-says key false _ _ (place-read w (Place.old (bucketOf key (w .state .«old_size»))))
+    -- what a lookup's answer says of the chain of one place
+    SaysAt : Place → Lookup → Type 0
+    SaysAt p Lookup.Damaged = ¬ SoundChain w p
+    SaysAt p Lookup.Absent = SoundChain w p × (¬ OnChain w key p)
+    SaysAt p (Lookup.At t before n) = SoundChain w p × OnChain w key p
 
-    new-says : Says key (Place.new (bucketOf key (w .state .«new_size»)) ∷ [])
-        (lookupIn true (w .entries) (w .state .capacity) (w .state .«new_used») (other w) (w .state .«new_size») key)
-    unfolding lookupIn chainAt
-    new-says = searched-says key true _ _ (place-read w (Place.new (bucketOf key (w .state .«new_size»))))
+    searched-says : (t : Table) (p : Place) (o : Option (List ℕ)) → AtPlace w p o
+        → SaysAt p (searched (w .entries) key t 0 o)
+    unfolding AtPlace searched SaysAt FirstIn
+    searched-says t p none f = f
+    searched-says t p (some ns) r = by (firstWith (w .entries) key t 0 ns) (first-in (w .entries) key t 0 ns)
+      where
+        by : (l : Lookup) → FirstIn (w .entries) key t 0 ns l → SaysAt p l
+        by Lookup.Damaged h = absurd h
+        by Lookup.Absent h = (place-sound w p ns r, λ c. let (n, i, e) = in-chain w key p ns r c in h n i e)
+        by (Lookup.At u before n) (us, vs, split, last, e, same) =
+            (place-sound w p ns r, on-chain w key p ns r n (rw split (in-middle n us vs)) e)
 
-    lookup-while : (t : Bool) → Says key (keyBucketsWhile t w key)
-        (cond t
-        (both
-        (lookupIn false (w .entries) (w .state .capacity) (w .state .«old_used») (current w) (w .state .«old_size») key)
-        (lookupIn true (w .entries) (w .state .capacity) (w .state .«new_used») (other w) (w .state .«new_size») key))
-        (lookupIn false (w .entries) (w .state .capacity) (w .state .«old_used») (current w) (w .state .«old_size») key))
-    unfolding keyBucketsWhile
-    lookup-while true = both-says key _ _ _ _ old-says new-says
-    lookup-while false = old-says
+    -- and of those of some places
+    unfoldable pub Says : List Place → Lookup → Type 0
+    Says ps Lookup.Damaged = Damaged w ps
+    Says ps Lookup.Absent = (¬ Damaged w ps) × (¬ Some (OnChain w key) ps)
+    Says ps (Lookup.At t before n) = (¬ Damaged w ps) × Some (OnChain w key) ps
+
+    module _ (p : Place) (ps : List Place) where
+      sound-too : SoundChain w p → ¬ Damaged w ps → ¬ Damaged w (p ∷ ps)
+      unfolding Damaged
+      sound-too c d = some-not p ps (λ f. f c) d
+
+      both-says : (l m : Lookup) → SaysAt p l → Says ps m → Says (p ∷ ps) (both l m)
+      unfolding SaysAt Says both Damaged
+      both-says Lookup.Damaged m a b = some-here p ps a
+      both-says Lookup.Absent Lookup.Damaged a b = some-later p ps b
+      both-says Lookup.Absent Lookup.Absent a b = (sound-too (a .0) (b .0), some-not p ps (a .1) (b .1))
+      both-says Lookup.Absent (Lookup.At t before n) a b = (sound-too (a .0) (b .0), some-later p ps (b .1))
+      both-says (Lookup.At t before n) Lookup.Damaged a b = some-later p ps b
+      both-says (Lookup.At t before n) Lookup.Absent a b = (sound-too (a .0) (b .0), some-here p ps (a .1))
+      both-says (Lookup.At t before n) (Lookup.At u c m) a b = (sound-too (a .0) (b .0), some-here p ps (a .1))
 
     -- the lookup of find, update, add and delete
-    pub lookup-says : Says key (keyBuckets w key) (lookup (w .state) (current w) (other w) (w .entries) key)
-    unfolding lookup keyBuckets
-    lookup-says = lookup-while (w .state .rehashing)
+    pub lookup-says : Says (keyPlaces w key) (lookup (w .state) (current w) (other w) (w .entries) key)
+    unfolding lookup keyPlaces liveTables lookupWhile lookupIn Says Damaged both
+    lookup-says = by (w .state .rehashing)
+      where
+        none-says : Says [] Lookup.Absent
+        none-says = (λ d. d .1, λ h. h .1)
+
+        alone : (l : Lookup) → both l Lookup.Absent ≡ l
+        alone Lookup.Damaged = refl
+        alone Lookup.Absent = refl
+        alone (Lookup.At t before n) = refl
+
+        at : (t : Table) → SaysAt (keyPlace (w .state) key t) (lookupIn (w .state) (current w) (other w) (w .entries) key t)
+        at t = searched-says t (keyPlace (w .state) key t) _ (place-read w (keyPlace (w .state) key t))
+
+        last : (t : Table)
+            → Says (keyPlace (w .state) key t ∷ []) (lookupIn (w .state) (current w) (other w) (w .entries) key t)
+        last t = rw alone at (both-says (keyPlace (w .state) key t) [] _ Lookup.Absent (at t) none-says)
+
+        by : (t : Bool)
+            → Says (map (λ u. keyPlace (w .state) key u) (liveTables t))
+            (lookupWhile t (w .state) (current w) (other w) (w .entries) key)
+        by false = last Table.Old
+        by true = both-says _ _ _ _ (at Table.Old) (last Table.New)
 
   -- ---- a walk call's group
 
@@ -152,21 +114,20 @@ module _ (w : World) where
   Entries ps none = Damaged w ps
   Entries ps (some ns) = (¬ Damaged w ps) × KeysOn w ps (length ns)
 
-  places-say : (ps : List Place) → Entries ps (chainsOf w ps)
-  unfolding Entries KeysOn chainsOf AtPlace joined
-  places-say [] = (damaged-none, refl)
-  places-say (p ∷ ps) = more (chainOf w p) (chainsOf w ps) (place-read w p) (places-say ps)
+  pub places-say : (ps : List Place) → Entries ps (chainsAt (w .state) (current w) (other w) (w .entries) ps)
+  unfolding Entries KeysOn chainsAt AtPlace joined Damaged
+  places-say [] = (λ d. d .1, refl)
+  places-say (p ∷ ps) =
+      more (chainAt (w .state) (current w) (other w) (w .entries) p)
+      (chainsAt (w .state) (current w) (other w) (w .entries) ps) (place-read w p) (places-say ps)
     where
       more : (o q : Option (List ℕ)) → AtPlace w p o → Entries ps q → Entries (p ∷ ps) (joined o q)
-      more none q f b = damaged-here p ps f
-      more (some ns) none r b = damaged-later p ps b
-      more (some ns) (some ms) r b =
-          (damaged-not p ps (place-sound w p ns r) (b .0), (length ns, length ms, place-chain w p ns r, b .1, length-append ns ms))
-
-  pub group-says : (cursor : ℕ)
-      → Entries (groupBuckets w cursor) (groupEntries (w .state) (current w) (other w) (w .entries) (group (w .state) cursor))
-  group-says cursor =
-      subst₂ Entries (sym (same-places w cursor)) (sym (group-chains w cursor)) (places-say (groupPlaces (w .state) cursor))
+      more none q f b = some-here p ps f
+      more (some ns) none r b = some-later p ps b
+      more (some ns) (some ms) r b = (
+        some-not p ps (λ f. f (place-sound w p ns r)) (b .0),
+        (length ns, length ms, place-chain w p ns r, b .1, length-append ns ms),
+      )
 
   -- some chains have one number of keys
   pub same-keys : (ps : List Place) (m n : ℕ) → KeysOn w ps m → KeysOn w ps n → m ≡ n
@@ -179,31 +140,27 @@ module _ (w : World) where
 
   -- what the search for it says
   unfoldable pub StepFinds : Option ℕ → Type 0
-  StepFinds none = AllEmpty w
+  StepFinds none = EmptyFrom w (w .state .«old_size»)
   StepFinds (some b) = FirstFilled w b
 
   pub step-finds : StepFinds
       (firstFilled (current w) (w .state .«rehash_index») (w .state .«old_size» - w .state .«rehash_index»))
-  unfolding AllBefore Filled StepFinds AllEmpty headOf
+  unfolding AllBefore Filled StepFinds EmptyFrom headOf headAt bucketsOf
   step-finds =
-      by (firstFilled (current w) (w .state .«rehash_index») (w .state .«old_size» - w .state .«rehash_index»))
-      (search-filled (current w) (w .state .«rehash_index») (w .state .«old_size» - w .state .«rehash_index»)
-      (w .state .«rehash_index» + (w .state .«old_size» - w .state .«rehash_index»)) refl)
+      let s = w .state in
+      by (firstFilled (current w) (s .«rehash_index») (s .«old_size» - s .«rehash_index»))
+      (search-filled (current w) (s .«rehash_index») (s .«old_size» - s .«rehash_index») _ refl)
     where
       by : (o : Option ℕ)
           → Filled (current w) (w .state .«rehash_index») (w .state .«rehash_index» + (w .state .«old_size» - w .state .«rehash_index»)) o
           → StepFinds o
       by none h = λ b l m. h b l (omega arith)
-      by (some b) h =
-          record {
-            from-next = h .0;
-            in-table = let l = h .0 in let m = h .1 in omega arith;
-            filled = h .2;
-            empty-before = h .3;
-          }
+      by (some b) (from, below, filled, before) =
+          record { from-next = from; in-table = omega arith; filled = filled; empty-before = before }
 
   -- there is one first filled bucket
   not-before : (b c : ℕ) → FirstFilled w b → FirstFilled w c → ¬ (b < c)
+  unfolding EmptyFrom
   not-before b c f g l = f .filled (g .empty-before b (f .from-next) l)
 
   pub same-first : (b c : ℕ) → FirstFilled w b → FirstFilled w c → b ≡ c

@@ -1,324 +1,205 @@
--- The places of a walk call's group: live buckets, none twice; an entry whose key the group covers is in one of them, and
--- they are those that the ideal lists for each table.
+-- The group of a walk call over legal tables. It gives `group-laws`, all that the walk needs to know of one; `published`, the
+-- cursor that it answers; and `tells-in-group`, that the ideal's test for a key is whether the key's bucket is the group's.
 -- Assumes nothing.
-use Prim.Native.Nat.{ℕ, _%_, _<_}
-use mathlib.Core.Path.{_≡_, refl, sym, ap, subst, subst₂, subst₃, _∙_}
-use mathlib.Core.Logic.{_⊎_, inl, inr}
-use mathlib.Core.Bool.{Bool, true, false, cond, not}
-use mathlib.Core.List.{List, [], _∷_, map}
-use native.Mathlib.Nat.{mod-lt}
+use Prim.Native.Nat.{ℕ, _%_, _^_, _<_, _≤_}
+use mathlib.Core.Path.{_≡_, refl, sym, ap}
+use mathlib.Core.Logic.{inl, inr, ⊎-elim}
+use mathlib.Core.Bool.{Bool, true, false}
+use mathlib.Core.List.{List}
+use native.Mathlib.Nat.{mod-lt, min-eq-left, min-eq-right}
 use native.Mathlib.Omega.{arith}
-use lib.Dec.{ltb}
-use lib.Pow.{pow-pos}
-use borrow.Author.Tests.{eq-eqb, ne-eqb}
-use Rattle.cursor.specs.Member.{In, Distinct}
-use Rattle.cursor.specs.Group.{Group, oneTable, twoTables}
+use lib.Dec.{ltb, eqb}
+use lib.Pow.{pow-pos, pow-lt}
+use borrow.Author.Tests.{ltb-true, ltb-false, lt-ltb, le-ltb}
+use Rattle.cursor.specs.Member.{In}
+use Rattle.cursor.specs.Next.{next}
+use Rattle.cursor.specs.Group.{oneTable, twoTables}
 use Rattle.cursor.proofs.LargeBuckets.{LargeBuckets, two-large}
-use Rattle.model.specs.declared.State.{State}
+use Rattle.cursor.proofs.Walks.{Live, smaller, Valid, groupOf, Covers, call-answers}
+use Rattle.model.specs.declared.Table.{Table}
 use Rattle.model.specs.Keys.{hash, bucketOf}
-use Rattle.model.specs.Memory.{Place, Live, Home, IsBucket}
-use Rattle.model.specs.Sequences.{Tables}
-use Rattle.model.proofs.Soundness.{Sound}
-use Rattle.refinement.specs.Worlds.{inOld, tablesBy, tablesOf}
-use Rattle.refinement.specs.Demand2.{placesOf, groupPlaces}
-use Rattle.refinement.specs.Demand3.{smallerOf, groupAt, groupIn}
-use Rattle.refinement.proofs.Lists.{in-map, of-map, distinct-map}
-use Rattle.refinement.proofs.LiveTables.{exponent, legal-power, Legal, Ranked, old-smaller, new-smaller, CoversKey, group-tables}
+use Rattle.model.specs.Limits.{largestExponent, legalSize}
+use Rattle.model.specs.Memory.{Place}
+use Rattle.model.specs.Calls.{oldNew}
+use Rattle.model.specs.Walk.{Tables, smallerOf, group, smallFirst, groupPlaces}
+use Rattle.model.proofs.Power.{exponent-lt, power-of}
+use Rattle.model.proofs.Tests.{Tells, tells-and, tells-eq, tells-same}
+use Rattle.refinement.specs.Demand3.{Ideal, tableOf, sizeIn, isBucket, inGroup}
+use Rattle.invariant.proofs.Lists.{in-map, of-map, distinct-map, tells-any}
+use Rattle.refinement.proofs.LiveTables.{Legal, sizes, Buckets}
 
--- ---- the buckets of the new or the old table
+-- ---- the bucket of a key
 
-unfoldable bucketIn : Bool → ℕ → Place
-bucketIn true b = Place.new b
-bucketIn false b = Place.old b
+-- the one that the ideal has it in, by the keys still in the old table
+unfoldable pub placeIn : Tables → List ℕ → ℕ → Place
+placeIn t unmoved key =
+    let u = tableOf t unmoved key in
+    Place.bucket u (bucketOf key (sizeIn t u))
 
-unfoldable pub sizeIn : State → Bool → ℕ
-sizeIn s true = s .«new_size»
-sizeIn s false = s .«old_size»
+pub size-in : (t : Tables) (unmoved : List ℕ) (key : ℕ)
+    → sizeIn t (tableOf t unmoved key) ≡ sizes t (tableOf t unmoved key)
+unfolding tableOf sizeIn sizes oldNew
+size-in (Tables.one size) unmoved key = refl
+size-in (Tables.two old new) unmoved key = refl
 
-module _ (s : State) where
-  bucket-live : (t : Bool) (b : ℕ) → b < sizeIn s t → Live s (bucketIn t b)
-  unfolding bucketIn sizeIn Live
-  bucket-live true b l = l
-  bucket-live false b l = l
+tells-table : (t u : Table) → Tells (t ≡ u) (eqb (oldNew 0 1 t) (oldNew 0 1 u))
+unfolding oldNew
+tells-table Table.Old Table.Old = Tells.holds refl
+tells-table Table.Old Table.New = Tells.fails (λ e. let z : _≡_ {A = ℕ} 0 1 = cc in omega arith)
+tells-table Table.New Table.Old = Tells.fails (λ e. let z : _≡_ {A = ℕ} 0 1 = cc in omega arith)
+tells-table Table.New Table.New = Tells.holds refl
 
-  bucket-is : (t : Bool) (b : ℕ) → IsBucket (bucketIn t b)
-  unfolding bucketIn IsBucket
-  bucket-is true b = tt
-  bucket-is false b = tt
+tells-bucket : (t : Table) (b : ℕ) (p : Place) → Tells (p ≡ Place.bucket t b) (isBucket t b p)
+unfolding isBucket
+tells-bucket t b Place.free = Tells.fails (λ e. let z : _≡_ {A = ℕ} 0 1 = cc in omega arith)
+tells-bucket t b (Place.bucket u c) =
+    tells-same (λ h. let (e, f) = h in cc) (λ e. ((cc), (cc))) (tells-and (tells-table t u) (tells-eq b c))
 
-  bucket-home : (t : Bool) (b key : ℕ) → Home s key (bucketIn t b) → key % sizeIn s t ≡ b
-  unfolding bucketIn sizeIn Home bucketOf hash
-  bucket-home true b key h = h
-  bucket-home false b key h = h
+pub tells-in-group : (i : Ideal) (cursor key : ℕ)
+    → Tells (In (placeIn (i .tables) (i .unmoved) key) (groupPlaces (i .tables) cursor)) (inGroup i cursor key)
+unfolding inGroup placeIn
+tells-in-group i cursor key =
+    tells-same (λ (p, j, e). rw e at j) (λ j. (_, j, refl))
+    (tells-any _ _ (tells-bucket _ _) (groupPlaces (i .tables) cursor))
 
-bucket-number : (t : Bool) (b c : ℕ) → bucketIn t b ≡ bucketIn t c → b ≡ c
-unfolding bucketIn
-bucket-number true b c e = cc
-bucket-number false b c e = cc
+-- ---- the laws
 
-bucket-apart : (t : Bool) (b c : ℕ) → bucketIn t b ≡ bucketIn (not t) c → ⊥
-unfolding bucketIn
-bucket-apart true b c e = let z : _≡_ {A = ℕ} 0 1 = cc in absurd (omega arith)
-bucket-apart false b c e = let z : _≡_ {A = ℕ} 0 1 = cc in absurd (omega arith)
+-- Of tables by the exponents of their sizes, as the laws of the cursor have them: the smaller size, the cursor answered, and
+-- the places of a group: live buckets, none twice, among them that of each key which the group covers.
+pub record GroupLaws (t : Tables) : Type 0 where
+  pub live : Live
+  pub valid : Valid live
+  pub smaller-size : 2 ^ smaller live ≡ smallerOf t
+  pub answers : (cursor : ℕ) → group t cursor .answered ≡ groupOf live cursor .answered
+  pub covers : (cursor key : ℕ) → Covers live cursor key → (unmoved : List ℕ)
+      → In (placeIn t unmoved key) (groupPlaces t cursor)
+  pub buckets : (cursor : ℕ) → Buckets (sizes t) (groupPlaces t cursor)
 
--- every bucket is one of the table's or of the other's
-bucket-cases : (t : Bool) (p : Place) → IsBucket p → ((b : ℕ) × (p ≡ bucketIn t b)) ⊎ ((b : ℕ) × (p ≡ bucketIn (not t) b))
-unfolding bucketIn IsBucket
-bucket-cases t Place.free i = absurd i
-bucket-cases true (Place.old b) i = inr (b, refl)
-bucket-cases false (Place.old b) i = inl (b, refl)
-bucket-cases true (Place.new b) i = inl (b, refl)
-bucket-cases false (Place.new b) i = inr (b, refl)
+one-laws : (b : ℕ) → b ≤ 32 → GroupLaws (Tables.one (2 ^ b))
+unfolding smallerOf group groupPlaces smallFirst placeIn tableOf sizeIn sizes oldNew bucketOf hash oneTable
+one-laws b fits =
+    record {
+      live = Live.one b;
+      valid = fits;
+      smaller-size = refl;
+      answers = λ cursor. refl;
+      covers = λ cursor key same unmoved. inl (ap (Place.bucket Table.Old) same);
+      buckets =
+          λ cursor.
+          record {
+            each = λ p i. ⊎-elim (λ e. (Table.Old, cursor % 2 ^ b, e, mod-lt cursor (pow-pos b))) (λ j. absurd j) i;
+            once = (λ i. i, tt);
+          };
+    }
 
--- ---- the places
+-- Two tables, of which that one is the smaller.
 
--- Live buckets, none twice. A key that is covered has its buckets among them, and they are those listed for each size.
-pub record PlacesOf (s : State) (Covers : ℕ → Type 0) (listed : ℕ → List ℕ) (ps : List Place) : Type 0 where
-  pub live : (p : Place) → In p ps → Live s p
-  pub buckets : (p : Place) → In p ps → IsBucket p
-  pub distinct : Distinct ps
-  pub holds : (key : ℕ) (p : Place) → Covers key → Live s p → IsBucket p → Home s key p → In p ps
-  of-list : (t : Bool) (b : ℕ) → In (bucketIn t b) ps → In b (listed (sizeIn s t))
-  in-list : (t : Bool) (b : ℕ) → Live s (bucketIn t b) → In b (listed (sizeIn s t)) → In (bucketIn t b) ps
+unfoldable ranked : Table → ℕ → ℕ → Tables
+ranked Table.Old small large = Tables.two small large
+ranked Table.New small large = Tables.two large small
 
-module _ {s : State} {Covers : ℕ → Type 0} {listed : ℕ → List ℕ} {ps : List Place} (h : PlacesOf s Covers listed ps)
-    (key : ℕ) where
-  -- so a bucket that a key calls for is among them where its number is listed, and nowhere else
-  pub place-listed : (p : Place) → IsBucket p → Home s key p → In p ps
-      → In (bucketOf key (sizeIn s (not (inOld p)))) (listed (sizeIn s (not (inOld p))))
-  unfolding inOld sizeIn bucketIn IsBucket Home
-  place-listed Place.free i at j = absurd i
-  place-listed (Place.old b) i at j = subst (λ (c : ℕ). In c (listed (s .«old_size»))) (sym at) (h .of-list false b j)
-  place-listed (Place.new b) i at j = subst (λ (c : ℕ). In c (listed (s .«new_size»))) (sym at) (h .of-list true b j)
+unfoldable opposite : Table → Table
+opposite Table.Old = Table.New
+opposite Table.New = Table.Old
 
-  pub listed-place : (p : Place) → Live s p → IsBucket p → Home s key p
-      → In (bucketOf key (sizeIn s (not (inOld p)))) (listed (sizeIn s (not (inOld p)))) → In p ps
-  unfolding inOld sizeIn bucketIn IsBucket Home
-  listed-place Place.free l i at j = absurd i
-  listed-place (Place.old b) l i at j = h .in-list false b l (subst (λ (c : ℕ). In c (listed (s .«old_size»))) at j)
-  listed-place (Place.new b) l i at j = h .in-list true b l (subst (λ (c : ℕ). In c (listed (s .«new_size»))) at j)
+apart : (t : Table) (b c : ℕ) → Place.bucket t b ≡ Place.bucket (opposite t) c → ⊥
+unfolding opposite
+apart Table.Old b c e = let z : _≡_ {A = ℕ} 0 1 = cc in omega arith
+apart Table.New b c e = let z : _≡_ {A = ℕ} 0 1 = cc in omega arith
 
--- the new or the old table is the smaller
-abbrev SmallerFirst : State → ℕ → Bool → Type 0
-SmallerFirst s cursor t = Ranked (s .«old_size») (s .«new_size») cursor (sizeIn s t) (sizeIn s (not t))
+module _ (small large : ℕ) (less : small < large) where
+  ranked-smaller : (t : Table) → smallerOf (ranked t small large) ≡ small
+  unfolding ranked smallerOf
+  ranked-smaller Table.Old = min-eq-left (omega arith)
+  ranked-smaller Table.New = min-eq-right (omega arith)
 
--- its bucket comes first, then those of the other
-places-in-order : (t : Bool) (g : Group) → placesOf true (not t) g ≡ bucketIn t (g .small) ∷ map (bucketIn (not t)) (g .large)
-unfolding placesOf bucketIn
-places-in-order false g = refl
-places-in-order true g = refl
+  ranked-group : (t : Table) (cursor : ℕ) → group (ranked t small large) cursor ≡ twoTables small large cursor
+  unfolding ranked group
+  ranked-group Table.Old cursor = rw (lt-ltb small large less)
+  ranked-group Table.New cursor = rw (le-ltb large small (omega arith))
 
-module _ (s : State) (cursor : ℕ) (t : Bool) (o : SmallerFirst s cursor t) where
-  small : ℕ
-  small = cursor % sizeIn s t
+  ranked-places : (t : Table) (cursor : ℕ)
+      → groupPlaces (ranked t small large) cursor ≡ smallFirst t (opposite t) (twoTables small large cursor)
+  unfolding ranked groupPlaces opposite
+  ranked-places Table.Old cursor = rw (lt-ltb small large less)
+  ranked-places Table.New cursor = rw (le-ltb large small (omega arith))
 
-  large : List ℕ
-  large = twoTables (sizeIn s t) (sizeIn s (not t)) cursor .large
+module _ (b c : ℕ) (less : b < c) (fits : c ≤ 32) where
+  abbrev tables : Table → Tables
+  tables t = ranked t (2 ^ b) (2 ^ c)
 
-  swept : LargeBuckets (exponent (sizeIn s t)) (exponent (sizeIn s (not t))) cursor large
-  unfolding large
-  swept =
-      subst₂ (λ (n m : ℕ). LargeBuckets (exponent (sizeIn s t)) (exponent (sizeIn s (not t))) cursor (twoTables n m cursor .large))
-      (sym (o .powers .small-power)) (sym (o .powers .large-power))
-      (two-large (exponent (sizeIn s t)) (exponent (sizeIn s (not t))) cursor (o .powers .less) (o .powers .fits))
+  module _ (cursor : ℕ) where
+    abbrev large : List ℕ
+    large = twoTables (2 ^ b) (2 ^ c) cursor .large
 
-  places : List Place
-  places = bucketIn t small ∷ map (bucketIn (not t)) large
+    abbrev places : Table → List Place
+    places t = smallFirst t (opposite t) (twoTables (2 ^ b) (2 ^ c) cursor)
 
-  places-live : (p : Place) → In p places → Live s p
-  unfolding places small
-  places-live p (inl e) =
-      rw e (bucket-live s t small (mod-lt cursor (omega (arith, pow-pos (exponent (sizeIn s t)), o .powers .small-power))))
-  places-live p (inr i) =
-      let (b, j, e) = of-map (bucketIn (not t)) p large i in
-      rw e (bucket-live s (not t) b (rw (o .powers .large-power) (swept .below b j)))
+    swept : LargeBuckets b c cursor large
+    swept = two-large b c cursor less fits
 
-  places-buckets : (p : Place) → In p places → IsBucket p
-  unfolding places
-  places-buckets p (inl e) = rw e (bucket-is s t small)
-  places-buckets p (inr i) = let (b, j, e) = of-map (bucketIn (not t)) p large i in rw e (bucket-is s (not t) b)
+    sizes-of : (t : Table) → (sizes (tables t) t ≡ 2 ^ b) × (sizes (tables t) (opposite t) ≡ 2 ^ c)
+    unfolding ranked sizes oldNew opposite
+    sizes-of Table.Old = (refl, refl)
+    sizes-of Table.New = (refl, refl)
 
-  places-distinct : Distinct places
-  unfolding places
-  places-distinct = (
-    λ i. let (b, j, e) = of-map (bucketIn (not t)) (bucketIn t small) large i in bucket-apart t small b e,
-    distinct-map (bucketIn (not t)) large (λ b c i j e. bucket-number (not t) b c e) (swept .distinct),
-  )
+    two-buckets : (t : Table) → Buckets (sizes (tables t)) (places t)
+    unfolding smallFirst twoTables
+    two-buckets t =
+        record {
+          each =
+              λ p i.
+              ⊎-elim (λ e. (t, cursor % 2 ^ b, e, rw (sizes-of t .0) (mod-lt cursor (pow-pos b))))
+              (λ j.
+              let (n, k, e) = of-map (Place.bucket (opposite t)) p large j in
+              (opposite t, n, e, rw (sizes-of t .1) (swept .below n k)))
+              i;
+          once = (
+            λ i. let (n, j, e) = of-map (Place.bucket (opposite t)) _ large i in apart t _ n e,
+            distinct-map (Place.bucket (opposite t)) large (λ n m i j e. cc) (swept .distinct),
+          );
+        }
 
-  places-hold : (key : ℕ) (p : Place) → (key % sizeIn s t ≡ small) × In (key % sizeIn s (not t)) large → IsBucket p
-      → Home s key p → In p places
-  unfolding places
-  places-hold key p c i h = pick (bucket-cases t p i)
-    where
-      pick : ((b : ℕ) × (p ≡ bucketIn t b)) ⊎ ((b : ℕ) × (p ≡ bucketIn (not t) b)) → In p places
-      pick (inl (b, e)) =
-          let at : key % sizeIn s t ≡ b = bucket-home s t b key (subst (λ (q : Place). Home s key q) e h) in
-          inl (e ∙ ap (bucketIn t) (sym at ∙ c .0))
-      pick (inr (b, e)) =
-          let at : key % sizeIn s (not t) ≡ b = bucket-home s (not t) b key (subst (λ (q : Place). Home s key q) e h) in
-          inr
-          (subst (λ (q : Place). In q (map (bucketIn (not t)) large)) (ap (bucketIn (not t)) at ∙ sym e)
-          (in-map (bucketIn (not t)) (key % sizeIn s (not t)) large (c .1)))
+    -- the key's bucket in either table
+    two-covers : (key : ℕ) → Covers (Live.two b c) cursor key → (t u : Table)
+        → In (Place.bucket u (bucketOf key (sizeIn (tables t) u))) (places t)
+    unfolding bucketOf hash ranked sizeIn oldNew opposite smallFirst
+    two-covers key (small, some) Table.Old Table.Old = inl (ap (Place.bucket Table.Old) small)
+    two-covers key (small, some) Table.Old Table.New = inr (in-map (Place.bucket Table.New) (key % 2 ^ c) large some)
+    two-covers key (small, some) Table.New Table.New = inl (ap (Place.bucket Table.New) small)
+    two-covers key (small, some) Table.New Table.Old = inr (in-map (Place.bucket Table.Old) (key % 2 ^ c) large some)
 
-  -- the ideal lists them by the sizes
-  abbrev listed : ℕ → List ℕ
-  listed = groupIn (Tables.two (s .«old_size») (s .«new_size»)) cursor
-
-  small-listed : listed (sizeIn s t) ≡ small ∷ []
-  unfolding groupIn smallerOf small twoTables
-  small-listed =
-      let g = groupAt (Tables.two (s .«old_size») (s .«new_size»)) cursor in
-      ap (λ (b : Bool). cond b (g .small ∷ []) (g .large)) (eq-eqb (sizeIn s t) _ (sym (o .least)))
-      ∙ ap (λ (g : Group). g .small ∷ []) (o .its-group)
-
-  large-listed : listed (sizeIn s (not t)) ≡ large
-  unfolding groupIn smallerOf large
-  large-listed =
-      let g = groupAt (Tables.two (s .«old_size») (s .«new_size»)) cursor in
-      let less = o .powers .less in
-      ap (λ (b : Bool). cond b (g .small ∷ []) (g .large))
-      (ne-eqb (sizeIn s (not t)) _ (λ e. omega (arith, ap exponent (e ∙ o .least))))
-      ∙ ap (λ (g : Group). g .large) (o .its-group)
-
-  -- in the one table or in the other
-  either-table : (P : Bool → Type 0) → P t → P (not t) → (u : Bool) → P u
-  either-table P here there u = by t u here there
-    where
-      by : (t u : Bool) → P t → P (not t) → P u
-      by true true h k = h
-      by true false h k = k
-      by false true h k = k
-      by false false h k = h
-
-  places-of-list : (u : Bool) (b : ℕ) → In (bucketIn u b) places → In b (listed (sizeIn s u))
-  unfolding places
-  places-of-list =
-      either-table (λ u. (b : ℕ) → In (bucketIn u b) places → In b (listed (sizeIn s u)))
-      (λ b i. subst (λ (bs : List ℕ). In b bs) (sym small-listed) (here b i))
-      (λ b i. subst (λ (bs : List ℕ). In b bs) (sym large-listed) (there b i))
-    where
-      here : (b : ℕ) → In (bucketIn t b) places → In b (small ∷ [])
-      here b (inl e) = inl (bucket-number t b small e)
-      here b (inr i) =
-          let (c, j, e) = of-map (bucketIn (not t)) (bucketIn t b) large i in absurd (bucket-apart t b c e)
-
-      there : (b : ℕ) → In (bucketIn (not t) b) places → In b large
-      there b (inl e) = absurd (bucket-apart t small b (sym e))
-      there b (inr i) =
-          let (c, j, e) = of-map (bucketIn (not t)) (bucketIn (not t) b) large i in
-          subst (λ (n : ℕ). In n large) (sym (bucket-number (not t) b c e)) j
-
-  places-in-list : (u : Bool) (b : ℕ) → Live s (bucketIn u b) → In b (listed (sizeIn s u)) → In (bucketIn u b) places
-  unfolding places
-  places-in-list =
-      either-table (λ u. (b : ℕ) → Live s (bucketIn u b) → In b (listed (sizeIn s u)) → In (bucketIn u b) places)
-      (λ b l i. here b (subst (λ (bs : List ℕ). In b bs) small-listed i))
-      (λ b l i. inr (in-map (bucketIn (not t)) b large (subst (λ (bs : List ℕ). In b bs) large-listed i)))
-    where
-      here : (b : ℕ) → In b (small ∷ []) → In (bucketIn t b) places
-      here b (inl e) = inl (ap (bucketIn t) e)
-      here b (inr i) = absurd i
-
-  two-places :
-      PlacesOf s (CoversKey (Tables.two (s .«old_size») (s .«new_size»)) cursor) listed
-      (placesOf true (not t) (groupAt (Tables.two (s .«old_size») (s .«new_size»)) cursor))
-  unfolding CoversKey bucketOf hash twoTables small large places
-  two-places =
-      subst
-      (PlacesOf s (CoversKey (Tables.two (s .«old_size») (s .«new_size»)) cursor) listed)
-      (sym (ap (placesOf true (not t)) (o .its-group) ∙ places-in-order t (twoTables (sizeIn s t) (sizeIn s (not t)) cursor)))
-      (record {
-        live = places-live;
-        buckets = places-buckets;
-        distinct = places-distinct;
-        holds =
-            λ key p c l i h.
-            places-hold key p
-            (subst₃ (λ (n m : ℕ) (g : Group). (key % n ≡ g .small) × In (key % m) (g .large)) (o .least) (o .most) (o .its-group) c)
-            i h;
-        of-list = places-of-list;
-        in-list = places-in-list;
-      })
-
-module _ (s : State) (current other entries : List ℕ) (h : Sound s current other entries) (cursor : ℕ) where
-  old-positive : 0 < s .«old_size»
-  old-positive = let (e, l) = legal-power (s .«old_size») (h .base .old-legal) in omega (arith, pow-pos (exponent (s .«old_size»)))
-
-  one-places : s .rehashing ≡ false
-      → PlacesOf s (CoversKey (Tables.one (s .«old_size»)) cursor) (groupIn (Tables.one (s .«old_size»)) cursor)
-      (Place.old (cursor % s .«old_size») ∷ [])
-  unfolding CoversKey groupIn smallerOf bucketOf hash groupAt oneTable bucketIn sizeIn Live IsBucket Home
-  one-places e =
+  two-laws : (t : Table) → GroupLaws (tables t)
+  unfolding placeIn
+  two-laws t =
+      let l = pow-lt less in
+      let order = ranked-places (2 ^ b) (2 ^ c) l t in
       record {
-        live = live-one;
-        buckets = is-one;
-        distinct = (λ i. i, tt);
-        holds = holds-one;
-        of-list = of-one;
-        in-list = in-one;
+        live = Live.two b c;
+        valid = (less, fits);
+        smaller-size = sym (ranked-smaller (2 ^ b) (2 ^ c) l t);
+        answers = λ cursor. rw (ranked-group (2 ^ b) (2 ^ c) l t cursor);
+        covers = λ cursor key h unmoved. rw (order cursor) (two-covers cursor key h t _);
+        buckets = λ cursor. rw (order cursor) (two-buckets cursor t);
       }
-    where
-      live-one : (p : Place) → In p (Place.old (cursor % s .«old_size») ∷ []) → Live s p
-      live-one p (inl q) = rw q (mod-lt cursor old-positive)
-      live-one p (inr i) = absurd i
 
-      is-one : (p : Place) → In p (Place.old (cursor % s .«old_size») ∷ []) → IsBucket p
-      is-one p (inl q) = rw q tt
-      is-one p (inr i) = absurd i
+pub group-laws : (t : Tables) → Legal t → GroupLaws t
+unfolding Legal legalSize largestExponent ranked
+group-laws (Tables.one size) h =
+    let (b, l, e) = power-of largestExponent size h in rw e (one-laws b (omega arith))
+group-laws (Tables.two old new) h =
+    by (ltb old new) refl (power-of largestExponent old (h .0)) (power-of largestExponent new (h .1))
+  where
+    by : (t : Bool) → ltb old new ≡ t → (b : ℕ) × (b ≤ largestExponent) × (old ≡ 2 ^ b)
+        → (c : ℕ) × (c ≤ largestExponent) × (new ≡ 2 ^ c) → GroupLaws (Tables.two old new)
+    by true less (b, k, e) (c, l, f) =
+        rw (e, f) (two-laws b c (exponent-lt b c e f (ltb-true old new less)) (omega arith) Table.Old)
+    by false less (b, k, e) (c, l, f) =
+        let small : new < old = omega (arith, ltb-false old new less, h .2) in
+        rw (e, f) (two-laws c b (exponent-lt c b f e small) (omega arith) Table.New)
 
-      holds-one : (key : ℕ) (p : Place) → CoversKey (Tables.one (s .«old_size»)) cursor key → Live s p → IsBucket p
-          → Home s key p → In p (Place.old (cursor % s .«old_size») ∷ [])
-      holds-one key Place.free c l i at = absurd i
-      holds-one key (Place.old b) c l i at = inl (ap Place.old (sym at ∙ c))
-      holds-one key (Place.new b) c l i at = absurd (omega (arith, h .still e .no-new))
-
-      only-list : groupIn (Tables.one (s .«old_size»)) cursor (s .«old_size») ≡ cursor % s .«old_size» ∷ []
-      only-list =
-          ap (λ (b : Bool). cond b (cursor % s .«old_size» ∷ []) []) (eq-eqb (s .«old_size») (s .«old_size») refl)
-
-      of-one : (t : Bool) (b : ℕ) → In (bucketIn t b) (Place.old (cursor % s .«old_size») ∷ [])
-          → In b (groupIn (Tables.one (s .«old_size»)) cursor (sizeIn s t))
-      of-one false b (inl q) = subst (λ (bs : List ℕ). In b bs) (sym only-list) (inl (bucket-number false b _ q))
-      of-one true b (inl q) = absurd (bucket-apart true b _ q)
-      of-one t b (inr i) = absurd i
-
-      in-one : (t : Bool) (b : ℕ) → Live s (bucketIn t b)
-          → In b (groupIn (Tables.one (s .«old_size»)) cursor (sizeIn s t))
-          → In (bucketIn t b) (Place.old (cursor % s .«old_size») ∷ [])
-      in-one true b l i = absurd (omega (arith, l, h .still e .no-new))
-      in-one false b l i = by (subst (λ (bs : List ℕ). In b bs) only-list i)
-        where
-          by : In b (cursor % s .«old_size» ∷ []) → In (Place.old b) (Place.old (cursor % s .«old_size») ∷ [])
-          by (inl q) = inl (ap Place.old q)
-          by (inr i) = absurd i
-
-  -- during a rehash, which of the two tables is the smaller
-  smaller-first : (t : Bool) → s .rehashing ≡ true → ltb (s .«old_size») (s .«new_size») ≡ not t → SmallerFirst s cursor t
-  unfolding Legal sizeIn
-  smaller-first t e = by t
-    where
-      legal : Legal (Tables.two (s .«old_size») (s .«new_size»))
-      legal = (h .base .old-legal, h .move e .new-legal, h .move e .sizes-differ)
-
-      by : (t : Bool) → ltb (s .«old_size») (s .«new_size») ≡ not t → SmallerFirst s cursor t
-      by false = old-smaller (s .«old_size») (s .«new_size») cursor legal
-      by true = new-smaller (s .«old_size») (s .«new_size») cursor legal
-
-  -- the places of a call's group, in a sound state
-  pub group-places : PlacesOf s (CoversKey (tablesOf s) cursor) (groupIn (tablesOf s) cursor) (groupPlaces s cursor)
-  unfolding tablesOf tablesBy groupPlaces placesOf groupAt oneTable
-  group-places =
-      subst
-      (λ (g : Group).
-      PlacesOf s (CoversKey (tablesOf s) cursor) (groupIn (tablesOf s) cursor)
-      (placesOf (s .rehashing) (ltb (s .«old_size») (s .«new_size»)) g))
-      (sym (group-tables s cursor))
-      (pick (s .rehashing) (ltb (s .«old_size») (s .«new_size»)) refl refl)
-    where
-      pick : (m t : Bool) → s .rehashing ≡ m → ltb (s .«old_size») (s .«new_size») ≡ t
-          → PlacesOf s (CoversKey (tablesBy m (s .«old_size») (s .«new_size»)) cursor)
-          (groupIn (tablesBy m (s .«old_size») (s .«new_size»)) cursor)
-          (placesOf m t (groupAt (tablesBy m (s .«old_size») (s .«new_size»)) cursor))
-      pick false t e f = one-places e
-      pick true true e f = two-places s cursor false (smaller-first false e f)
-      pick true false e f = two-places s cursor true (smaller-first true e f)
+-- a call answers the next cursor of the smaller size
+pub published : (t : Tables) → Legal t → (cursor : ℕ) → group t cursor .answered ≡ next (smallerOf t) cursor
+published t h cursor =
+    let laws = group-laws t h in
+    rw (laws .answers cursor, call-answers (laws .live) cursor (laws .valid), laws .smaller-size)

@@ -4,43 +4,48 @@
 use Prim.Native.Nat.{ℕ, suc, _+_, _-_, _<_}
 use mathlib.Core.Path.{_≡_, refl, sym, ap, subst, _∙_}
 use mathlib.Core.Logic.{_⊎_, inl, inr}
-use mathlib.Core.Bool.{Bool, true, false, not, cond}
+use mathlib.Core.Bool.{Bool, true, false, cond}
 use mathlib.Core.List.{List, [], _∷_}
 use mathlib.Core.Option.{Option, none, some}
 use native.Mathlib.Decide.{ℕ-discrete}
 use native.Mathlib.Omega.{arith}
 use lib.ListN.{length}
-use lib.Dec.{leb, eqb}
-use borrow.Author.Tests.{leb-true, leb-false, eqb-false, ne-eqb, not-true}
-use Rattle.cursor.specs.Member.{In}
+use lib.Dec.{eqb}
+use borrow.Author.Tests.{eqb-true, eqb-false}
+use Rattle.cursor.specs.Member.{In, Distinct, keep}
 use Rattle.model.specs.declared.State.{State}
+use Rattle.model.specs.declared.Table.{Table}
 use Rattle.model.specs.declared.Error.{Error}
 use Rattle.model.specs.declared.FindAnswer.{FindAnswer}
 use Rattle.model.specs.declared.UpdateAnswer.{UpdateAnswer}
 use Rattle.model.specs.declared.AddAnswer.{AddAnswer}
 use Rattle.model.specs.declared.DeleteAnswer.{DeleteAnswer}
-use Rattle.model.specs.Answers.{Reply, errorNumber, findReply, updateReply, addReply, deleteReply}
-use Rattle.model.specs.Memory.{Place, Live, IsBucket, valueOf}
-use Rattle.model.specs.Calls.{After, orientedBack, findIn, updateIn, addIn, deleteIn, keysHeld}
+use Rattle.model.specs.Answers.{Reply, reply, errorNumber, findReply, updateReply, addReply, deleteReply}
+use Rattle.model.specs.Memory.{Place, Live, sizeOf, keysHeld, keyPlace, valueOf}
+use Rattle.model.specs.Calls.{After, writing, lookup, found, updated, added, deleted, removed, target}
 use Rattle.model.specs.Calls as calls
-use Rattle.model.specs.Sequences.{Outcome, World, Call, kept, left, perform, carry, Pair, PlainMap, MapReply, valueFor, withValue, without, refusedMap, doneMap, mapFind, mapUpdate, mapAdd, mapDelete, mapReply}
+use Rattle.model.specs.Sequences.{Outcome, World, KeyCall, Call, kept, left, given, perform, carry, Pair, PlainMap, keysOf, valueFor, withValue, without, withPairs, mapAnswer, mapDoes}
+use Rattle.model.proofs.Tests.{told, tested}
 use Rattle.refinement.specs.Worlds.{current, other, UndamagedAt, Holds}
-use Rattle.refinement.specs.Demand2.{KeyCall, AnswersAs}
-use Rattle.refinement.specs.Demand3.{Ideal, Answer, ideal, answer, mapAnswer, keep, predict}
-use Rattle.refinement.proofs.Lists.{in-keep, of-keep, distinct-keep, keep-all}
-use Rattle.refinement.proofs.Shape.{facts}
-use Rattle.refinement.proofs.Places.{keyPlace, key-bucket, key-live}
-use Rattle.refinement.proofs.FromUndamaged.{undamaged-shape}
-use Rattle.refinement.proofs.StoreAfter.{HeldIn, StoreAfter}
-use Rattle.refinement.proofs.Add.{added-store}
-use Rattle.refinement.proofs.Delete.{deleted-store}
-use Rattle.refinement.proofs.Update.{Changed, updated-store}
-use Rattle.refinement.proofs.Lookups.{NotHeld}
-use Rattle.refinement.proofs.CallAnswers.{find-held, update-held, add-held, delete-held, find-absent, update-absent, delete-absent, add-full, add-free}
-use Rattle.refinement.proofs.Orientation.{oriented-read, left-reply, left-world}
-use Rattle.refinement.proofs.Refusals.{find-keeps, refused-keeps}
-use Rattle.refinement.proofs.PlainMaps.{pair, value-new, value-not-new, distinct-new, value-changed, value-not-changed, length-changed, distinct-changed, value-taken, value-not-taken, length-taken, distinct-taken}
-use Rattle.refinement.proofs.Agreement.{AgreesOn, Agrees, Steps, leaves, agrees-undamaged, agrees-holds, holds-agrees, after-agrees, kept-agrees}
+use Rattle.refinement.specs.Demand2.{AnswersAs}
+use Rattle.refinement.specs.Demand3.{Lengths, lengthsOf, Ideal, ideal, among, keyAnswer, predict}
+use Rattle.invariant.proofs.Lists.{in-keep, of-keep, distinct-keep, keep-all}
+use Rattle.invariant.proofs.Shape.{IsBucket, shape-sound, facts}
+use Rattle.invariant.proofs.Places.{key-bucket, key-live}
+use Rattle.invariant.proofs.FromUndamaged.{undamaged-shape}
+use Rattle.invariant.proofs.StoreAfter.{HeldIn, StoreAfter}
+use Rattle.invariant.proofs.Add.{target-live, added-store}
+use Rattle.invariant.proofs.Delete.{deleted-store}
+use Rattle.invariant.proofs.Update.{Changed, updated-store}
+use Rattle.invariant.proofs.Lookups.{NotHeld}
+use Rattle.invariant.proofs.CallAnswers.{find-held, update-held, add-held, delete-held, find-absent, update-absent, delete-absent, add-full, add-free}
+use Rattle.refinement.proofs.Orientation.{soundAt, reads-sound, left-reply, left-world}
+use Rattle.refinement.proofs.Refusals.{refused-keeps, find-keeps}
+use Rattle.refinement.proofs.PlainMaps.{pair, value-key, key-value, value-new, value-not-new, distinct-new, value-changed, value-not-changed, keys-changed, length-changed, value-taken, value-not-taken, length-taken, distinct-taken, tells-among}
+use Rattle.refinement.proofs.Agreement.{AgreesOn, Agrees, Steps, leaves, Says, agrees-undamaged, agrees-holds, holds-agrees, after-agrees, kept-agrees}
+
+not-new : (b c : ℕ) → Place.bucket Table.Old b ≡ Place.bucket Table.New c → ⊥
+not-new b c e = let z : _≡_ {A = ℕ} 0 1 = cc in omega arith
 
 module _ (w : World) (i : Ideal) (a : Agrees w i) where
   abbrev s : State
@@ -49,56 +54,132 @@ module _ (w : World) (i : Ideal) (a : Agrees w i) where
   abbrev ps : List Pair
   ps = i .plain .pairs
 
-  -- the ideal with other pairs and other keys unmoved
-  abbrev with-pairs : List Pair → List ℕ → Ideal
-  with-pairs qs unmoved =
-      ideal (i .lengths) (record { capacity = i .plain .capacity; pairs = qs }) (i .tables) unmoved (i .turned)
+  sound : soundAt w ≡ true
+  sound = shape-sound (a .shape)
 
-  -- a refusal
-  refusal : (c : Call) (n : ℕ) (vs : List ℕ) (unmoved : List ℕ) → unmoved ≡ i .unmoved → perform w c .reply .number ≡ suc n
-      → perform w c .reply .values ≡ vs → Steps w c (mapAnswer i unmoved (refusedMap (i .plain) (suc n) vs))
-  unfolding refusedMap mapAnswer answer ideal
-  refusal c n vs unmoved same number values =
-      subst (λ (ks : List ℕ). Steps w c (mapAnswer i ks (refusedMap (i .plain) (suc n) vs))) (sym same)
-      (leaves w i a c (suc n) vs (refused-keeps w c (λ e. omega arith)) number (λ f. values))
+  -- the keys that are unmoved still, of those that have a pair among these
+  abbrev still : List Pair → List ℕ
+  still qs = keep (λ k. among k (keysOf qs)) (i .unmoved)
 
-  -- a writing call, refused and answered
-  module _ {A : Type 0} (c : Call) (unmoved : List ℕ) (reply : A → Reply) (call : List ℕ → List ℕ → After A)
-      (is : perform w c ≡ left reply (orientedBack (s .«second_is_current») call (w .first) (w .second))) where
-    refused : (answer : A) (n : ℕ) → unmoved ≡ i .unmoved → reply answer .number ≡ suc n → reply answer .values ≡ []
-        → call (current w) (other w) ≡ After.after answer (current w) (other w) (w .entries)
-        → Steps w c (mapAnswer i unmoved (refusedMap (i .plain) (suc n) []))
-    refused answer n same number values e =
-        let replied =
-        ap (λ (o : Outcome). o .reply) is ∙ left-reply w reply call answer (current w) (other w) (w .entries) e in
-        refusal c n [] unmoved same (ap (λ (r : Reply). r .number) replied ∙ number)
-        (ap (λ (r : Reply). r .values) replied ∙ values)
+  abbrev with-pairs : List Pair → Ideal
+  with-pairs qs = ideal (withPairs (i .plain) qs) (i .tables) (i .turned) (still qs) (i .index)
 
-    answered : (answer : State → A) (keys : ℕ) (places : Place → ℕ → ℕ → Type 0)
-        (l : StoreAfter s answer (call (current w) (other w)) keys places)
-        → reply (answer (l .state)) .number ≡ 0 → reply (answer (l .state)) .values ≡ []
-        → reply (answer (l .state)) .state ≡ l .state → (qs : List Pair)
-        → AgreesOn (l .state) (l .current) (l .other) (l .entries) (with-pairs qs unmoved)
-        → Steps w c (mapAnswer i unmoved (doneMap (i .plain) qs []))
-    unfolding doneMap mapAnswer answer ideal
-    answered answer keys places l number values state qs on =
-        let replied =
-        ap (λ (o : Outcome). o .reply) is
-        ∙ left-reply w reply call (answer (l .state)) (l .current) (l .other) (l .entries) (l .is) in
-        record {
-          number = ap (λ (r : Reply). r .number) replied ∙ number;
-          values = λ f. ap (λ (r : Reply). r .values) replied ∙ values;
-          agrees =
-              subst (λ (v : World). Agrees v (with-pairs qs unmoved))
-              (sym
-              (ap (carry w) is
-              ∙ left-world w reply call (answer (l .state)) (l .current) (l .other) (l .entries) (l .is) (l .state) number
-              state))
-              (kept-agrees (s .«second_is_current») (l .state) (l .current) (l .other) (l .entries) (with-pairs qs unmoved)
-              (l .same .current) on);
-        }
+  -- an unmoved key has a pair
+  unmoved-held : (k : ℕ) → In k (i .unmoved) → In k (keysOf ps)
+  unfolding Live IsBucket sizeOf
+  unmoved-held k j =
+      let h = a .unmoved-in k j in
+      value-key k (h .value) ps
+      (a .in-map k (h .value)
+      (record { place = Place.bucket Table.Old (h .index); live = h .live; bucket = tt; held = h .held }))
+
+  all-still : still ps ≡ i .unmoved
+  all-still =
+      keep-all (λ k. among k (keysOf ps)) (i .unmoved) (λ k j. tested (tells-among k (keysOf ps)) (unmoved-held k j))
+
+  -- what a place held
+  abbrev Was : Place → ℕ → ℕ → Type 0
+  Was t k v = HeldIn (w .entries) (a .shape .at t) k v
+
+  -- What the new pairs have to say of the new places. Of the old table: what is there was there, and what was there is there
+  -- if it still has a pair.
+  record Pairs (qs : List Pair) (keys : ℕ) (places : Place → ℕ → ℕ → Type 0) : Type 0 where
+    count : length qs ≡ keys
+    distinct : Distinct (keysOf qs)
+    in-map : (t : Place) → Live s t → IsBucket t → (k v : ℕ) → places t k v → valueFor k qs ≡ some v
+    in-store : (k v : ℕ) → valueFor k qs ≡ some v → (t : Place) × Live s t × IsBucket t × places t k v
+    old-before : s .rehashing ≡ true → (b k v : ℕ) → places (Place.bucket Table.Old b) k v
+        → (u : ℕ) × Was (Place.bucket Table.Old b) k u
+    old-after : (b k u : ℕ) → Was (Place.bucket Table.Old b) k u → In k (keysOf qs)
+        → (v : ℕ) × places (Place.bucket Table.Old b) k v
+
+  says : (qs : List Pair) (keys : ℕ) (places : Place → ℕ → ℕ → Type 0) → Pairs qs keys places
+      → Says s keys (s .«rehash_index») places (with-pairs qs)
+  unfolding ideal withPairs IsBucket Live sizeOf
+  says qs keys places p =
+      record {
+        capacity = a .capacity;
+        count = p .count;
+        distinct = p .distinct;
+        tables = a .tables;
+        turned = a .turned;
+        next = a .index;
+        in-map = p .in-map;
+        in-store = p .in-store;
+        in-unmoved =
+            λ rehashing b k v l h.
+            let (u, was) = p .old-before rehashing b k v h in
+            in-keep held k (i .unmoved) (a .in-unmoved rehashing k (record { value = u; index = b; live = l; held = was }))
+            (tested (tells-among k (keysOf qs)) (value-key k v qs (p .in-map (Place.bucket Table.Old b) l tt k v h)));
+        unmoved-in =
+            λ k j.
+            let (there, t) = of-keep held k (i .unmoved) j in
+            let h = a .unmoved-in k there in
+            let (v, is) = p .old-after (h .index) k (h .value) (h .held) (told (tells-among k (keysOf qs)) t) in
+            (h .index, v, h .live, is);
+        unmoved-once = distinct-keep held (i .unmoved) (a .unmoved-once);
+      }
+    where
+      held : ℕ → Bool
+      held k = among k (keysOf qs)
+
+  module _ (key : ℕ) (c : KeyCall) where
+    -- A call that leaves the world, and whose map answers so.
+    module _ (n : ℕ) (vs : List ℕ) (is : mapDoes (i .plain) key c ≡ reply n vs (i .plain)) where
+      stays : carry w (perform w (Call.on key c)) ≡ w → perform w (Call.on key c) .reply .number ≡ n
+          → perform w (Call.on key c) .reply .values ≡ vs → Steps w (Call.on key c) (keyAnswer i (mapDoes (i .plain) key c))
+      unfolding keyAnswer reply ideal
+      stays world number values =
+          subst (λ (r : Reply PlainMap). Steps w (Call.on key c) (keyAnswer i r)) (sym is)
+          (subst (λ (ks : List ℕ). Steps w (Call.on key c) (reply n vs (ideal (i .plain) (i .tables) (i .turned) ks (i .index))))
+          (sym all-still) (leaves w i a (Call.on key c) n vs world number (λ f. values)))
+
+    -- A writing call, refused and answered.
+    module _ {A : Type 0} (replies : A → Reply State) (refusal : A) (call : List ℕ → List ℕ → After A)
+        (is-call : perform w (Call.on key c)
+        ≡ left replies (writing s (w .first) (w .second) (w .entries) refusal call)) where
+      refused : (answer : A) (n : ℕ) → mapDoes (i .plain) key c ≡ reply (suc n) [] (i .plain)
+          → replies answer .number ≡ suc n → replies answer .values ≡ []
+          → call (current w) (other w) ≡ After.after answer (current w) (other w) (w .entries)
+          → Steps w (Call.on key c) (keyAnswer i (mapDoes (i .plain) key c))
+      refused answer n is number values e =
+          let replied =
+          ap (λ (o : Outcome). o .reply) is-call
+          ∙ left-reply w replies refusal call sound answer (current w) (other w) (w .entries) e in
+          let zero-not = ap (λ (r : Reply State). r .number) replied ∙ number in
+          stays (suc n) [] is (refused-keeps w (Call.on key c) (λ z. omega (arith, zero-not))) zero-not (ap (λ (r : Reply State). r .values) replied ∙ values)
+
+      answered : (answer : State → A) (keys : ℕ) (places : Place → ℕ → ℕ → Type 0)
+          (l : StoreAfter s answer (call (current w) (other w)) keys (s .«rehash_index») places) (qs : List Pair)
+          → mapDoes (i .plain) key c ≡ reply 0 [] (withPairs (i .plain) qs)
+          → replies (answer (l .state)) .number ≡ 0 → replies (answer (l .state)) .values ≡ []
+          → replies (answer (l .state)) .state ≡ l .state → Pairs qs keys places
+          → Steps w (Call.on key c) (keyAnswer i (mapDoes (i .plain) key c))
+      unfolding keyAnswer reply withPairs
+      answered answer keys places l qs is number values state p =
+          let replied =
+          ap (λ (o : Outcome). o .reply) is-call
+          ∙ left-reply w replies refusal call sound (answer (l .state)) (l .current) (l .other) (l .entries) (l .is) in
+          subst (λ (r : Reply PlainMap). Steps w (Call.on key c) (keyAnswer i r)) (sym is)
+          (record {
+            number = ap (λ (r : Reply State). r .number) replied ∙ number;
+            values = λ f. ap (λ (r : Reply State). r .values) replied ∙ values;
+            agrees =
+                subst (λ (v : World). Agrees v (with-pairs qs))
+                (sym
+                (ap (carry w) is-call
+                ∙ left-world w replies refusal call sound (answer (l .state)) (l .current) (l .other) (l .entries) (l .is)
+                (l .state) number state))
+                (kept-agrees (s .«second_is_current») (l .state) (l .current) (l .other) (l .entries) (with-pairs qs)
+                (l .same .current) (after-agrees l (with-pairs qs) (says qs keys places p)));
+          })
 
   module _ (key : ℕ) where
+    -- what the map answers, by the key's value
+    does : (c : KeyCall) (o : Option ℕ) → valueFor key ps ≡ o → mapDoes (i .plain) key c ≡ mapAnswer (i .plain) key c o
+    unfolding mapDoes
+    does c o e = ap (mapAnswer (i .plain) key c) e
+
     -- a key with no pair is in no live bucket
     not-held : valueFor key ps ≡ none → NotHeld (a .shape) key
     not-held e t l b n j k =
@@ -113,44 +194,51 @@ module _ (w : World) (i : Ideal) (a : Agrees w i) where
         let z : _≡_ {A = ℕ} 0 1 = cc in
         omega arith
 
-    -- what a place held
-    abbrev Was : Place → ℕ → ℕ → Type 0
-    Was t k v = HeldIn (w .entries) (a .shape .at t) k v
-
     -- Find.
 
-    keyed-find : Steps w (Call.find key) (mapAnswer i (i .unmoved) (mapFind (i .plain) (valueFor key ps)))
-    unfolding perform kept calls.find findReply errorNumber mapFind doneMap mapAnswer answer ideal
+    keyed-find : Steps w (Call.on key KeyCall.find) (keyAnswer i (mapDoes (i .plain) key KeyCall.find))
+    unfolding perform given kept calls.find findReply reply errorNumber mapAnswer
     keyed-find = pick (valueFor key ps) refl
       where
-        pick : (o : Option ℕ) → valueFor key ps ≡ o → Steps w (Call.find key) (mapAnswer i (i .unmoved) (mapFind (i .plain) o))
+        read : FindAnswer → Type 0
+        read r = calls.find s (w .first) (w .second) (w .entries) key ≡ r
+
+        stays-by : (r : FindAnswer) (n : ℕ) (vs : List ℕ) → mapDoes (i .plain) key KeyCall.find ≡ reply n vs (i .plain)
+            → findReply s r .number ≡ n → findReply s r .values ≡ vs → read r
+            → Steps w (Call.on key KeyCall.find) (keyAnswer i (mapDoes (i .plain) key KeyCall.find))
+        stays-by r n vs is number values e =
+            stays key KeyCall.find n vs is (find-keeps w key)
+            (ap (λ (x : FindAnswer). findReply s x .number) e ∙ number)
+            (ap (λ (x : FindAnswer). findReply s x .values) e ∙ values)
+
+        body : List ℕ → List ℕ → FindAnswer
+        body current other = found (w .entries) (lookup s current other (w .entries) key)
+
+        pick : (o : Option ℕ) → valueFor key ps ≡ o
+            → Steps w (Call.on key KeyCall.find) (keyAnswer i (mapDoes (i .plain) key KeyCall.find))
         pick none e =
-            let is = oriented-read w (findIn s (w .entries) key) ∙ find-absent (a .shape) key (not-held e) in
-            refusal (Call.find key) 2 (0 ∷ []) (i .unmoved) refl (ap (λ (r : FindAnswer). findReply s r .number) is)
-            (ap (λ (r : FindAnswer). findReply s r .values) is)
+            stays-by (FindAnswer.Refused Error.Absent) 3 (0 ∷ []) (does KeyCall.find none e) refl refl
+            (reads-sound w (FindAnswer.Refused Error.BadState) body sound ∙ find-absent (a .shape) key (not-held e))
         pick (some value) e =
             let h = a .in-store key value e in
-            let is =
-            oriented-read w (findIn s (w .entries) key)
+            stays-by (FindAnswer.Found value) 0 (value ∷ []) (does KeyCall.find (some value) e) refl refl
+            (reads-sound w (FindAnswer.Refused Error.BadState) body sound
             ∙ find-held (a .shape) key (h .held .entry) (h .place) (h .live) (h .bucket) (h .held .there) (h .held .its-key)
-            ∙ ap FindAnswer.Found (h .held .its-value) in
-            leaves w i a (Call.find key) 0 (value ∷ []) (find-keeps w key) (ap (λ (r : FindAnswer). findReply s r .number) is)
-            (λ f. ap (λ (r : FindAnswer). findReply s r .values) is)
+            ∙ ap FindAnswer.Found (h .held .its-value))
 
     -- Update.
     module _ (value : ℕ) where
-      update-agrees : (held : ℕ) → valueFor key ps ≡ some held → {A : Type 0} {answer : State → A} {outcome : After A}
-          → (l : StoreAfter s answer outcome (keysHeld s) (λ t k v. Changed key value (Was t) k v))
-          → AgreesOn (l .state) (l .current) (l .other) (l .entries) (with-pairs (withValue key value ps) (i .unmoved))
-      unfolding ideal
-      update-agrees held e l =
-          after-agrees l (with-pairs (withValue key value ps) (i .unmoved)) (a .capacity)
-          (length-changed key value ps ∙ a .count) (distinct-changed key value ps (a .distinct)) (a .tables) (a .turned)
-          in-map
-          (λ k v f. in-store k v f (ℕ-discrete k key))
-          (λ moving b k v l h. old-only b k v l h moving)
-          (λ k j. old-all k j (ℕ-discrete k key))
-          (a .unmoved-once)
+      update-pairs : (held : ℕ) → valueFor key ps ≡ some held
+          → Pairs (withValue key value ps) (keysHeld s) (λ t k v. Changed key value (Was t) k v)
+      update-pairs held e =
+          record {
+            count = length-changed key value ps ∙ a .count;
+            distinct = subst (λ (ks : List ℕ). Distinct ks) (sym (keys-changed key value ps)) (a .distinct);
+            in-map = in-map;
+            in-store = λ k v f. in-store k v f (ℕ-discrete k key);
+            old-before = λ rehashing b k v h. before b k v h;
+            old-after = λ b k u h j. after b k u h (ℕ-discrete k key);
+          }
         where
           value-then : valueFor key (withValue key value ps) ≡ some value
           value-then = value-changed key value held ps e
@@ -174,60 +262,70 @@ module _ (w : World) (i : Ideal) (a : Agrees w i) where
               let h = a .in-store k v (sym (value-not-changed key value k ps d) ∙ f) in
               (h .place, h .live, h .bucket, inr (h .held, d))
 
-          old-only : (b k v : ℕ) → b < s .«old_size» → Changed key value (Was (Place.old b)) k v → s .rehashing ≡ true
-              → In k (i .unmoved)
-          old-only b k v l (inl (f, g, was, h)) moving =
-              subst (λ (j : ℕ). In j (i .unmoved)) (sym f)
-              (a .in-unmoved moving key (record { value = was; bucket = b; live = l; held = h }))
-          old-only b k v l (inr (h, d)) moving =
-              a .in-unmoved moving k (record { value = v; bucket = b; live = l; held = h })
+          before : (b k v : ℕ) → Changed key value (Was (Place.bucket Table.Old b)) k v
+              → (u : ℕ) × Was (Place.bucket Table.Old b) k u
+          before b k v (inl (f, g, was, h)) =
+              (was, subst (λ (j : ℕ). Was (Place.bucket Table.Old b) j was) (sym f) h)
+          before b k v (inr (h, d)) = (v, h)
 
-          old-all : (k : ℕ) → In k (i .unmoved) → Dec (k ≡ key)
-              → (b v : ℕ) × (b < s .«old_size») × Changed key value (Was (Place.old b)) k v
-          old-all k j (yes f) =
-              let h = a .unmoved-in key (subst (λ (n : ℕ). In n (i .unmoved)) f j) in
-              (h .bucket, value, h .live, inl (f, refl, h .value, h .held))
-          old-all k j (no d) = let h = a .unmoved-in k j in (h .bucket, h .value, h .live, inr (h .held, d))
+          after : (b k u : ℕ) → Was (Place.bucket Table.Old b) k u → Dec (k ≡ key)
+              → (v : ℕ) × Changed key value (Was (Place.bucket Table.Old b)) k v
+          after b k u h (yes f) =
+              (value, inl (f, refl, u, subst (λ (j : ℕ). Was (Place.bucket Table.Old b) j u) f h))
+          after b k u h (no d) = (u, inr (h, d))
 
-      keyed-update : Steps w (Call.update key value) (mapAnswer i (i .unmoved) (mapUpdate (i .plain) key value (valueFor key ps)))
-      unfolding perform calls.update updateReply errorNumber mapUpdate
+      keyed-update : Steps w (Call.on key (KeyCall.update value))
+          (keyAnswer i (mapDoes (i .plain) key (KeyCall.update value)))
+      unfolding perform given calls.update updateReply reply errorNumber mapAnswer
       keyed-update = pick (valueFor key ps) refl
         where
-          pick : (o : Option ℕ) → valueFor key ps ≡ o
-              → Steps w (Call.update key value) (mapAnswer i (i .unmoved) (mapUpdate (i .plain) key value o))
+          c : KeyCall
+          c = KeyCall.update value
+
+          call : List ℕ → List ℕ → After UpdateAnswer
+          call current other = updated current other (w .entries) value (lookup s current other (w .entries) key)
+
+          bad : UpdateAnswer
+          bad = UpdateAnswer.Refused Error.BadState
+
+          pick : (o : Option ℕ) → valueFor key ps ≡ o → Steps w (Call.on key c) (keyAnswer i (mapDoes (i .plain) key c))
           pick none e =
-              refused (Call.update key value) (i .unmoved) (updateReply s) (updateIn s (w .entries) key value) refl
-              (UpdateAnswer.Refused Error.Absent) 2 refl refl refl (update-absent (a .shape) key (not-held e) value)
+              refused key c (updateReply s) bad call refl (UpdateAnswer.Refused Error.Absent) 2 (does c none e) refl refl
+              (update-absent (a .shape) key (not-held e) value)
           pick (some held) e =
               let h = a .in-store key held e in
               let answer : State → UpdateAnswer = λ t. UpdateAnswer.Updated in
               let places : Place → ℕ → ℕ → Type 0 = λ t k v. Changed key value (Was t) k v in
               let (l, same) =
-              subst (λ (o : After UpdateAnswer). (l : StoreAfter s answer o (keysHeld s) places) × (l .state ≡ s))
+              subst
+              (λ (o : After UpdateAnswer).
+              (l : StoreAfter s answer o (keysHeld s) (s .«rehash_index») places) × (l .state ≡ s))
               (sym (update-held (a .shape) key (h .held .entry) (h .place) (h .live) (h .bucket) (h .held .there) (h .held .its-key) value))
               (updated-store (a .shape) key value (h .held .entry) (h .place) (h .live) (h .bucket) (h .held .there) (h .held .its-key)) in
-              answered (Call.update key value) (i .unmoved) (updateReply s) (updateIn s (w .entries) key value) refl answer
-              (keysHeld s) places l refl refl (sym same) (withValue key value ps) (update-agrees held e l)
+              answered key c (updateReply s) bad call refl answer (keysHeld s) places l (withValue key value ps)
+              (does c (some held) e) refl refl (sym same) (update-pairs held e)
 
       -- Add.
 
+      -- the table that the key is added to
+      abbrev to : Table
+      to = target (s .rehashing)
+
       -- where an added key is, and those that were held
       abbrev Joined : Place → ℕ → ℕ → Type 0
-      Joined t k v = ((t ≡ keyPlace s key (s .rehashing)) × (k ≡ key) × (v ≡ value)) ⊎ Was t k v
+      Joined t k v = ((t ≡ keyPlace s key to) × (k ≡ key) × (v ≡ value)) ⊎ Was t k v
 
-      add-agrees : valueFor key ps ≡ none → {A : Type 0} {answer : State → A} {outcome : After A}
-          → (l : StoreAfter s answer outcome (keysHeld s + 1) Joined)
-          → AgreesOn (l .state) (l .current) (l .other) (l .entries)
-          (with-pairs (pair key value ∷ ps) (i .unmoved))
-      unfolding keyPlace Live ideal
-      add-agrees e l =
-          after-agrees l (with-pairs (pair key value ∷ ps) (i .unmoved)) (a .capacity)
-          (omega (arith, a .count)) (distinct-new key value ps e (a .distinct)) (a .tables) (a .turned)
-          in-map
-          (λ k v f. in-store k v f (ℕ-discrete k key))
-          (λ moving b k v l j. old-only moving b k v l j)
-          (λ k j. let h = a .unmoved-in k j in (h .bucket, h .value, h .live, inr (h .held)))
-          (a .unmoved-once)
+      add-pairs : valueFor key ps ≡ none → Pairs (pair key value ∷ ps) (keysHeld s + 1) Joined
+      unfolding keyPlace target
+      add-pairs e =
+          record {
+            count = omega (arith, a .count);
+            distinct = distinct-new key value ps e (a .distinct);
+            in-map = in-map;
+            in-store = λ k v f. in-store k v f (ℕ-discrete k key);
+            old-before = before;
+            old-after = λ b k u h j. (u, inr h);
+          }
         where
           in-map : (t : Place) → Live s t → IsBucket t → (k v : ℕ) → Joined t k v → valueFor k (pair key value ∷ ps) ≡ some v
           in-map t l b k v (inl (p, f, g)) =
@@ -245,57 +343,61 @@ module _ (w : World) (i : Ideal) (a : Agrees w i) where
               → (t : Place) × Live s t × IsBucket t × Joined t k v
           in-store k v f (yes g) =
               let same : some v ≡ some value =
-              sym f ∙ ap (λ (j : ℕ). valueFor j (pair key value ∷ ps)) g ∙ value-new key value ps in (
-                keyPlace s key (s .rehashing),
-                key-live (a .shape) key (s .rehashing) (λ t. t),
-                key-bucket s key (s .rehashing),
-                inl (refl, g, (cc)),
-              )
+              sym f ∙ ap (λ (j : ℕ). valueFor j (pair key value ∷ ps)) g ∙ value-new key value ps in
+              (keyPlace s key to, key-live (a .shape) key to (target-live s), key-bucket s key to, inl (refl, g, (cc)))
           in-store k v f (no d) =
               let h = a .in-store k v (sym (value-not-new key k value ps d) ∙ f) in
               (h .place, h .live, h .bucket, inr (h .held))
 
-          old-only : s .rehashing ≡ true → (b k v : ℕ) → b < s .«old_size» → Joined (Place.old b) k v → In k (i .unmoved)
-          old-only moving b k v l (inl (p, f, g)) =
-              let new : Place.old b ≡ keyPlace s key true = p ∙ ap (keyPlace s key) moving in
-              let z : _≡_ {A = ℕ} 0 1 = cc in
-              absurd (omega arith)
-          old-only moving b k v l (inr h) =
-              a .in-unmoved moving k (record { value = v; bucket = b; live = l; held = h })
+          before : s .rehashing ≡ true → (b k v : ℕ) → Joined (Place.bucket Table.Old b) k v
+              → (u : ℕ) × Was (Place.bucket Table.Old b) k u
+          before rehashing b k v (inl (p, f, g)) =
+              absurd (not-new b _ (p ∙ ap (λ (r : Bool). keyPlace s key (target r)) rehashing))
+          before rehashing b k v (inr h) = (v, h)
 
-      keyed-add : Steps w (Call.add key value)
-          (mapAnswer i (i .unmoved) (mapAdd (i .plain) key value (valueFor key ps)))
-      unfolding perform calls.add addReply errorNumber mapAdd keysHeld
+      keyed-add : Steps w (Call.on key (KeyCall.add value)) (keyAnswer i (mapDoes (i .plain) key (KeyCall.add value)))
+      unfolding perform given calls.add addReply reply errorNumber mapAnswer keysHeld
       keyed-add = pick (valueFor key ps) refl
         where
-          call : List ℕ → List ℕ → After AddAnswer
-          call = addIn s (w .entries) key value
+          c : KeyCall
+          c = KeyCall.add value
 
-          room : valueFor key ps ≡ none → (t : Bool) → leb (i .plain .capacity) (length ps) ≡ t
-              → Steps w (Call.add key value)
-              (mapAnswer i (i .unmoved) (cond t (refusedMap (i .plain) 5 []) (doneMap (i .plain) (pair key value ∷ ps) [])))
+          call : List ℕ → List ℕ → After AddAnswer
+          call current other = added s current other (w .entries) key value (lookup s current other (w .entries) key)
+
+          bad : AddAnswer
+          bad = AddAnswer.Refused Error.BadState
+
+          full : (t : Bool) → eqb (length ps) (i .plain .capacity) ≡ t → valueFor key ps ≡ none
+              → mapDoes (i .plain) key c
+              ≡ cond t (reply 5 [] (i .plain)) (reply 0 [] (withPairs (i .plain) (pair key value ∷ ps)))
+          full t f e =
+              does c none e
+              ∙ ap (λ (b : Bool). cond b (reply 5 [] (i .plain)) (reply 0 [] (withPairs (i .plain) (pair key value ∷ ps)))) f
+
+          room : valueFor key ps ≡ none → (t : Bool) → eqb (length ps) (i .plain .capacity) ≡ t
+              → Steps w (Call.on key c) (keyAnswer i (mapDoes (i .plain) key c))
           room e true f =
-              let full = leb-true (i .plain .capacity) (length ps) f in
-              refused (Call.add key value) (i .unmoved) (addReply s) call refl (AddAnswer.Refused Error.Full) 4 refl refl refl
+              let reached = eqb-true (length ps) (i .plain .capacity) f in
+              refused key c (addReply s) bad call refl (AddAnswer.Refused Error.Full) 4 (full true f e) refl refl
               (add-full (a .shape) key (not-held e) value
-              (omega (arith, a .count, a .capacity, facts (a .shape) .base .used-fits)))
+              (omega (arith, a .count, a .capacity)))
           room e false f =
-              let fits = leb-false (i .plain .capacity) (length ps) f in
+              let differs = eqb-false (length ps) (i .plain .capacity) f in
               let count = a .count in
               let capacity = a .capacity in
               let l =
-              subst (λ (o : After AddAnswer). StoreAfter s AddAnswer.Added o (keysHeld s + 1) Joined)
+              subst (λ (o : After AddAnswer). StoreAfter s AddAnswer.Added o (keysHeld s + 1) (s .«rehash_index») Joined)
               (sym (add-free (a .shape) key (not-held e) value (λ f. omega arith)))
-              (added-store (a .shape) key value (omega arith) (λ n t l b j k. not-held e t l b n j k) (s .rehashing) refl) in
-              answered (Call.add key value) (i .unmoved) (addReply s) call refl AddAnswer.Added (keysHeld s + 1) Joined l refl refl refl
-              (pair key value ∷ ps) (add-agrees e l)
+              (added-store (a .shape) key value (omega arith) (λ n t l b j k. not-held e t l b n j k) to refl) in
+              answered key c (addReply s) bad call refl AddAnswer.Added (keysHeld s + 1) Joined l (pair key value ∷ ps)
+              (full false f e) refl refl refl (add-pairs e)
 
-          pick : (o : Option ℕ) → valueFor key ps ≡ o
-              → Steps w (Call.add key value) (mapAnswer i (i .unmoved) (mapAdd (i .plain) key value o))
-          pick none e = room e (leb (i .plain .capacity) (length ps)) refl
+          pick : (o : Option ℕ) → valueFor key ps ≡ o → Steps w (Call.on key c) (keyAnswer i (mapDoes (i .plain) key c))
+          pick none e = room e (eqb (length ps) (i .plain .capacity)) refl
           pick (some held) e =
               let h = a .in-store key held e in
-              refused (Call.add key value) (i .unmoved) (addReply s) call refl (AddAnswer.Refused Error.Present) 3 refl refl refl
+              refused key c (addReply s) bad call refl (AddAnswer.Refused Error.Present) 3 (does c (some held) e) refl refl
               (add-held (a .shape) key (h .held .entry) (h .place) (h .live) (h .bucket) (h .held .there) (h .held .its-key) value)
 
     -- Delete.
@@ -304,104 +406,87 @@ module _ (w : World) (i : Ideal) (a : Agrees w i) where
     abbrev Left : Place → ℕ → ℕ → Type 0
     Left t k v = Was t k v × (k ≡ key → ⊥)
 
-    abbrev other-key : ℕ → Bool
-    other-key k = not (eqb k key)
-
-    delete-agrees : (held : ℕ) → valueFor key ps ≡ some held → {A : Type 0} {answer : State → A} {outcome : After A}
-        → (l : StoreAfter s answer outcome (keysHeld s - 1) Left)
-        → AgreesOn (l .state) (l .current) (l .other) (l .entries) (with-pairs (without key ps) (keep other-key (i .unmoved)))
-    unfolding ideal
-    delete-agrees held e l =
-        after-agrees l (with-pairs (without key ps) (keep other-key (i .unmoved))) (a .capacity)
-        (omega (arith, length-taken key held ps e, a .count)) (distinct-taken key ps (a .distinct)) (a .tables) (a .turned)
-        (λ t l b k v h.
-        value-not-taken key k ps (h .1) ∙ a .in-map k v (record { place = t; live = l; bucket = b; held = h .0 }))
-        (λ k v f. in-store k v f (ℕ-discrete k key))
-        (λ moving b k v l h.
-        in-keep other-key k (i .unmoved) (a .in-unmoved moving k (record { value = v; bucket = b; live = l; held = h .0 }))
-        (ap not (ne-eqb k key (h .1))))
-        (λ k j.
-        let (f, t) = of-keep other-key k (i .unmoved) j in
-        let h = a .unmoved-in k f in
-        (h .bucket, h .value, h .live, (h .held, eqb-false k key (not-true (eqb k key) t))))
-        (distinct-keep other-key (i .unmoved) (a .unmoved-once))
+    delete-pairs : (held : ℕ) → valueFor key ps ≡ some held → Pairs (without key ps) (keysHeld s - 1) Left
+    delete-pairs held e =
+        record {
+          count = omega (arith, length-taken key held ps e, a .count);
+          distinct = distinct-taken key ps (a .distinct);
+          in-map =
+              λ t l b k v h.
+              value-not-taken key k ps (h .1) ∙ a .in-map k v (record { place = t; live = l; bucket = b; held = h .0 });
+          in-store = λ k v f. in-store k v f (ℕ-discrete k key);
+          old-before = λ rehashing b k v h. (v, h .0);
+          old-after = λ b k u h j. (u, (h, λ f. gone (subst (λ (n : ℕ). In n (keysOf (without key ps))) f j)));
+        }
       where
+        gone : In key (keysOf (without key ps)) → ⊥
+        gone j =
+            let (v, f) = key-value key (without key ps) j in
+            let none = value-taken key ps (a .distinct) in
+            let z : _≡_ {A = ℕ} 0 1 = cc in
+            omega arith
+
         in-store : (k v : ℕ) → valueFor k (without key ps) ≡ some v → Dec (k ≡ key)
             → (t : Place) × Live s t × IsBucket t × Left t k v
         in-store k v f (yes g) =
-            let gone = value-taken key ps (a .distinct) in
-            let same = ap (λ (j : ℕ). valueFor j (without key ps)) g in
-            let z : _≡_ {A = ℕ} 0 1 = cc in
-            absurd (omega arith)
+            absurd (gone (subst (λ (n : ℕ). In n (keysOf (without key ps))) g (value-key k v (without key ps) f)))
         in-store k v f (no d) =
             let h = a .in-store k v (sym (value-not-taken key k ps d) ∙ f) in
             (h .place, h .live, h .bucket, (h .held, d))
 
-    -- with no such key no unmoved one is taken away
-    none-taken : valueFor key ps ≡ none → keep other-key (i .unmoved) ≡ i .unmoved
-    unfolding Live IsBucket
-    none-taken e =
-        keep-all other-key (i .unmoved)
-        (λ k j.
-        let h = a .unmoved-in k j in
-        ap not
-        (ne-eqb k key
-        (λ f. not-held e (Place.old (h .bucket)) (h .live) tt (h .held .entry) (h .held .there) (h .held .its-key ∙ f))))
-
-    keyed-delete : Steps w (Call.delete key)
-        (mapAnswer i (keep other-key (i .unmoved)) (mapDelete (i .plain) key (valueFor key ps)))
-    unfolding perform calls.delete deleteReply errorNumber mapDelete
+    keyed-delete : Steps w (Call.on key KeyCall.delete) (keyAnswer i (mapDoes (i .plain) key KeyCall.delete))
+    unfolding perform given calls.delete deleteReply reply errorNumber mapAnswer
     keyed-delete = pick (valueFor key ps) refl
       where
         call : List ℕ → List ℕ → After DeleteAnswer
-        call = deleteIn s (w .entries) key
+        call current other = deleted s current other (w .entries) key (lookup s current other (w .entries) key)
+
+        bad : DeleteAnswer
+        bad = DeleteAnswer.Refused Error.BadState
 
         pick : (o : Option ℕ) → valueFor key ps ≡ o
-            → Steps w (Call.delete key) (mapAnswer i (keep other-key (i .unmoved)) (mapDelete (i .plain) key o))
+            → Steps w (Call.on key KeyCall.delete) (keyAnswer i (mapDoes (i .plain) key KeyCall.delete))
         pick none e =
-            refused (Call.delete key) (keep other-key (i .unmoved)) (deleteReply s) call refl (DeleteAnswer.Refused Error.Absent) 2 (none-taken e) refl refl
-            (delete-absent (a .shape) key (not-held e))
+            refused key KeyCall.delete (deleteReply s) bad call refl (DeleteAnswer.Refused Error.Absent) 2
+            (does KeyCall.delete none e) refl refl (delete-absent (a .shape) key (not-held e))
         pick (some held) e =
             let h = a .in-store key held e in
-            let (inNew, before, at, is) =
+            let (t, before, at, is) =
             delete-held (a .shape) key (h .held .entry) (h .place) (h .live) (h .bucket) (h .held .there) (h .held .its-key) in
             let l =
-            subst (λ (o : After DeleteAnswer). StoreAfter s DeleteAnswer.Deleted o (keysHeld s - 1) Left) (sym is)
-            (deleted-store (a .shape) key inNew (h .held .entry) before (at .us) (at .vs) (at .live) (at .split)
+            subst (λ (o : After DeleteAnswer). StoreAfter s DeleteAnswer.Deleted o (keysHeld s - 1) (s .«rehash_index») Left)
+            (sym is)
+            (deleted-store (a .shape) key t (h .held .entry) before (at .us) (at .vs) (at .live) (at .split)
             (at .before-last) (at .its-key)) in
-            answered (Call.delete key) (keep other-key (i .unmoved)) (deleteReply s) call refl DeleteAnswer.Deleted (keysHeld s - 1) Left l refl refl refl
-            (without key ps) (delete-agrees held e l)
+            answered key KeyCall.delete (deleteReply s) bad call refl DeleteAnswer.Deleted (keysHeld s - 1) Left l
+            (without key ps) (does KeyCall.delete (some held) e) refl refl refl (delete-pairs held e)
 
-  -- the step of the induction for the four calls, and what the map answers
-  pub keyed-steps : (c : Call) → KeyCall c → Steps w c (predict i c)
-  unfolding KeyCall predict
-  keyed-steps (Call.find key) k = keyed-find key
-  keyed-steps (Call.update key value) k = keyed-update key value
-  keyed-steps (Call.add key value) k = keyed-add key value
-  keyed-steps (Call.delete key) k = keyed-delete key
+  -- the step of the induction for the four calls
+  keyed-steps : (key : ℕ) (c : KeyCall) → Steps w (Call.on key c) (keyAnswer i (mapDoes (i .plain) key c))
+  keyed-steps key KeyCall.find = keyed-find key
+  keyed-steps key (KeyCall.update value) = keyed-update key value
+  keyed-steps key (KeyCall.add value) = keyed-add key value
+  keyed-steps key KeyCall.delete = keyed-delete key
 
-  -- the ideal answers them as the map does
-  as-map : (c : Call) → KeyCall c → (r : MapReply) → mapReply (i .plain) c ≡ some r
-      → (unmoved : List ℕ) × (predict i c ≡ mapAnswer i unmoved r)
-  unfolding KeyCall predict mapReply
-  as-map (Call.find key) k r e = (_, ap (mapAnswer i (i .unmoved)) (cc))
-  as-map (Call.update key value) k r e = (_, ap (mapAnswer i (i .unmoved)) (cc))
-  as-map (Call.add key value) k r e = (_, ap (mapAnswer i (i .unmoved)) (cc))
-  as-map (Call.delete key) k r e = (_, ap (mapAnswer i (keep (other-key key) (i .unmoved))) (cc))
+  pub on-steps : (l : Lengths) (key : ℕ) (c : KeyCall) → Steps w (Call.on key c) (predict l i (Call.on key c))
+  unfolding predict
+  on-steps l key c = keyed-steps key c
 
 -- demand 2, its first half: on any undamaged store they answer as the map
-pub as-the-map : (w : World) (m : PlainMap) → UndamagedAt w → Holds w m → (c : Call) → KeyCall c → (r : MapReply)
-    → mapReply m c ≡ some r → AnswersAs perform w c r
-unfolding UndamagedAt mapAnswer answer ideal KeyCall
-as-the-map w m undamaged holds c k r e =
+pub as-the-map : (w : World) (m : PlainMap) → UndamagedAt w → Holds w m → (key : ℕ) (c : KeyCall)
+    → AnswersAs perform w (Call.on key c) (mapDoes m key c)
+unfolding UndamagedAt keyAnswer reply ideal
+as-the-map w m undamaged holds key c =
     let (i, is, a) = holds-agrees w (undamaged-shape undamaged) m holds in
-    let (unmoved, same) =
-    as-map w i a c k r (ap (λ (n : PlainMap). mapReply n c) is ∙ e) in
-    let there = subst (λ (x : Answer). Steps w c x) same (keyed-steps w i a c k) in
-    let then = mapAnswer i unmoved r .after in
-    record {
-      number = there .number;
-      values = there .values (λ f. subst (λ (d : Call). KeyCall d) f k);
-      undamaged = agrees-undamaged (carry w (perform w c)) then (there .agrees);
-      holds = agrees-holds (carry w (perform w c)) then (there .agrees);
-    }
+    subst (λ (n : PlainMap). AnswersAs perform w (Call.on key c) (mapDoes n key c)) is (of-ideal i a)
+  where
+    of-ideal : (i : Ideal) → Agrees w i → AnswersAs perform w (Call.on key c) (mapDoes (i .plain) key c)
+    of-ideal i a =
+        let there = keyed-steps w i a key c in
+        let then = keyAnswer i (mapDoes (i .plain) key c) .state in
+        record {
+          number = there .number;
+          values = there .values (λ f. let z : _≡_ {A = ℕ} 0 1 = cc in omega arith);
+          undamaged = agrees-undamaged (carry w (perform w (Call.on key c))) then (there .agrees);
+          holds = agrees-holds (carry w (perform w (Call.on key c))) then (there .agrees);
+        }

@@ -11,15 +11,17 @@ use native.Mathlib.Omega.{arith}
 use lib.ListN.{length, length-map}
 use lib.Dec.{eqb}
 use borrow.Author.Tests.{eqb-true, eq-eqb}
-use Rattle.cursor.specs.Member.{In}
+use Rattle.cursor.specs.Member.{In, keep}
 use Rattle.model.specs.declared.State.{State}
 use Rattle.model.specs.Keys.{bucketOf}
-use Rattle.model.specs.Memory.{Place, Live, Home, IsBucket, keyOf, valueOf}
-use Rattle.refinement.specs.Demand3.{Ideal, keep, lowest}
-use Rattle.refinement.proofs.Lists.{no-member, first-member, in-map, of-map, distinct-map, same-length, in-keep, of-keep, distinct-keep}
-use Rattle.refinement.proofs.LinkedChains.{shape-distinct}
-use Rattle.refinement.proofs.FirstEntries.{FilledFirst, old-empty}
-use Rattle.refinement.proofs.StoreAfter.{HeldIn}
+use Rattle.model.specs.declared.Table.{Table}
+use Rattle.model.specs.Memory.{Place, Live, sizeOf, keyOf, valueOf}
+use Rattle.refinement.specs.Demand3.{Ideal, lowest}
+use Rattle.invariant.proofs.Lists.{no-member, first-member, in-map, of-map, distinct-map, same-length, in-keep, of-keep, distinct-keep}
+use Rattle.invariant.proofs.Shape.{Home, IsBucket}
+use Rattle.invariant.proofs.LinkedChains.{shape-distinct}
+use Rattle.invariant.proofs.FirstEntries.{FilledFirst, old-empty}
+use Rattle.invariant.proofs.StoreAfter.{HeldIn}
 use Rattle.refinement.proofs.Agreement.{AgreesOn}
 
 -- ---- the lowest bucket
@@ -61,11 +63,11 @@ module _ {s : State} {current other entries : List ℕ} {i : Ideal} (a : AgreesO
   at = a .shape .at
 
   -- a key on a chain of the old table calls for that bucket
-  pub called-for : (key value b : ℕ) → b < s .«old_size» → HeldIn entries (at (Place.old b)) key value
+  pub called-for : (key value b : ℕ) → b < s .«old_size» → HeldIn entries (at (Place.bucket Table.Old b)) key value
       → bucketOf key (s .«old_size») ≡ b
-  unfolding Live Home
+  unfolding Live Home sizeOf
   called-for key value b l h =
-      ap (λ (k : ℕ). bucketOf k (s .«old_size»)) (sym (h .its-key)) ∙ a .shape .home (h .entry) (Place.old b) l (h .there)
+      ap (λ (k : ℕ). bucketOf k (s .«old_size»)) (sym (h .its-key)) ∙ a .shape .home (h .entry) (Place.bucket Table.Old b) l (h .there)
 
   -- none, where the old table holds no keys
   pub none-unmoved : s .«old_used» ≡ 0 → i .unmoved ≡ []
@@ -73,27 +75,27 @@ module _ {s : State} {current other entries : List ℕ} {i : Ideal} (a : AgreesO
       no-member (i .unmoved)
       (λ key j.
       let k = a .unmoved-in key j in
-      subst (λ (ns : List ℕ). In (k .held .entry) ns) (old-empty (a .shape) z (k .bucket) (k .live)) (k .held .there))
+      subst (λ (ns : List ℕ). In (k .held .entry) ns) (old-empty (a .shape) z (k .index) (k .live)) (k .held .there))
 
   -- The first filled bucket of the old table.
-  module _ (moving : s .rehashing ≡ true) (b : ℕ) (first : FilledFirst (a .shape) b) where
+  module _ (rehashing : s .rehashing ≡ true) (b : ℕ) (first : FilledFirst (a .shape) b) where
     -- a key there is unmoved
-    held-unmoved : (key value : ℕ) → HeldIn entries (at (Place.old b)) key value → In key (i .unmoved)
+    held-unmoved : (key value : ℕ) → HeldIn entries (at (Place.bucket Table.Old b)) key value → In key (i .unmoved)
     held-unmoved key value h =
-        a .in-unmoved moving key (record { value = value; bucket = b; live = first .live; held = h })
+        a .in-unmoved rehashing key (record { value = value; index = b; live = first .live; held = h })
 
     -- no key calls for a lower bucket, and one for this
     not-lower : (key : ℕ) → In key (i .unmoved) → b ≤ bucketOf key (s .«old_size»)
     not-lower key j =
         let h = a .unmoved-in key j in
-        elim (decLt (h .bucket) b) [
-          | yes k ↦ absurd (subst (λ (ns : List ℕ). In (h .held .entry) ns) (first .empty-before (h .bucket) k) (h .held .there))
-          | no k ↦ omega (arith, called-for key (h .value) (h .bucket) (h .live) (h .held))
+        elim (decLt (h .index) b) [
+          | yes k ↦ absurd (subst (λ (ns : List ℕ). In (h .held .entry) ns) (first .empty-before (h .index) k) (h .held .there))
+          | no k ↦ omega (arith, called-for key (h .value) (h .index) (h .live) (h .held))
         ]
 
-    some-held : (key : ℕ) × (value : ℕ) × HeldIn entries (at (Place.old b)) key value
+    some-held : (key : ℕ) × (value : ℕ) × HeldIn entries (at (Place.bucket Table.Old b)) key value
     some-held =
-        let (n, j) = first-member (at (Place.old b)) (first .filled) in
+        let (n, j) = first-member (at (Place.bucket Table.Old b)) (first .filled) in
         (keyOf entries n, valueOf entries n, record { entry = n; there = j; its-key = refl; its-value = refl })
 
     pub some-unmoved : i .unmoved ≢ []
@@ -107,19 +109,19 @@ module _ {s : State} {current other entries : List ℕ} {i : Ideal} (a : AgreesO
         (called-for key value b (first .live) h)
 
     -- the unmoved keys that call for it are as many as its chain has entries
-    pub moved-count : length (keep (λ j. eqb (bucketOf j (s .«old_size»)) b) (i .unmoved)) ≡ length (at (Place.old b))
-    unfolding Live IsBucket
+    pub moved-count : length (keep (λ j. eqb (bucketOf j (s .«old_size»)) b) (i .unmoved)) ≡ length (at (Place.bucket Table.Old b))
+    unfolding Live IsBucket sizeOf
     moved-count =
         same-length (keep moves (i .unmoved)) (map (keyOf entries) ns) (distinct-keep moves (i .unmoved) (a .unmoved-once))
         (distinct-map (keyOf entries) ns
-        (λ n m j k e. a .shape .keys-distinct n m (Place.old b) (Place.old b) (first .live) (first .live) tt tt j k e)
-        (shape-distinct (a .shape) (Place.old b) (first .live)))
+        (λ n m j k e. a .shape .keys-distinct n m (Place.bucket Table.Old b) (Place.bucket Table.Old b) (first .live) (first .live) tt tt j k e)
+        (shape-distinct (a .shape) (Place.bucket Table.Old b) (first .live)))
         (λ key j.
         let (there, t) = of-keep moves key (i .unmoved) j in
         let h = a .unmoved-in key there in
-        let same : h .bucket ≡ b =
-        sym (called-for key (h .value) (h .bucket) (h .live) (h .held)) ∙ eqb-true (bucketOf key (s .«old_size»)) b t in
-        on-chain key (h .value) (subst (λ (n : ℕ). HeldIn entries (at (Place.old n)) key (h .value)) same (h .held)))
+        let same : h .index ≡ b =
+        sym (called-for key (h .value) (h .index) (h .live) (h .held)) ∙ eqb-true (bucketOf key (s .«old_size»)) b t in
+        on-chain key (h .value) (subst (λ (n : ℕ). HeldIn entries (at (Place.bucket Table.Old n)) key (h .value)) same (h .held)))
         (λ key j.
         let (n, k, e) = of-map (keyOf entries) key ns j in
         let h : HeldIn entries ns key (valueOf entries n) =
@@ -132,7 +134,7 @@ module _ {s : State} {current other entries : List ℕ} {i : Ideal} (a : AgreesO
         moves j = eqb (bucketOf j (s .«old_size»)) b
 
         ns : List ℕ
-        ns = at (Place.old b)
+        ns = at (Place.bucket Table.Old b)
 
         on-chain : (key value : ℕ) → HeldIn entries ns key value → In key (map (keyOf entries) ns)
         on-chain key value h =

@@ -1,14 +1,13 @@
 -- From a call on the current and the other bucket buffer to the world after it.
 -- Assumes nothing.
-use Prim.Native.Nat.{ℕ, zero, suc}
-use mathlib.Core.Path.{_≡_, refl, sym, ap, subst, _∙_}
-use mathlib.Core.Bool.{Bool, true, false, not}
-use mathlib.Core.List.{List}
-use native.Mathlib.Omega.{arith}
+use Prim.Native.Nat.{ℕ}
+use mathlib.Core.Path.{_≡_, refl, ap, _∙_}
+use mathlib.Core.Bool.{Bool, true, false, cond, not}
+use mathlib.Core.List.{List, []}
 use Rattle.model.specs.declared.State.{State}
 use Rattle.model.specs.Answers.{Reply}
-use Rattle.model.specs.Calls.{After, oriented, orientedBack, swapped}
-use Rattle.model.specs.Sequences.{World, left, carry, carriedState}
+use Rattle.model.specs.Calls.{After, sound, oriented, checked, reading, back, writing}
+use Rattle.model.specs.Sequences.{World, world, Outcome, kept, left, carry, carriedState}
 use Rattle.refinement.specs.Worlds.{current, other}
 
 -- the two buffers back in their places, by the flag
@@ -22,26 +21,14 @@ secondBy true c o = c
 
 -- a world from its state, its current and other buffer by a flag, and its entries
 unfoldable pub worldBy : Bool → State → List ℕ → List ℕ → List ℕ → World
-worldBy flag t c o e = record { state = t; first = firstBy flag c o; second = secondBy flag c o; entries = e }
+worldBy flag t c o e = world t (firstBy flag c o) (secondBy flag c o) e
 
 -- what holds of the current and the other buffer of such a world
 module _ (flag : Bool) (t : State) (c o e : List ℕ) (P : List ℕ → List ℕ → Type 0) where
-  by-flag : (f : Bool) → t .«second_is_current» ≡ f
-      → P (oriented f (λ first second. first) (firstBy flag c o) (secondBy flag c o))
-      (oriented f (λ first second. second) (firstBy flag c o) (secondBy flag c o))
-      → P (current (worldBy flag t c o e)) (other (worldBy flag t c o e))
-  unfolding current other worldBy
-  by-flag f h p =
-      subst
-      (λ (g : Bool).
-      P (oriented g (λ first second. first) (firstBy flag c o) (secondBy flag c o))
-      (oriented g (λ first second. second) (firstBy flag c o) (secondBy flag c o)))
-      (sym h) p
-
   -- the state's flag is the one by which the buffers lie
   pub as-kept : t .«second_is_current» ≡ flag → P c o → P (current (worldBy flag t c o e)) (other (worldBy flag t c o e))
-  unfolding oriented firstBy secondBy
-  as-kept h p = by-flag flag h (by flag)
+  unfolding current other worldBy world oriented firstBy secondBy
+  as-kept h p = rw h (by flag)
     where
       by : (f : Bool)
           → P (oriented f (λ first second. first) (firstBy f c o) (secondBy f c o))
@@ -51,8 +38,8 @@ module _ (flag : Bool) (t : State) (c o e : List ℕ) (P : List ℕ → List ℕ
 
   -- it has changed: the buffers change parts
   pub as-turned : t .«second_is_current» ≡ not flag → P o c → P (current (worldBy flag t c o e)) (other (worldBy flag t c o e))
-  unfolding oriented firstBy secondBy
-  as-turned h p = by-flag (not flag) h (by flag)
+  unfolding current other worldBy world oriented firstBy secondBy
+  as-turned h p = rw h (by flag)
     where
       by : (f : Bool)
           → P (oriented (not f) (λ first second. first) (firstBy f c o) (secondBy f c o))
@@ -60,32 +47,24 @@ module _ (flag : Bool) (t : State) (c o e : List ℕ) (P : List ℕ → List ℕ
       by false = p
       by true = p
 
--- what a call leaves of the current and the other buffer, put back in the lent buffers' places
-unfoldable pub turned : {A : Type 0} → Bool → After A → After A
-turned false a = a
-turned true a = swapped a
-
-pub oriented-back : {A : Type 0} (w : World) (call : List ℕ → List ℕ → After A)
-    → orientedBack (w .state .«second_is_current») call (w .first) (w .second)
-    ≡ turned (w .state .«second_is_current») (call (current w) (other w))
-unfolding current other oriented orientedBack turned
-oriented-back w call = by (w .state .«second_is_current»)
+-- a world by its own current and other buffer
+pub world-kept : (w : World)
+    → worldBy (w .state .«second_is_current») (w .state) (current w) (other w) (w .entries) ≡ w
+unfolding worldBy world current other oriented firstBy secondBy
+world-kept w = by (w .state .«second_is_current»)
   where
     by : (f : Bool)
-        → orientedBack f call (w .first) (w .second)
-        ≡ turned f
-        (call (oriented f (λ first second. first) (w .first) (w .second))
-        (oriented f (λ first second. second) (w .first) (w .second)))
+        → worldBy f (w .state) (oriented f (λ first second. first) (w .first) (w .second))
+        (oriented f (λ first second. second) (w .first) (w .second)) (w .entries)
+        ≡ w
     by false = refl
     by true = refl
 
-turned-after : {A : Type 0} (f : Bool) (a : A) (c o e : List ℕ)
-    → turned f (After.after a c o e) ≡ After.after a (firstBy f c o) (secondBy f c o) e
-unfolding turned swapped firstBy secondBy
-turned-after false a c o e = refl
-turned-after true a c o e = refl
+-- the test that a call makes of the state that it is given
+abbrev pub soundAt : World → Bool
+soundAt w = sound (w .state) (current w) (other w) (w .entries)
 
--- a call that reads: its answer on the lent buffers is that on the current and the other
+-- what is given the lent buffers by the state's flag is given the current and the other
 pub oriented-read : {A : Type 0} (w : World) (call : List ℕ → List ℕ → A)
     → oriented (w .state .«second_is_current») call (w .first) (w .second) ≡ call (current w) (other w)
 unfolding current other oriented
@@ -97,36 +76,55 @@ oriented-read w call = by (w .state .«second_is_current»)
     by false = refl
     by true = refl
 
--- the outcome of a writing call, and the world carried on after it was answered 0
-module _ {A : Type 0} (w : World) (reply : A → Reply) (call : List ℕ → List ℕ → After A) (a : A) (c o e : List ℕ)
-    (h : call (current w) (other w) ≡ After.after a c o e) where
-  back : orientedBack (w .state .«second_is_current») call (w .first) (w .second)
-      ≡ After.after a (firstBy (w .state .«second_is_current») c o) (secondBy (w .state .«second_is_current») c o) e
-  back =
-      oriented-back w call
-      ∙ ap (turned (w .state .«second_is_current»)) h
-      ∙ turned-after (w .state .«second_is_current») a c o e
+-- A call that takes a state: refused unless the state is sound, and else its body on the current and the other buffer, ..
+pub reads : {A : Type 0} (w : World) (refusal : A) (call : List ℕ → List ℕ → A)
+    → reading (w .state) (w .first) (w .second) (w .entries) refusal call
+    ≡ cond (soundAt w) (call (current w) (other w)) refusal
+unfolding reading checked
+reads w refusal call = oriented-read w (checked (w .state) (w .entries) (λ c o. refusal) call)
 
-  pub left-reply : left reply (orientedBack (w .state .«second_is_current») call (w .first) (w .second)) .reply ≡ reply a
-  unfolding left
-  left-reply = ap (λ (r : After A). left reply r .reply) back
+-- .. whose buffers lie in the lent ones' places after it
+unfoldable pub put : {A : Type 0} → World → (A → Reply State) → After A → Outcome
+put w reply (After.after a c o e) = kept (worldBy (w .state .«second_is_current») (w .state) c o e) (reply a) []
+
+put-back : {A : Type 0} (w : World) (reply : A → Reply State) (x : After A)
+    → left reply (back (w .state .«second_is_current») x) ≡ put w reply x
+unfolding left put kept worldBy world back firstBy secondBy
+put-back w reply (After.after a c o e) = by (w .state .«second_is_current»)
+  where
+    by : (f : Bool) → left reply (back f (After.after a c o e)) ≡ kept (worldBy f (w .state) c o e) (reply a) []
+    by false = refl
+    by true = refl
+
+pub writes : {A : Type 0} (w : World) (reply : A → Reply State) (refusal : A) (call : List ℕ → List ℕ → After A)
+    → left reply (writing (w .state) (w .first) (w .second) (w .entries) refusal call)
+    ≡ put w reply (cond (soundAt w) (call (current w) (other w)) (After.after refusal (current w) (other w) (w .entries)))
+unfolding writing checked
+writes {A} w reply refusal call =
+    ap (λ (x : After A). left reply (back (w .state .«second_is_current») x))
+    (oriented-read w (checked (w .state) (w .entries) (λ c o. After.after refusal c o (w .entries)) call))
+    ∙ put-back w reply _
+
+-- In a sound state.
+
+pub reads-sound : {A : Type 0} (w : World) (refusal : A) (call : List ℕ → List ℕ → A) → soundAt w ≡ true
+    → reading (w .state) (w .first) (w .second) (w .entries) refusal call ≡ call (current w) (other w)
+reads-sound w refusal call sound = reads w refusal call ∙ rw sound
+
+-- the outcome of a writing call, and the world carried on after it was answered 0
+module _ {A : Type 0} (w : World) (reply : A → Reply State) (refusal : A) (call : List ℕ → List ℕ → After A)
+    (sound : soundAt w ≡ true) (a : A) (c o e : List ℕ) (h : call (current w) (other w) ≡ After.after a c o e) where
+  outcome : left reply (writing (w .state) (w .first) (w .second) (w .entries) refusal call)
+      ≡ kept (worldBy (w .state .«second_is_current») (w .state) c o e) (reply a) []
+  unfolding put
+  outcome = writes w reply refusal call ∙ rw (sound, h)
+
+  pub left-reply : left reply (writing (w .state) (w .first) (w .second) (w .entries) refusal call) .reply ≡ reply a
+  unfolding kept
+  left-reply = ap (λ (p : Outcome). p .reply) outcome
 
   pub left-world : (t : State) → reply a .number ≡ 0 → reply a .state ≡ t
-      → carry w (left reply (orientedBack (w .state .«second_is_current») call (w .first) (w .second)))
+      → carry w (left reply (writing (w .state) (w .first) (w .second) (w .entries) refusal call))
       ≡ worldBy (w .state .«second_is_current») t c o e
-  unfolding left carry worldBy carriedState
-  left-world t n s =
-      ap (λ (r : After A). carry w (left reply r)) back
-      ∙ ap
-      (λ (t′ : State).
-      record {
-        state = t′;
-        first = firstBy (w .state .«second_is_current») c o;
-        second = secondBy (w .state .«second_is_current») c o;
-        entries = e;
-      })
-      (carried (reply a .number) n ∙ s)
-    where
-      carried : (number : ℕ) → number ≡ 0 → carriedState number (w .state) (reply a .state) ≡ reply a .state
-      carried zero n = refl
-      carried (suc number) n = let z : suc number ≡ 0 = n in absurd (omega arith)
+  unfolding kept carry carriedState worldBy world
+  left-world t n s = ap (carry w) outcome ∙ rw (n, s)

@@ -6,16 +6,17 @@ use mathlib.Core.Path.{_≡_, refl, sym, ap, subst, _∙_}
 use mathlib.Core.Logic.{inl, inr}
 use mathlib.Core.Bool.{Bool, cond}
 use mathlib.Core.List.{List, [], _∷_}
-use mathlib.Core.Option.{none, some}
+use mathlib.Core.Option.{Option, none, some}
 use native.Mathlib.Decide.{ℕ-discrete}
 use native.Mathlib.Omega.{arith}
-use lib.ListN.{length}
+use lib.ListN.{length, length-map}
+use lib.Dec.{eqb}
 use borrow.Author.Tests.{eq-eqb, ne-eqb}
 use Rattle.cursor.specs.Member.{Distinct, In}
-use Rattle.model.specs.Sequences.{Pair, valueFor, withValue, without}
-use Rattle.refinement.specs.Worlds.{KeysDistinct}
-use Rattle.refinement.specs.Demand3.{keysOf}
-use Rattle.refinement.proofs.Lists.{in-map, of-map}
+use Rattle.model.specs.Sequences.{Pair, keysOf, valueFor, withValue, without}
+use Rattle.model.proofs.Tests.{Tells, tells-same, tells-eq}
+use Rattle.refinement.specs.Demand3.{among}
+use Rattle.invariant.proofs.Lists.{in-map, tells-any}
 
 -- a pair of the map
 abbrev pub pair : ℕ → ℕ → Pair
@@ -58,24 +59,38 @@ value-under key p ps qs e =
       | no d ↦ value-behind key p ps d ∙ e ∙ sym (value-behind key p qs d)
     ]
 
+-- Which keys have a value.
+
+pub value-key : (key value : ℕ) (ps : List Pair) → valueFor key ps ≡ some value → In key (keysOf ps)
+unfolding valueFor keysOf
+value-key key value [] e = let z : _≡_ {A = ℕ} 0 1 = cc in absurd (omega arith)
+value-key key value (p ∷ ps) e =
+    elim (ℕ-discrete (p .key) key) [
+      | yes h ↦ inl (sym h)
+      | no d ↦ inr (value-key key value ps (sym (value-behind key p ps d) ∙ e))
+    ]
+
+pub key-value : (key : ℕ) (ps : List Pair) → In key (keysOf ps) → (value : ℕ) × (valueFor key ps ≡ some value)
+unfolding valueFor keysOf
+key-value key (p ∷ ps) (inl e) = (p .value, value-here key p ps (sym e))
+key-value key (p ∷ ps) (inr i) =
+    elim (ℕ-discrete (p .key) key) [
+      | yes h ↦ (p .value, value-here key p ps h)
+      | no d ↦ let (value, e) = key-value key ps i in (value, value-behind key p ps d ∙ e)
+    ]
+
+no-key : (key : ℕ) (ps : List Pair) → valueFor key ps ≡ none → In key (keysOf ps) → ⊥
+no-key key ps e i =
+    let (value, f) = key-value key ps i in let z : _≡_ {A = ℕ} 0 1 = cc in omega arith
+
+no-value : (key : ℕ) (ps : List Pair) → (In key (keysOf ps) → ⊥) → valueFor key ps ≡ none
+no-value key ps f = by (valueFor key ps) refl
+  where
+    by : (o : Option ℕ) → valueFor key ps ≡ o → o ≡ none
+    by none e = refl
+    by (some value) e = absurd (f (value-key key value ps e))
+
 module _ (key : ℕ) where
-  -- a key has no value just if it has no pair
-  no-pair : (ps : List Pair) → valueFor key ps ≡ none → (q : Pair) → In q ps → q .key ≡ key → ⊥
-  no-pair (p ∷ ps) e q (inl f) k =
-      let h : valueFor key (p ∷ ps) ≡ some (p .value) = value-here key p ps (sym (ap (λ (r : Pair). r .key) f) ∙ k) in
-      let z : _≡_ {A = ℕ} 0 1 = cc in
-      omega arith
-  no-pair (p ∷ ps) e q (inr i) k =
-      elim (ℕ-discrete (p .key) key) [
-        | yes h ↦ let v = value-here key p ps h in let z : _≡_ {A = ℕ} 0 1 = cc in omega arith
-        | no d ↦ no-pair ps (sym (value-behind key p ps d) ∙ e) q i k
-      ]
-
-  no-value : (ps : List Pair) → ((q : Pair) → In q ps → q .key ≡ key → ⊥) → valueFor key ps ≡ none
-  unfolding valueFor
-  no-value [] h = refl
-  no-value (p ∷ ps) h = value-behind key p ps (h p (inl refl)) ∙ no-value ps (λ q i. h q (inr i))
-
   -- A pair put in front.
 
   pub value-new : (value : ℕ) (ps : List Pair) → valueFor key (pair key value ∷ ps) ≡ some value
@@ -84,10 +99,10 @@ module _ (key : ℕ) where
   pub value-not-new : (k value : ℕ) (ps : List Pair) → (k ≡ key → ⊥) → valueFor k (pair key value ∷ ps) ≡ valueFor k ps
   value-not-new k value ps d = value-behind k (pair key value) ps (λ e. d (sym e))
 
-  pub distinct-new : (value : ℕ) (ps : List Pair) → valueFor key ps ≡ none → KeysDistinct ps
-      → KeysDistinct (pair key value ∷ ps)
-  unfolding KeysDistinct
-  distinct-new value ps e d = (λ q i k. no-pair ps e q i (sym k), d)
+  pub distinct-new : (value : ℕ) (ps : List Pair) → valueFor key ps ≡ none → Distinct (keysOf ps)
+      → Distinct (keysOf (pair key value ∷ ps))
+  unfolding keysOf
+  distinct-new value ps e d = (no-key key ps e, d)
 
   -- The key's pair changed.
   module _ (value : ℕ) where
@@ -118,53 +133,58 @@ module _ (key : ℕ) where
               ∙ value-under k p (withValue key value ps) ps (value-not-changed k ps d)
         ]
 
+    -- the keys are the same
+    pub keys-changed : (ps : List Pair) → keysOf (withValue key value ps) ≡ keysOf ps
+    unfolding keysOf withValue
+    keys-changed [] = refl
+    keys-changed (p ∷ ps) =
+        elim (ℕ-discrete (p .key) key) [
+          | yes h ↦ ap keysOf (changed-here key p ps value h) ∙ ap (λ (k : ℕ). k ∷ keysOf ps) (sym h)
+          | no d ↦ ap keysOf (changed-behind key p ps value d) ∙ ap (λ (ks : List ℕ). p .key ∷ ks) (keys-changed ps)
+        ]
+
     pub length-changed : (ps : List Pair) → length (withValue key value ps) ≡ length ps
-    unfolding withValue
-    length-changed [] = refl
-    length-changed (p ∷ ps) =
-        elim (ℕ-discrete (p .key) key) [
-          | yes h ↦ ap length (changed-here key p ps value h)
-          | no d ↦ ap length (changed-behind key p ps value d) ∙ ap suc (length-changed ps)
-        ]
-
-    -- its pairs have the keys of those before
-    changed-keys : (ps : List Pair) (q : Pair) → In q (withValue key value ps) → (r : Pair) × In r ps × (q .key ≡ r .key)
-    unfolding withValue
-    changed-keys (p ∷ ps) q i = pick (ℕ-discrete (p .key) key) (changed-keys ps q)
-      where
-        behind : (In q (withValue key value ps) → (r : Pair) × In r ps × (q .key ≡ r .key))
-            → In q (p ∷ withValue key value ps) → (r : Pair) × In r (p ∷ ps) × (q .key ≡ r .key)
-        behind ih (inl e) = (p, inl refl, ap (λ (r : Pair). r .key) e)
-        behind ih (inr j) = let (r, k, e) = ih j in (r, inr k, e)
-
-        here : p .key ≡ key → In q (pair key value ∷ ps) → (r : Pair) × In r (p ∷ ps) × (q .key ≡ r .key)
-        here h (inl e) = (p, inl refl, ap (λ (r : Pair). r .key) e ∙ sym h)
-        here h (inr j) = (q, inr j, refl)
-
-        pick : Dec (p .key ≡ key) → (In q (withValue key value ps) → (r : Pair) × In r ps × (q .key ≡ r .key))
-            → (r : Pair) × In r (p ∷ ps) × (q .key ≡ r .key)
-        pick (yes h) ih = here h (subst (λ (l : List Pair). In q l) (changed-here key p ps value h) i)
-        pick (no d) ih = behind ih (subst (λ (l : List Pair). In q l) (changed-behind key p ps value d) i)
-
-    pub distinct-changed : (ps : List Pair) → KeysDistinct ps → KeysDistinct (withValue key value ps)
-    unfolding KeysDistinct withValue
-    distinct-changed [] d = d
-    distinct-changed (p ∷ ps) d =
-        elim (ℕ-discrete (p .key) key) [
-          | yes h ↦ subst KeysDistinct (sym (changed-here key p ps value h)) (λ q i e. d .0 q i (h ∙ e), d .1)
-          | no f ↦
-              subst KeysDistinct (sym (changed-behind key p ps value f))
-              (λ q i e. let (r, j, k) = changed-keys ps q i in d .0 r j (e ∙ k), distinct-changed ps (d .1))
-        ]
+    unfolding keysOf
+    length-changed ps =
+        sym (length-map (withValue key value ps) (λ (p : Pair). p .key))
+        ∙ ap length (keys-changed ps)
+        ∙ length-map ps (λ (p : Pair). p .key)
 
   -- The key's pair taken away.
 
-  pub value-taken : (ps : List Pair) → KeysDistinct ps → valueFor key (without key ps) ≡ none
-  unfolding KeysDistinct without valueFor
+  -- its keys are among those before
+  pub taken-keys : (k : ℕ) (ps : List Pair) → In k (keysOf (without key ps)) → In k (keysOf ps)
+  unfolding keysOf without
+  taken-keys k (p ∷ ps) i = pick (ℕ-discrete (p .key) key) (taken-keys k ps)
+    where
+      behind : (In k (keysOf (without key ps)) → In k (keysOf ps)) → In k (p .key ∷ keysOf (without key ps))
+          → In k (p .key ∷ keysOf ps)
+      behind ih (inl e) = inl e
+      behind ih (inr j) = inr (ih j)
+
+      pick : Dec (p .key ≡ key) → (In k (keysOf (without key ps)) → In k (keysOf ps)) → In k (keysOf (p ∷ ps))
+      pick (yes h) ih = inr (subst (λ (l : List Pair). In k (keysOf l)) (taken-here key p ps h) i)
+      pick (no d) ih = behind ih (subst (λ (l : List Pair). In k (keysOf l)) (taken-behind key p ps d) i)
+
+  pub distinct-taken : (ps : List Pair) → Distinct (keysOf ps) → Distinct (keysOf (without key ps))
+  unfolding keysOf without
+  distinct-taken [] d = d
+  distinct-taken (p ∷ ps) d =
+      elim (ℕ-discrete (p .key) key) [
+        | yes h ↦ subst (λ (l : List Pair). Distinct (keysOf l)) (sym (taken-here key p ps h)) (d .1)
+        | no f ↦
+            subst (λ (l : List Pair). Distinct (keysOf l)) (sym (taken-behind key p ps f))
+            (λ i. d .0 (taken-keys (p .key) ps i), distinct-taken ps (d .1))
+      ]
+
+  pub value-taken : (ps : List Pair) → Distinct (keysOf ps) → valueFor key (without key ps) ≡ none
+  unfolding keysOf without valueFor
   value-taken [] d = refl
   value-taken (p ∷ ps) d =
       elim (ℕ-discrete (p .key) key) [
-        | yes h ↦ ap (valueFor key) (taken-here key p ps h) ∙ no-value ps (λ q i e. d .0 q i (h ∙ sym e))
+        | yes h ↦
+            ap (valueFor key) (taken-here key p ps h)
+            ∙ no-value key ps (λ i. d .0 (subst (λ (k : ℕ). In k (keysOf ps)) (sym h) i))
         | no f ↦
             ap (valueFor key) (taken-behind key p ps f) ∙ value-behind key p (without key ps) f ∙ value-taken ps (d .1)
       ]
@@ -189,51 +209,8 @@ module _ (key : ℕ) where
             ∙ ap suc (length-taken held ps (sym (value-behind key p ps d) ∙ e))
       ]
 
-  -- its pairs are among those before
-  taken-pairs : (ps : List Pair) (q : Pair) → In q (without key ps) → In q ps
-  unfolding without
-  taken-pairs (p ∷ ps) q i = pick (ℕ-discrete (p .key) key) (taken-pairs ps q)
-    where
-      behind : (In q (without key ps) → In q ps) → In q (p ∷ without key ps) → In q (p ∷ ps)
-      behind ih (inl e) = inl e
-      behind ih (inr j) = inr (ih j)
+-- A key's pair.
 
-      pick : Dec (p .key ≡ key) → (In q (without key ps) → In q ps) → In q (p ∷ ps)
-      pick (yes h) ih = inr (subst (λ (l : List Pair). In q l) (taken-here key p ps h) i)
-      pick (no d) ih = behind ih (subst (λ (l : List Pair). In q l) (taken-behind key p ps d) i)
-
-  pub distinct-taken : (ps : List Pair) → KeysDistinct ps → KeysDistinct (without key ps)
-  unfolding KeysDistinct without
-  distinct-taken [] d = d
-  distinct-taken (p ∷ ps) d =
-      elim (ℕ-discrete (p .key) key) [
-        | yes h ↦ subst KeysDistinct (sym (taken-here key p ps h)) (d .1)
-        | no f ↦
-            subst KeysDistinct (sym (taken-behind key p ps f))
-            (λ q i e. d .0 q (taken-pairs ps q i) e, distinct-taken ps (d .1))
-      ]
-
--- The keys of a map's pairs.
-
-pub value-key : (key value : ℕ) (ps : List Pair) → valueFor key ps ≡ some value → In key (keysOf ps)
-unfolding valueFor keysOf
-value-key key value [] e = let z : _≡_ {A = ℕ} 0 1 = cc in absurd (omega arith)
-value-key key value (p ∷ ps) e =
-    elim (ℕ-discrete (p .key) key) [
-      | yes h ↦ inl (sym h)
-      | no d ↦ inr (value-key key value ps (sym (value-behind key p ps d) ∙ e))
-    ]
-
-pub key-value : (key : ℕ) (ps : List Pair) → In key (keysOf ps) → (value : ℕ) × (valueFor key ps ≡ some value)
-unfolding valueFor keysOf
-key-value key (p ∷ ps) (inl e) = (p .value, value-here key p ps (sym e))
-key-value key (p ∷ ps) (inr i) =
-    elim (ℕ-discrete (p .key) key) [
-      | yes h ↦ (p .value, value-here key p ps h)
-      | no d ↦ let (value, e) = key-value key ps i in (value, value-behind key p ps d ∙ e)
-    ]
-
--- and its pair
 pub value-pair : (key value : ℕ) (ps : List Pair) → valueFor key ps ≡ some value → In (pair key value) ps
 unfolding valueFor
 value-pair key value [] e = let z : _≡_ {A = ℕ} 0 1 = cc in absurd (omega arith)
@@ -247,22 +224,18 @@ value-pair key value (p ∷ ps) e =
     some-same : {m n : ℕ} → some m ≡ some n → m ≡ n
     some-same e = cc
 
-pub pair-value : (p : Pair) (ps : List Pair) → KeysDistinct ps → In p ps → valueFor (p .key) ps ≡ some (p .value)
-unfolding KeysDistinct
+pub pair-value : (p : Pair) (ps : List Pair) → Distinct (keysOf ps) → In p ps → valueFor (p .key) ps ≡ some (p .value)
+unfolding keysOf
 pair-value p (q ∷ ps) d (inl e) =
     value-here (p .key) q ps (ap (λ (x : Pair). x .key) (sym e)) ∙ ap (λ (x : Pair). some (x .value)) (sym e)
-pair-value p (q ∷ ps) d (inr i) = value-behind (p .key) q ps (d .0 p i) ∙ pair-value p ps (d .1) i
+pair-value p (q ∷ ps) d (inr i) =
+    value-behind (p .key) q ps
+    (λ e. d .0 (subst (λ (k : ℕ). In k (keysOf ps)) (sym e) (in-map (λ (r : Pair). r .key) p ps i)))
+    ∙ pair-value p ps (d .1) i
 
-pub distinct-keys : (ps : List Pair) → KeysDistinct ps → Distinct (keysOf ps)
-unfolding KeysDistinct keysOf
-distinct-keys [] d = tt
-distinct-keys (p ∷ ps) d = (alone, distinct-keys ps (d .1))
-  where
-    alone : In (p .key) (keysOf ps) → ⊥
-    alone i = let (q, j, e) = of-map (λ (q : Pair). q .key) (p .key) ps i in d .0 q j e
-
-pub keys-distinct : (ps : List Pair) → Distinct (keysOf ps) → KeysDistinct ps
-unfolding KeysDistinct keysOf
-keys-distinct [] d = tt
-keys-distinct (p ∷ ps) d =
-    (λ q i e. d .0 (subst (λ (k : ℕ). In k (keysOf ps)) (sym e) (in-map (λ (q : Pair). q .key) q ps i)), keys-distinct ps (d .1))
+-- The test for a key among some.
+pub tells-among : (key : ℕ) (keys : List ℕ) → Tells (In key keys) (among key keys)
+unfolding among
+tells-among key keys =
+    tells-same (λ h. subst (λ (k : ℕ). In k keys) (h .2) (h .1)) (λ i. (key, i, refl))
+    (tells-any (λ k. k ≡ key) (λ k. eqb k key) (λ k. tells-eq k key) keys)

@@ -2,73 +2,82 @@
 -- Assumes nothing.
 use Prim.Native.Nat.{ℕ, zero, suc, _<_}
 use mathlib.Core.Path.{_≡_, refl, sym, ap, subst, subst₂, _∙_}
-use mathlib.Core.Bool.{Bool, true, false, _&&_, cond, not}
+use mathlib.Core.Bool.{Bool, true, false, _&&_, cond}
 use mathlib.Core.List.{List, [], _∷_}
 use native.Mathlib.Omega.{arith}
 use lib.ListN.{length, take, length-take}
-use lib.Dec.{leb, eqb}
-use lib.Pow.{pow-pos}
+use Rattle.cursor.specs.Member.{In}
 use Rattle.model.specs.declared.State.{State}
+use Rattle.model.specs.declared.Table.{Table}
 use Rattle.model.specs.declared.Error.{Error}
 use Rattle.model.specs.declared.InitAnswer.{InitAnswer}
 use Rattle.model.specs.declared.ResizeAnswer.{ResizeAnswer}
 use Rattle.model.specs.declared.SizeAnswer.{SizeAnswer}
-use Rattle.model.specs.Answers.{Reply, errorNumber, initReply, resizeReply, sizeReply, bucketsReply}
-use Rattle.model.specs.Limits.{legalSize}
-use Rattle.model.specs.Memory.{Place, Live, IsBucket}
-use Rattle.model.specs.Calls.{After, oriented, sound, suggested, suggestedSizeIn, bucketsIn, keysHeld, cleared, noState, newState, withinLimits, longEnough, acceptable, resizing, resized, resizeIn}
+use Rattle.model.specs.Answers.{Reply, reply, errorNumber, initReply, resizeReply, sizeReply, tableReply}
+use Rattle.model.specs.Limits.{largestExponent, legalCapacity, legalSize}
+use Rattle.model.specs.Memory.{Place, Live, sizeOf, keysHeld}
+use Rattle.model.specs.Calls.{After, oriented, stateOf, oldNew, emptyState, retabled, suggested, cleared, noState, longEnough, acceptable, resizing, resized}
 use Rattle.model.specs.Calls as calls
-use Rattle.model.specs.Sequences.{World, Outcome, Call, kept, left, perform, carriedState, carry, valueFor, Tables}
-use Rattle.refinement.specs.Worlds.{current, other, tablesBy, tablesOf, KeysDistinct}
-use Rattle.refinement.specs.Demand3.{Lengths, lengthsOf, Ideal, begun, ideal, answer, startNumber, startAnswer, keysOf, resizeAnswer, predict}
-use Rattle.refinement.proofs.Shape.{Shape, shape-sound, facts}
-use Rattle.refinement.proofs.StoreAfter.{HeldIn, held-as}
-use Rattle.refinement.proofs.Init.{startedAt, startedEntries, started-shape, started-at}
-use Rattle.refinement.proofs.Resize.{resizedAt, resized-shape, resized-at}
-use Rattle.refinement.proofs.Orientation.{firstBy, secondBy, worldBy, oriented-read, left-reply, left-world}
-use Rattle.refinement.proofs.Refusals.{suggestedSize-keeps, buckets-keeps, refused-keeps}
-use Rattle.refinement.proofs.LiveTables.{exponent, legal-power}
-use Rattle.refinement.proofs.PlainMaps.{value-key, key-value, distinct-keys}
+use Rattle.model.specs.Walk.{Tables, tablesBy, tablesOf}
+use Rattle.model.specs.Sequences.{World, world, Outcome, ReadCall, Call, kept, left, given, perform, carriedState, carry, keysOf, valueFor}
+use Rattle.model.proofs.Power.{legal-pos}
+use Rattle.refinement.specs.Worlds.{current, other}
+use Rattle.refinement.specs.Demand3.{Lengths, lengthsOf, Ideal, begun, ideal, startNumber, startAnswer, resizeAnswer, readAnswer, predict}
+use Rattle.invariant.proofs.Shape.{IsBucket, Shape, shape-sound, facts}
+use Rattle.invariant.proofs.StoreAfter.{HeldIn, held-as}
+use Rattle.invariant.proofs.Init.{startedAt, startedEntries, started-shape, started-at}
+use Rattle.invariant.proofs.Resize.{resizedAt, resized-shape, resized-at}
+use Rattle.refinement.proofs.Orientation.{firstBy, secondBy, worldBy, soundAt, reads-sound, left-reply, left-world}
+use Rattle.refinement.proofs.Refusals.{refused-keeps, read-keeps}
+use Rattle.refinement.proofs.PlainMaps.{value-key, key-value}
 use Rattle.refinement.proofs.Agreement.{HeldAt, HeldOld, AgreesOn, Agrees, Steps, leaves, retabled-agrees, kept-agrees}
 
 -- The suggested size and a look change nothing.
 
--- one entry at least, where there are some
-look-number : (s : State) (heads : List ℕ) → 0 < length heads → bucketsReply s heads .number ≡ 0
-unfolding bucketsReply
-look-number s [] l = absurd (omega (arith, l))
-look-number s (head ∷ heads) l = refl
+-- one bucket at least, where there are some
+look-reply : (s : State) (heads : List ℕ) → 0 < length heads → tableReply s heads ≡ reply 0 heads s
+unfolding tableReply
+look-reply s [] l = absurd (omega (arith, l))
+look-reply s (head ∷ heads) l = refl
 
 module _ (w : World) (i : Ideal) (a : Agrees w i) where
-  abbrev sound-test : Bool
-  sound-test = sound (w .state) (current w) (other w) (w .entries)
+  abbrev sound : soundAt w ≡ true
+  sound = shape-sound (a .shape)
 
-  pub suggested-steps : (growing : Bool) → Steps w (Call.suggestedSize growing) (predict i (Call.suggestedSize growing))
-  unfolding predict perform kept calls.suggestedSize suggestedSizeIn sizeReply
+  suggested-steps : (growing : Bool)
+      → Steps w (Call.read (ReadCall.suggestedSize growing)) (readAnswer i (ReadCall.suggestedSize growing))
+  unfolding readAnswer perform given kept calls.suggestedSize sizeReply reply
   suggested-steps growing =
       let replied =
       ap (sizeReply (w .state))
-      (oriented-read w (suggestedSizeIn (w .state) (w .entries) growing)
-      ∙ ap
-      (λ (t : Bool).
-      cond t (SizeAnswer.Suggested (suggested growing (keysHeld (w .state)))) (SizeAnswer.Refused Error.BadState))
-      (shape-sound (a .shape))) in
-      leaves w i a (Call.suggestedSize growing) 0 (suggested growing (length (i .plain .pairs)) ∷ [])
-      (suggestedSize-keeps w growing) (ap (λ (r : Reply). r .number) replied)
-      (λ f. ap (λ (r : Reply). r .values) replied ∙ ap (λ (n : ℕ). suggested growing n ∷ []) (sym (a .count)))
+      (reads-sound w (SizeAnswer.Refused Error.BadState)
+      (λ current other. SizeAnswer.Suggested (suggested growing (keysHeld (w .state)))) sound) in
+      leaves w i a (Call.read (ReadCall.suggestedSize growing)) 0 (suggested growing (length (i .plain .pairs)) ∷ [])
+      (read-keeps w (ReadCall.suggestedSize growing)) (ap (λ (r : Reply State). r .number) replied)
+      (λ f. ap (λ (r : Reply State). r .values) replied ∙ ap (λ (n : ℕ). suggested growing n ∷ []) (sym (a .count)))
 
-  pub buckets-steps : Steps w Call.buckets (predict i Call.buckets)
-  unfolding predict perform kept calls.buckets bucketsIn
-  buckets-steps =
-      let base = facts (a .shape) .base in
-      let heads =
-      oriented-read w (bucketsIn (w .state) (w .entries))
-      ∙ ap (λ (t : Bool). cond t (take (w .state .«old_size») (current w)) []) (shape-sound (a .shape)) in
-      leaves w i a Call.buckets 0 [] (buckets-keeps w)
-      (ap (λ (l : List ℕ). bucketsReply (w .state) l .number) heads
-      ∙ look-number (w .state) (take (w .state .«old_size») (current w))
-      (simp length-take (omega (arith, base .old-fits, legal-power (w .state .«old_size») (base .old-legal) .0, pow-pos (exponent (w .state .«old_size»))))))
-      (λ f. absurd (f refl))
+  -- what a look answers
+  looked : perform w (Call.read ReadCall.currentTable) .reply ≡ reply 0 (take (w .state .«old_size») (current w)) (w .state)
+  unfolding perform given kept calls.currentTable legalSize
+  looked =
+      ap (tableReply (w .state)) (reads-sound w [] (λ current other. take (w .state .«old_size») current) sound)
+      ∙ look-reply (w .state) (take (w .state .«old_size») (current w))
+      (simp length-take (omega (arith, facts (a .shape) .old-fits, legal-pos largestExponent (w .state .«old_size») (facts (a .shape) .old-legal))))
+
+  pub look-values : perform w (Call.read ReadCall.currentTable) .reply .values ≡ take (w .state .«old_size») (current w)
+  unfolding reply
+  look-values = ap (λ (r : Reply State). r .values) looked
+
+  look-steps : Steps w (Call.read ReadCall.currentTable) (readAnswer i ReadCall.currentTable)
+  unfolding readAnswer perform given kept reply
+  look-steps =
+      leaves w i a (Call.read ReadCall.currentTable) 0 [] (read-keeps w ReadCall.currentTable)
+      (ap (λ (r : Reply State). r .number) looked) (λ f. absurd (f refl))
+
+  pub read-steps : (l : Lengths) (c : ReadCall) → Steps w (Call.read c) (predict l i (Call.read c))
+  unfolding predict
+  read-steps l (ReadCall.suggestedSize growing) = suggested-steps growing
+  read-steps l ReadCall.currentTable = look-steps
 
 -- A start.
 
@@ -77,7 +86,7 @@ module _ (w : World) (capacity size : ℕ) where
   started = perform w (Call.init capacity size)
 
   abbrev limits : Bool
-  limits = withinLimits capacity size
+  limits = legalCapacity capacity && legalSize size
 
   abbrev long : Bool
   long = longEnough capacity size (length (w .first)) (length (w .entries))
@@ -85,7 +94,7 @@ module _ (w : World) (capacity size : ℕ) where
   -- what it leaves, by the same
   abbrev ready : After InitAnswer
   ready =
-      After.after (InitAnswer.Ready (newState capacity size)) (cleared size (w .first)) (w .second)
+      After.after (InitAnswer.Ready (emptyState size 1 capacity)) (cleared size (w .first)) (w .second)
       (startedEntries capacity (w .entries))
 
   abbrev startedBy : Bool → Bool → Outcome
@@ -95,12 +104,13 @@ module _ (w : World) (capacity size : ℕ) where
       (cond b ready (After.after (InitAnswer.Refused Error.BadState noState) (w .first) (w .second) (w .entries)))
       (After.after (InitAnswer.Refused Error.BadSize noState) (w .first) (w .second) (w .entries)))
 
-  -- a start's number goes by the limits and the lengths alone, and it has no values
+  -- its number goes by the limits and the lengths alone, and it has no values
   init-answers : (started .reply .number ≡ startNumber (lengthsOf w) capacity size) × (started .reply .values ≡ [])
-  unfolding perform calls.init left initReply errorNumber startNumber lengthsOf
+  unfolding perform calls.init left initReply reply errorNumber startNumber lengthsOf
   init-answers = by limits long
     where
-      by : (a b : Bool) → (startedBy a b .reply .number ≡ cond a (cond b 0 1) 6) × (startedBy a b .reply .values ≡ [])
+      by : (a b : Bool)
+          → (startedBy a b .reply .number ≡ cond a (cond b 0 1) 6) × (startedBy a b .reply .values ≡ [])
       by true true = (refl, refl)
       by true false = (refl, refl)
       by false b = (refl, refl)
@@ -110,7 +120,7 @@ module _ (w : World) (capacity size : ℕ) where
 
   -- answered 0, the tests were passed
   passed : started .reply .number ≡ 0 → (limits ≡ true) × (long ≡ true)
-  unfolding perform calls.init left initReply errorNumber
+  unfolding perform calls.init left initReply reply errorNumber
   passed z = by limits long z
     where
       by : (a b : Bool) → startedBy a b .reply .number ≡ 0 → (a ≡ true) × (b ≡ true)
@@ -121,18 +131,13 @@ module _ (w : World) (capacity size : ℕ) where
   -- the store then
   init-world : limits ≡ true → long ≡ true
       → carry w started
-      ≡ worldBy false (newState capacity size) (cleared size (w .first)) (w .second) (startedEntries capacity (w .entries))
-  unfolding perform calls.init left initReply carry carriedState worldBy firstBy secondBy
+      ≡ worldBy false (emptyState size 1 capacity) (cleared size (w .first)) (w .second) (startedEntries capacity (w .entries))
+  unfolding perform calls.init left initReply reply carry carriedState worldBy firstBy secondBy
   init-world p q = by limits long p q
     where
       by : (a b : Bool) → a ≡ true → b ≡ true
           → carry w (startedBy a b)
-          ≡ record {
-            state = newState capacity size;
-            first = cleared size (w .first);
-            second = w .second;
-            entries = startedEntries capacity (w .entries);
-          }
+          ≡ world (emptyState size 1 capacity) (cleared size (w .first)) (w .second) (startedEntries capacity (w .entries))
       by true true p q = refl
       by true false p q = let z : _≡_ {A = ℕ} 0 1 = cc in absurd (omega arith)
       by false b p q = let z : _≡_ {A = ℕ} 0 1 = cc in absurd (omega arith)
@@ -141,18 +146,17 @@ module _ (w : World) (capacity size : ℕ) where
   none-held : (entries : List ℕ) (p : Place) → IsBucket p → (key value : ℕ) → HeldIn entries (startedAt capacity p) key value → ⊥
   unfolding startedAt IsBucket
   none-held entries Place.free b key value h = b
-  none-held entries (Place.old n) b key value h = h .there
-  none-held entries (Place.new n) b key value h = h .there
+  none-held entries (Place.bucket t n) b key value h = h .there
 
   -- a start answered 0 leaves a store that agrees with the ideal's beginning, whatever was before
-  pub init-agrees : (lengths : Lengths) → started .reply .number ≡ 0 → Agrees (carry w started) (begun lengths capacity size)
-  unfolding begun newState keysHeld KeysDistinct valueFor tablesOf tablesBy ideal
-  init-agrees lengths z =
+  pub init-agrees : started .reply .number ≡ 0 → Agrees (carry w started) (begun capacity size)
+  unfolding begun emptyState stateOf oldNew keysHeld keysOf valueFor tablesOf tablesBy ideal
+  init-agrees z =
       let (p, q) = passed z in
       let h = started-shape capacity size (w .first) (w .second) (w .entries) p q in
       let e = startedEntries capacity (w .entries) in
-      subst (λ (v : World). Agrees v (begun lengths capacity size)) (sym (init-world p q))
-      (kept-agrees false (newState capacity size) (cleared size (w .first)) (w .second) e (begun lengths capacity size) refl
+      subst (λ (v : World). Agrees v (begun capacity size)) (sym (init-world p q))
+      (kept-agrees false (emptyState size 1 capacity) (cleared size (w .first)) (w .second) e (begun capacity size) refl
       (record {
         shape = h;
         capacity = refl;
@@ -162,34 +166,34 @@ module _ (w : World) (capacity size : ℕ) where
             λ key value k.
             absurd
             (none-held e (k .place) (k .bucket) key value
-            (held-as
-            (started-at capacity size (w .first) (w .second) (w .entries) p q (k .place)) (k .held)));
+            (held-as (started-at capacity size (w .first) (w .second) (w .entries) p q (k .place)) (k .held)));
         in-store = λ key value f. let z : _≡_ {A = ℕ} 0 1 = cc in absurd (omega arith);
         tables = refl;
         turned = refl;
+        index = refl;
         unmoved-in = λ key f. absurd f;
-        in-unmoved = λ moving key k. let z : _≡_ {A = ℕ} 0 1 = cc in absurd (omega arith);
+        in-unmoved = λ rehashing key k. let z : _≡_ {A = ℕ} 0 1 = cc in absurd (omega arith);
         unmoved-once = tt;
       }))
 
 -- a start, from any store that agrees
-pub init-steps : (w : World) (i : Ideal) → Agrees w i → i .lengths ≡ lengthsOf w → (capacity size : ℕ)
-    → Steps w (Call.init capacity size) (predict i (Call.init capacity size))
-unfolding predict startAnswer answer
-init-steps w i a same capacity size = by (startNumber (i .lengths) capacity size) refl
+pub init-steps : (w : World) (i : Ideal) → Agrees w i → (l : Lengths) → lengthsOf w ≡ l → (capacity size : ℕ)
+    → Steps w (Call.init capacity size) (predict l i (Call.init capacity size))
+unfolding predict startAnswer reply
+init-steps w i a l same capacity size = by (startNumber l capacity size) refl
   where
     c : Call
     c = Call.init capacity size
 
-    number : perform w c .reply .number ≡ startNumber (i .lengths) capacity size
-    number = init-number w capacity size ∙ ap (λ (l : Lengths). startNumber l capacity size) (sym same)
+    number : perform w c .reply .number ≡ startNumber l capacity size
+    number = init-number w capacity size ∙ ap (λ (k : Lengths). startNumber k capacity size) same
 
-    by : (n : ℕ) → startNumber (i .lengths) capacity size ≡ n → Steps w c (startAnswer i capacity size n)
+    by : (n : ℕ) → startNumber l capacity size ≡ n → Steps w c (startAnswer i capacity size n)
     by zero e =
         record {
           number = number ∙ e;
           values = λ f. init-answers w capacity size .1;
-          agrees = init-agrees w capacity size (i .lengths) (number ∙ e);
+          agrees = init-agrees w capacity size (number ∙ e);
         }
     by (suc n) e =
         leaves w i a c (suc n) [] (refused-keeps w c (λ z. omega (arith, number, e))) (number ∙ e)
@@ -199,12 +203,12 @@ init-steps w i a same capacity size = by (startNumber (i .lengths) capacity size
 
 -- what it holds then, and what it held
 module _ {s : State} {current other entries : List ℕ} (h : Shape s current other entries) (size : ℕ)
-    (resting : s .rehashing ≡ false) (accepted : acceptable s other size ≡ true) (key value : ℕ) where
+    (resting : s .rehashing ≡ false) (accepted : acceptable (s .«old_size») (length other) size ≡ true) (key value : ℕ) where
   abbrev then : Shape (resizing s size) current (cleared size other) entries
   then = resized-shape h size resting accepted
 
   resized-before : HeldAt (resizing s size) entries (then .at) key value → HeldAt s entries (h .at) key value
-  unfolding Live IsBucket resizedAt resizing
+  unfolding Live IsBucket resizedAt resizing retabled stateOf oldNew sizeOf
   resized-before k =
       by (k .place) (k .live) (k .bucket)
       (held-as (resized-at h size resting accepted (k .place)) (k .held))
@@ -212,71 +216,70 @@ module _ {s : State} {current other entries : List ℕ} (h : Shape s current oth
       by : (p : Place) → Live (resizing s size) p → IsBucket p → HeldIn entries (resizedAt (h .at) p) key value
           → HeldAt s entries (h .at) key value
       by Place.free l b k = absurd b
-      by (Place.old n) l b k = record { place = Place.old n; live = l; bucket = tt; held = k }
-      by (Place.new n) l b k = absurd (k .there)
-
-  resized-after : HeldAt s entries (h .at) key value → HeldAt (resizing s size) entries (then .at) key value
-  unfolding Live IsBucket resizedAt resizing
-  resized-after k = by (k .place) (k .live) (k .bucket) (k .held)
-    where
-      by : (p : Place) → Live s p → IsBucket p → HeldIn entries (h .at p) key value
-          → HeldAt (resizing s size) entries (then .at) key value
-      by Place.free l b k = absurd b
-      by (Place.old n) l b k =
-          record {
-            place = Place.old n;
-            live = l;
-            bucket = tt;
-            held =
-                held-as
-                (sym (resized-at h size resting accepted (Place.old n))) k;
-          }
-      by (Place.new n) l b k = absurd (omega (arith, facts h .still resting .no-new))
+      by (Place.bucket Table.Old n) l b k = record { place = Place.bucket Table.Old n; live = l; bucket = tt; held = k }
+      by (Place.bucket Table.New n) l b k = absurd (k .there)
 
   -- what was held is in the old table
   resized-old : HeldAt s entries (h .at) key value → HeldOld (resizing s size) entries (then .at) key
-  unfolding Live IsBucket resizedAt resizing
+  unfolding Live IsBucket resizedAt resizing retabled stateOf oldNew sizeOf
   resized-old k = by (k .place) (k .live) (k .bucket) (k .held)
     where
       by : (p : Place) → Live s p → IsBucket p → HeldIn entries (h .at p) key value
           → HeldOld (resizing s size) entries (then .at) key
       by Place.free l b k = absurd b
-      by (Place.old n) l b k =
+      by (Place.bucket Table.Old n) l b k =
           record {
             value = value;
-            bucket = n;
+            index = n;
             live = l;
-            held = held-as (sym (resized-at h size resting accepted (Place.old n))) k;
+            held = held-as (sym (resized-at h size resting accepted (Place.bucket Table.Old n))) k;
           }
-      by (Place.new n) l b k = absurd (omega (arith, facts h .still resting .no-new))
+      by (Place.bucket Table.New n) l b k = absurd (omega (arith, facts h .resting resting .no-size))
+
+  resized-after : HeldAt s entries (h .at) key value → HeldAt (resizing s size) entries (then .at) key value
+  unfolding Live IsBucket resizedAt resizing retabled stateOf oldNew sizeOf
+  resized-after k = by (k .place) (k .live) (k .bucket) (k .held)
+    where
+      by : (p : Place) → Live s p → IsBucket p → HeldIn entries (h .at p) key value
+          → HeldAt (resizing s size) entries (then .at) key value
+      by Place.free l b k = absurd b
+      by (Place.bucket Table.Old n) l b k =
+          record {
+            place = Place.bucket Table.Old n;
+            live = l;
+            bucket = tt;
+            held = held-as (sym (resized-at h size resting accepted (Place.bucket Table.Old n))) k;
+          }
+      by (Place.bucket Table.New n) l b k = absurd (omega (arith, facts h .resting resting .no-size))
 
 -- the store that a resize leaves agrees
 resized-on : (s : State) (current other entries : List ℕ) (i : Ideal) → AgreesOn s current other entries i → (size : ℕ)
-    → s .rehashing ≡ false → acceptable s other size ≡ true
+    → s .rehashing ≡ false → acceptable (s .«old_size») (length other) size ≡ true
     → AgreesOn (resizing s size) current (cleared size other) entries
-    (ideal (i .lengths) (i .plain) (Tables.two (s .«old_size») size) (keysOf (i .plain .pairs)) (s .«second_is_current»))
-unfolding resizing keysHeld tablesOf tablesBy Live IsBucket
+    (ideal (i .plain) (Tables.two (s .«old_size») size) (s .«second_is_current») (keysOf (i .plain .pairs)) 0)
+unfolding resizing retabled stateOf oldNew sizeOf keysHeld tablesOf tablesBy Live IsBucket
 resized-on s current other entries i a size resting accepted =
     retabled-agrees a (resized-shape (a .shape) size resting accepted) refl
-    (omega (arith, facts (a .shape) .still resting .no-new-used))
+    (omega (arith, facts (a .shape) .resting resting .no-keys))
     (resized-before (a .shape) size resting accepted) (resized-after (a .shape) size resting accepted)
     (keysOf (i .plain .pairs))
     (λ key j.
     let (value, e) = key-value key (i .plain .pairs) j in
     resized-old (a .shape) size resting accepted key value (a .in-store key value e))
-    (λ moving key k.
+    (λ rehashing key k.
     value-key key (k .value) (i .plain .pairs)
     (a .in-map key (k .value)
     (resized-before (a .shape) size resting accepted key (k .value)
-    (record { place = Place.old (k .bucket); live = k .live; bucket = tt; held = k .held }))))
-    (distinct-keys (i .plain .pairs) (a .distinct))
+    (record { place = Place.bucket Table.Old (k .index); live = k .live; bucket = tt; held = k .held }))))
+    (a .distinct)
 
 -- the length of the other bucket buffer
-other-length : (w : World) (l : Lengths) → l ≡ lengthsOf w
+other-length : (w : World) (l : Lengths) → lengthsOf w ≡ l
     → cond (w .state .«second_is_current») (l .first) (l .second) ≡ length (other w)
 unfolding lengthsOf other oriented
 other-length w l same =
-    ap (λ (l : Lengths). cond (w .state .«second_is_current») (l .first) (l .second)) same ∙ by (w .state .«second_is_current»)
+    ap (λ (l : Lengths). cond (w .state .«second_is_current») (l .first) (l .second)) (sym same)
+    ∙ by (w .state .«second_is_current»)
   where
     by : (t : Bool) → cond t (length (w .first)) (length (w .second))
         ≡ length (oriented t (λ first second. second) (w .first) (w .second))
@@ -284,11 +287,11 @@ other-length w l same =
     by false = refl
 
 -- a resize, answered or refused
-pub resize-steps : (w : World) (i : Ideal) → Agrees w i → i .lengths ≡ lengthsOf w → (size : ℕ)
-    → Steps w (Call.resize size) (predict i (Call.resize size))
-unfolding predict resizeAnswer answer perform calls.resize resizeIn resized resizing resizeReply errorNumber acceptable tablesOf tablesBy ideal
-resize-steps w i a same size =
-    subst (λ (t : Tables). Steps w c (resizeAnswer i size t)) (sym (a .tables)) (by (s .rehashing) refl)
+pub resize-steps : (w : World) (i : Ideal) → Agrees w i → (l : Lengths) → lengthsOf w ≡ l → (size : ℕ)
+    → Steps w (Call.resize size) (predict l i (Call.resize size))
+unfolding predict resizeAnswer reply perform given calls.resize resized resizing retabled stateOf resizeReply errorNumber tablesOf tablesBy ideal
+resize-steps w i a l same size =
+    subst (λ (t : Tables). Steps w c (resizeAnswer l i size t)) (a .tables) (by (s .rehashing) refl)
   where
     s : State
     s = w .state
@@ -296,77 +299,72 @@ resize-steps w i a same size =
     c : Call
     c = Call.resize size
 
-    outcome : After ResizeAnswer
-    outcome = resizeIn s (w .entries) size (current w) (other w)
+    sound-state : soundAt w ≡ true
+    sound-state = shape-sound (a .shape)
 
-    resize-by : (t : Bool) → s .rehashing ≡ t → outcome ≡ resized s (current w) (other w) (w .entries) size t
-    resize-by t e =
-        ap
-        (λ (f : Bool).
-        cond f (resized s (current w) (other w) (w .entries) size (s .rehashing))
-        (After.after (ResizeAnswer.Refused Error.BadState) (current w) (other w) (w .entries)))
-        (shape-sound (a .shape))
-        ∙ ap (resized s (current w) (other w) (w .entries) size) e
+    bad : ResizeAnswer
+    bad = ResizeAnswer.Refused Error.BadState
 
-    accepting : (f : Bool) → acceptable s (other w) size ≡ f
-        → resized s (current w) (other w) (w .entries) size false
-        ≡ cond f
-        (After.after (ResizeAnswer.Resized (resizing s size)) (current w) (cleared size (other w)) (w .entries))
-        (After.after (ResizeAnswer.Refused Error.BadSize) (current w) (other w) (w .entries))
-    accepting f e =
-        ap
+    call : List ℕ → List ℕ → After ResizeAnswer
+    call current other = resized s current other (w .entries) size (s .rehashing)
+
+    accept : Bool
+    accept = acceptable (s .«old_size») (length (other w)) size
+
+    begins : After ResizeAnswer
+    begins = After.after (ResizeAnswer.Resized (resizing s size)) (current w) (cleared size (other w)) (w .entries)
+
+    accepting : (f : Bool) → s .rehashing ≡ false → accept ≡ f
+        → call (current w) (other w)
+        ≡ cond f begins (After.after (ResizeAnswer.Refused Error.BadSize) (current w) (other w) (w .entries))
+    accepting f r e =
+        ap (resized s (current w) (other w) (w .entries) size) r
+        ∙ ap
         (λ (t : Bool).
-        cond t
-        (After.after (ResizeAnswer.Resized (resizing s size)) (current w) (cleared size (other w)) (w .entries))
-        (After.after (ResizeAnswer.Refused Error.BadSize) (current w) (other w) (w .entries)))
+        cond t begins (After.after (ResizeAnswer.Refused Error.BadSize) (current w) (other w) (w .entries)))
         e
 
     refused : (n : Error) (k : ℕ) → errorNumber n ≡ suc k
-        → outcome ≡ After.after (ResizeAnswer.Refused n) (current w) (other w) (w .entries) → Steps w c (answer (suc k) [] i)
+        → call (current w) (other w) ≡ After.after (ResizeAnswer.Refused n) (current w) (other w) (w .entries)
+        → Steps w c (reply (suc k) [] i)
     refused n k is e =
-        let replied : perform w c .reply ≡ resizeReply s (ResizeAnswer.Refused n) =
-        left-reply w (resizeReply s) (resizeIn s (w .entries) size) (ResizeAnswer.Refused n) (current w) (other w)
-        (w .entries) e in
-        let number : perform w c .reply .number ≡ suc k = ap (λ (r : Reply). r .number) replied ∙ is in
+        let replied = left-reply w (resizeReply s) bad call sound-state (ResizeAnswer.Refused n) (current w) (other w) (w .entries) e in
+        let number = ap (λ (r : Reply State). r .number) replied ∙ is in
         leaves w i a c (suc k) [] (refused-keeps w c (λ z. omega (arith, number))) number
-        (λ f. ap (λ (r : Reply). r .values) replied)
+        (λ f. ap (λ (r : Reply State). r .values) replied)
 
-    answered : s .rehashing ≡ false → acceptable s (other w) size ≡ true
-        → Steps w c (answer 0 [] (ideal (i .lengths) (i .plain) (Tables.two (s .«old_size») size) (keysOf (i .plain .pairs)) (i .turned)))
+    then : Bool → Ideal
+    then t = ideal (i .plain) (Tables.two (s .«old_size») size) t (keysOf (i .plain .pairs)) 0
+
+    answered : s .rehashing ≡ false → accept ≡ true → Steps w c (reply 0 [] (then (i .turned)))
     answered e f =
-        let is : outcome
-        ≡ After.after (ResizeAnswer.Resized (resizing s size)) (current w) (cleared size (other w)) (w .entries) =
-        resize-by false e ∙ accepting true f in
-        let j : Bool → Ideal = λ t. ideal (i .lengths) (i .plain) (Tables.two (s .«old_size») size) (keysOf (i .plain .pairs)) t in
-        let replied : perform w c .reply ≡ resizeReply s (ResizeAnswer.Resized (resizing s size)) =
-        left-reply w (resizeReply s) (resizeIn s (w .entries) size) (ResizeAnswer.Resized (resizing s size)) (current w)
-        (cleared size (other w)) (w .entries) is in
+        let is = accepting true e f in
+        let answer = ResizeAnswer.Resized (resizing s size) in
+        let replied = left-reply w (resizeReply s) bad call sound-state answer (current w) (cleared size (other w)) (w .entries) is in
         record {
-          number = ap (λ (r : Reply). r .number) replied;
-          values = λ f. ap (λ (r : Reply). r .values) replied;
+          number = ap (λ (r : Reply State). r .number) replied;
+          values = λ f. ap (λ (r : Reply State). r .values) replied;
           agrees =
-              subst₂ (λ (v : World) (t : Bool). Agrees v (j t))
+              subst₂ (λ (v : World) (t : Bool). Agrees v (then t))
               (sym
-              (left-world w (resizeReply s) (resizeIn s (w .entries) size) (ResizeAnswer.Resized (resizing s size)) (current w)
-              (cleared size (other w)) (w .entries) is (resizing s size) refl refl))
-              (sym (a .turned))
+              (left-world w (resizeReply s) bad call sound-state answer (current w) (cleared size (other w)) (w .entries) is
+              (resizing s size) refl refl))
+              (a .turned)
               (kept-agrees (s .«second_is_current») (resizing s size) (current w) (cleared size (other w)) (w .entries)
-              (j (s .«second_is_current»)) refl (resized-on s (current w) (other w) (w .entries) i a size e f));
+              (then (s .«second_is_current»)) refl (resized-on s (current w) (other w) (w .entries) i a size e f));
         }
 
     -- the ideal's test is the state's
-    tested : legalSize size && not (eqb size (s .«old_size»)) && leb size (cond (i .turned) (i .lengths .first) (i .lengths .second))
-        ≡ acceptable s (other w) size
+    tested : acceptable (s .«old_size») (cond (i .turned) (l .first) (l .second)) size ≡ accept
     tested =
-        ap (λ (n : ℕ). legalSize size && not (eqb size (s .«old_size»)) && leb size n)
-        (ap (λ (t : Bool). cond t (i .lengths .first) (i .lengths .second)) (a .turned) ∙ other-length w (i .lengths) same)
+        ap (λ (n : ℕ). acceptable (s .«old_size») n size)
+        (ap (λ (t : Bool). cond t (l .first) (l .second)) (sym (a .turned)) ∙ other-length w l same)
 
-    by-test : s .rehashing ≡ false → (f : Bool) → acceptable s (other w) size ≡ f
-        → Steps w c
-        (cond f (answer 0 [] (ideal (i .lengths) (i .plain) (Tables.two (s .«old_size») size) (keysOf (i .plain .pairs)) (i .turned))) (answer 6 [] i))
+    by-test : s .rehashing ≡ false → (f : Bool) → accept ≡ f
+        → Steps w c (cond f (reply 0 [] (then (i .turned))) (reply 6 [] i))
     by-test e true g = answered e g
-    by-test e false g = refused Error.BadSize 5 refl (resize-by false e ∙ accepting false g)
+    by-test e false g = refused Error.BadSize 5 refl (accepting false e g)
 
-    by : (t : Bool) → s .rehashing ≡ t → Steps w c (resizeAnswer i size (tablesBy t (s .«old_size») (s .«new_size»)))
-    by true e = refused Error.Rehashing 6 refl (resize-by true e)
+    by : (t : Bool) → s .rehashing ≡ t → Steps w c (resizeAnswer l i size (tablesBy t (s .«old_size») (s .«new_size»)))
+    by true e = refused Error.Rehashing 6 refl (ap (resized s (current w) (other w) (w .entries) size) e)
     by false e = by-test e _ (sym tested)

@@ -1,162 +1,188 @@
--- Walks over a sequence of calls: the bound on the answered calls of a walk, and that an ended walk has handed out every key
--- held at each of them. The laws of cursors are those of cursor; here they meet the live tables and the plain map.
+-- The walks of a sequence of calls whose answers are as predicted, over legal tables: `walks-hold` bounds the answered calls
+-- of each, and says that an ended one has handed out every key held at each of them. The laws of cursors are those of cursor;
+-- the store plays no part here.
 -- Assumes nothing.
-use Prim.Native.Nat.{ℕ, _+_, _^_, _≤_, min, max}
+use Prim.Native.Nat.{ℕ, zero, suc, _+_, _*_, _^_, _<_, _≤_, min, max}
 use mathlib.Core.Path.{_≡_, refl, sym, ap, _∙_}
 use mathlib.Core.Logic.{_≢_, _⊎_, inl, inr, ⊎-elim}
 use mathlib.Core.Bool.{Bool, true, false, cond}
 use mathlib.Core.List.{List, [], _∷_}
 use mathlib.Core.Option.{some}
-use native.Mathlib.Nat.{max-eq-left, max-eq-right}
 use native.Mathlib.Decide.{decLe}
 use native.Mathlib.Omega.{arith}
 use lib.ListN.{length, getD}
+use lib.Dec.{leb}
 use lib.Pow.{pow-pos, pow-mono}
 use Rattle.cursor.specs.Reverse.{reverse}
-use Rattle.cursor.specs.Next.{next}
 use Rattle.cursor.specs.Member.{In}
 use Rattle.cursor.proofs.Reversal.{reverse-lt}
-use Rattle.cursor.proofs.Walks.{smaller, groupOf, Covers, Ahead, ahead-zero, call-step, call-climbs}
-use Rattle.model.proofs.Power.{exponent-le}
-use Rattle.model.specs.Sequences.{Call, Event, Pair, valueFor}
+use Rattle.cursor.proofs.Walks.{smaller, groupOf, Ahead, ahead-zero, call-answers, call-step, call-climbs}
+use Rattle.model.specs.Answers.{Reply, reply}
+use Rattle.model.specs.Walk.{smallerOf}
+use Rattle.model.specs.Sequences.{Call, Event, Pair, keysOf, valueFor}
+use Rattle.cursor.proofs.HighBits.{exponent-le}
+use Rattle.model.proofs.Tests.{tested}
 use Rattle.refinement.specs.Demand2.{nextCursor}
-use Rattle.refinement.specs.Demand3.{Ideal, predict, keysOf, handed, smallerOf, Visit, Walk, largest, HeldAtEach, HandedOut, WalkHolds}
-use Rattle.refinement.proofs.LiveTables.{Legal, liveOf, live-valid, live-smaller, live-answers, publishedNext}
+use Rattle.refinement.specs.Demand3.{Lengths, Ideal, inGroup, groupPairs, scanAnswer, predict, handedOut, AsPredicted, Answered, Visit, Walk, largest, HeldAtEach, HandedOutAtSome, WalkHolds}
+use Rattle.invariant.proofs.Lists.{in-map, in-keep}
+use Rattle.refinement.proofs.PlainMaps.{pair, value-pair}
+use Rattle.refinement.proofs.LiveTables.{Legal, predict-legal}
+use Rattle.refinement.proofs.GroupPlaces.{GroupLaws, group-laws, tells-in-group}
 
--- ---- what the induction over a sequence carries for its walks
+-- the cursor that a call answers
+abbrev answer : Event → ℕ
+answer e = getD (e .values) 0 0
 
--- an answered walk call answers the published cursor, and hands out every held key that its group covers
-pub record Sweeps (i : Ideal) (e : Event) (cursor : ℕ) : Type 0 where
-  pub answers : getD (e .values) 0 0 ≡ publishedNext i cursor
-  pub hands-out : (key value : ℕ) → valueFor key (i .plain .pairs) ≡ some value → Covers (liveOf (i .tables)) cursor key
-      → In key (keysOf (handed e))
+abbrev Held : ℕ → Visit → Type 0
+Held key v = (value : ℕ) × (valueFor key (v .before .plain .pairs) ≡ some value)
 
-unfoldable pub AllSweep : Ideal → List Event → Type 0
-AllSweep i [] = Unit {0}
-AllSweep i (e ∷ es) =
-    Legal (i .tables)
-    × ((cursor : ℕ) (lent : List ℕ) → e .call ≡ Call.scan cursor lent → e .number ≡ 0 → Sweeps i e cursor)
-    × AllSweep (predict i (e .call) .after) es
+-- One visit at a cursor: in the reversals of the smaller table's width, and of any larger one, the cursor climbs unless it
+-- answers 0; and a held key that is ahead is handed out or is ahead still.
+record Visited (v : Visit) (due : ℕ) : Type 0 where
+  exponent : ℕ
+  size : 2 ^ exponent ≡ smallerOf (v .before .tables)
+  climbs : (m : ℕ) → exponent ≤ m → answer (v .at) ≢ 0 → reverse m due < reverse m (answer (v .at))
+  step : (key : ℕ) → Held key v → Ahead due key
+      → In key (keysOf (handedOut (v .at))) ⊎ ((answer (v .at) ≢ 0) × Ahead (answer (v .at)) key)
 
--- ---- the visits of a walk
+-- a held key has a pair, so there are pairs
+some-pairs : (ps : List Pair) (p : Pair) → In p ps → 0 < length ps
+some-pairs (q ∷ ps) p i = omega arith
 
--- a walk from cursor due on, without the calls between its visits
-data Trail : ℕ → List Visit → Bool → Type 0 where
-  over : {due : ℕ} → Trail due [] false
-  onward : {due : ℕ} {visits : List Visit} {ended : Bool} (v : Visit)
-      → Legal (v .before .tables) → Sweeps (v .before) (v .at) due → getD (v .at .values) 0 0 ≢ 0
-      → Trail (getD (v .at .values) 0 0) visits ended → Trail due (v ∷ visits) ended
-  last : {due : ℕ} (v : Visit)
-      → Legal (v .before .tables) → Sweeps (v .before) (v .at) due → getD (v .at .values) 0 0 ≡ 0
-      → Trail due (v ∷ []) true
-
-trail : {due : ℕ} {i : Ideal} {es : List Event} {visits : List Visit} {ended : Bool}
-    → AllSweep i es → Walk due i es visits ended → Trail due visits ended
-unfolding AllSweep
-trail a Walk.over = Trail.over
-trail a (Walk.other w) = trail (a .2) w
-trail {due} a (Walk.onward lent c n ne w) = Trail.onward _ (a .0) (a .1 due lent c n) ne (trail (a .2) w)
-trail {due} a (Walk.last lent c n z) = Trail.last _ (a .0) (a .1 due lent c n) z
-
--- a visit answers 0 with no key held, else the cursor behind the group
-visit-answers : (v : Visit) (cursor : ℕ) → Legal (v .before .tables) → Sweeps (v .before) (v .at) cursor
-    → ((v .before .plain .pairs ≡ []) × (getD (v .at .values) 0 0 ≡ 0))
-    ⊎ (getD (v .at .values) 0 0 ≡ groupOf (liveOf (v .before .tables)) cursor .answered)
+-- the answered cursor is the published one but where that with no keys held is 0
+next-kept : (keys n : ℕ) → (0 < keys) ⊎ (nextCursor keys n ≢ 0) → nextCursor keys n ≡ n
 unfolding nextCursor
-visit-answers v cursor t s = pick (v .before .plain .pairs) refl
-  where
-    answer : ℕ
-    answer = next (smallerOf (v .before .tables)) cursor
+next-kept zero n (inl h) = absurd (omega arith)
+next-kept zero n (inr h) = absurd (h refl)
+next-kept (suc keys) n h = refl
 
-    pick : (ps : List Pair) → v .before .plain .pairs ≡ ps
-        → ((v .before .plain .pairs ≡ []) × (getD (v .at .values) 0 0 ≡ 0))
-        ⊎ (getD (v .at .values) 0 0 ≡ groupOf (liveOf (v .before .tables)) cursor .answered)
-    pick [] e =
-        inl (e, s .answers ∙ ap (λ (qs : List Pair). nextCursor (length qs) answer) e)
-    pick (p ∷ ps) e =
-        inr
-        (s .answers
-        ∙ ap (λ (qs : List Pair). nextCursor (length qs) answer) e
-        ∙ sym (live-answers (v .before .tables) t cursor))
+-- a reply chosen by a test is the first, if the number is 0 and the second's is not
+chosen : (t : Bool) (r q : Reply Ideal) → cond t r q .number ≡ 0 → (q .number ≡ 0 → ⊥) → cond t r q ≡ r
+chosen true r q z f = refl
+chosen false r q z f = absurd (f z)
 
--- One visit: a key held and ahead of the cursor is handed out, or it is ahead of the cursor answered, which is not 0.
-visit-step : (v : Visit) (cursor key : ℕ) → Legal (v .before .tables) → Sweeps (v .before) (v .at) cursor → Ahead cursor key
-    → (value : ℕ) × (valueFor key (v .before .plain .pairs) ≡ some value)
-    → In key (keysOf (handed (v .at))) ⊎ ((getD (v .at .values) 0 0 ≢ 0) × Ahead (getD (v .at .values) 0 0) key)
-unfolding valueFor
-visit-step v cursor key t s a (value, held) =
-    ⊎-elim
-    (λ empty. let z : _≡_ {A = ℕ} 0 1 = cc (rw (empty .0) at held) in absurd (omega arith))
-    (λ n.
-    ⊎-elim
-    (λ c. inl (s .hands-out key value held c))
-    (λ on. inr (rw n on))
-    (call-step (liveOf (v .before .tables)) cursor key (live-valid (v .before .tables) t) a))
-    (visit-answers v cursor t s)
+module _ (l : Lengths) (i : Ideal) (e : Event) (legal : Legal (i .tables)) (a : AsPredicted l i e)
+    (due : ℕ) (lent : List ℕ) (c : e .call ≡ Call.scan due lent) (z : e .number ≡ 0) where
+  laws : GroupLaws (i .tables)
+  laws = group-laws (i .tables) legal
 
--- ---- an ended walk misses no key
+  abbrev keys : ℕ
+  keys = length (i .plain .pairs)
 
-covers-from : {due : ℕ} {visits : List Visit} {ended : Bool} → Trail due visits ended → ended ≡ true → (key : ℕ) → Ahead due key
-    → HeldAtEach key visits → HandedOut key visits
-unfolding HeldAtEach HandedOut
-covers-from Trail.over e key a h = let z : _≡_ {A = ℕ} 0 1 = cc in absurd (omega arith)
-covers-from {due} (Trail.onward v t s ne r) e key a h =
-    ⊎-elim inl (λ on. inr (covers-from r e key (on .1) (h .1))) (visit-step v due key t s a (h .0))
-covers-from {due} (Trail.last v t s z) e key a h =
-    ⊎-elim inl (λ on. absurd (on .0 z)) (visit-step v due key t s a (h .0))
+  answers : answer e ≡ nextCursor keys (groupOf (laws .live) due .answered)
+  unfolding predict scanAnswer reply
+  answers =
+      let enough = leb (length (groupPairs i due) * 2) (length lent) in
+      let said = chosen enough _ _ (rw c at (sym (a .number) ∙ z)) (λ e. omega arith) in
+      let values = rw c at (a .values (λ f. let z : _≡_ {A = ℕ} 0 1 = cc in omega arith)) in
+      rw (call-answers (laws .live) due (laws .valid), laws .smaller-size)
+      (ap (λ (vs : List ℕ). getD vs 0 0) values ∙ ap (λ (r : Reply Ideal). getD (r .values) 0 0) said)
 
--- ---- how many visits a walk has
+  kept : (0 < keys) ⊎ (answer e ≢ 0) → answer e ≡ groupOf (laws .live) due .answered
+  kept h = answers ∙ next-kept keys _ (rw answers at h)
 
--- the larger of two exponents is that of the larger power
-power-max : (a b : ℕ) → 2 ^ max a b ≡ max (2 ^ a) (2 ^ b)
-power-max a b = pick (decLe a b)
-  where
-    pick : Dec (a ≤ b) → 2 ^ max a b ≡ max (2 ^ a) (2 ^ b)
-    pick (yes l) = rw (max-eq-right l) (omega (arith, pow-mono l))
-    pick (no f) = let l : b ≤ a = omega arith in rw (max-eq-left l) (omega (arith, pow-mono l))
+  visited : Visited (record { before = i; at = e }) due
+  unfolding groupPairs keysOf
+  visited =
+      record {
+        exponent = smaller (laws .live);
+        size = laws .smaller-size;
+        climbs = λ m fits ne. rw (kept (inr ne)) (call-climbs m (laws .live) due (laws .valid) fits (rw (kept (inr ne)) at ne));
+        step =
+            λ key (value, held) ahead.
+            let p = pair key value in
+            let there = value-pair key value (i .plain .pairs) held in
+            ⊎-elim
+            (λ covers.
+            inl
+            (in-map (λ (p : Pair). p .key) p (handedOut e)
+            (a .answered-walk due lent c z .all p
+            (in-keep (λ (p : Pair). inGroup i due (p .key)) p (i .plain .pairs) there
+            (tested (tells-in-group i due key) (laws .covers due key covers (i .unmoved)))))))
+            (λ on. inr (rw (kept (inl (some-pairs (i .plain .pairs) p there))) on))
+            (call-step (laws .live) due key (laws .valid) ahead);
+      }
 
--- once there is a visit the largest size is a power of two
-largest-power : {due : ℕ} {visits : List Visit} {ended : Bool} → Trail due visits ended
-    → (m : ℕ) × (max 1 (largest visits) ≡ 2 ^ m) × (min 1 (length visits) ≤ largest visits)
+-- ---- a walk from a cursor on
+
+-- its largest size is a power of two; where no size is above 2 ^ m the reversed cursor climbs by one at least with each visit
+-- but an ended walk's last; and once it has ended, it has handed out every key ahead that was held at each visit
+record From (due : ℕ) (visits : List Visit) (ended : Bool) : Type 0 where
+  exponent : ℕ
+  power : max 1 (largest visits) ≡ 2 ^ exponent
+  filled : min 1 (length visits) ≤ largest visits
+  counted : (m : ℕ) → largest visits ≤ 2 ^ m → length visits + reverse m due + cond ended 0 1 ≤ 2 ^ m
+  covered : ended ≡ true → (key : ℕ) → Ahead due key → HeldAtEach key visits → HandedOutAtSome key visits
+
+from-over : (due : ℕ) → From due [] false
 unfolding largest
-largest-power Trail.over = (0, refl, omega arith)
-largest-power (Trail.onward v t s ne r) =
-    let b = smaller (liveOf (v .before .tables)) in
-    let size = live-smaller (v .before .tables) t in
-    let q = largest-power r in
-    (max b (q .0), omega (arith, power-max b (q .0)), omega (arith, pow-pos b))
-largest-power (Trail.last v t s z) =
-    let b = smaller (liveOf (v .before .tables)) in
-    let size = live-smaller (v .before .tables) t in
-    let pos = pow-pos b in
-    (b, omega arith, omega arith)
+from-over due =
+    record {
+      exponent = 0;
+      power = refl;
+      filled = omega arith;
+      counted = λ m fits. omega (arith, reverse-lt m due);
+      covered = λ ended. let z : _≡_ {A = ℕ} 0 1 = cc in absurd (omega arith);
+    }
 
--- Where no smaller size is above 2 ^ m, the reversed cursor climbs by one at least with each visit but an ended walk's last.
-climbs : (m : ℕ) {due : ℕ} {visits : List Visit} {ended : Bool} → Trail due visits ended → largest visits ≤ 2 ^ m
-    → length visits + reverse m due + cond ended 0 1 ≤ 2 ^ m
-unfolding largest
-climbs m {due} Trail.over small = omega (arith, reverse-lt m due)
-climbs m {due} (Trail.onward v t s ne r) small =
-    ⊎-elim (λ z. absurd (ne (z .1)))
-    (λ n.
-    let live = liveOf (v .before .tables) in
-    let exponent = exponent-le (smaller live) m (omega (arith, live-smaller (v .before .tables) t)) in
-    let climb = call-climbs m live due (live-valid (v .before .tables) t) exponent (rw n at ne) in
-    omega (arith, climbs m r (omega arith), rw (← n) at climb))
-    (visit-answers v due t s)
-climbs m {due} (Trail.last v t s z) small = omega (arith, reverse-lt m due)
+from-last : {v : Visit} {due : ℕ} → Visited v due → answer (v .at) ≡ 0 → From due (v ∷ []) true
+unfolding largest HeldAtEach HandedOutAtSome
+from-last {v} {due} h z =
+    let size = h .size in
+    let pos = pow-pos (h .exponent) in
+    record {
+      exponent = h .exponent;
+      power = omega arith;
+      filled = omega arith;
+      counted = λ m fits. omega (arith, reverse-lt m due);
+      covered = λ ended key ahead held. ⊎-elim inl (λ on. absurd (on .0 z)) (h .step key (held .0) ahead);
+    }
 
--- ---- any walk of a sequence
+-- the larger of two powers
+larger : (a b x y : ℕ) → 2 ^ a ≡ x → max 1 y ≡ 2 ^ b → (m : ℕ) × (max 1 (max x y) ≡ 2 ^ m)
+larger a b x y e f =
+    elim (decLe a b) [
+      | yes h ↦ (b, omega (arith, pow-mono h, pow-pos a))
+      | no n ↦ let h : b ≤ a = omega arith in (a, omega (arith, pow-mono h, pow-pos a))
+    ]
 
--- The bound on a walk's visits, and that once it has ended every key held at each of them has been handed out.
-pub walks-hold : (i : Ideal) (es : List Event) → AllSweep i es → (visits : List Visit) (ended : Bool) → Walk 0 i es visits ended
-    → WalkHolds visits ended
-walks-hold i es a visits ended w =
-    let r = trail a w in
-    let q = largest-power r in
-    let counted = climbs (q .0) r (omega arith) in
+from-onward : {v : Visit} {visits : List Visit} {ended : Bool} {due : ℕ} → Visited v due → answer (v .at) ≢ 0
+    → From (answer (v .at)) visits ended → From due (v ∷ visits) ended
+unfolding largest HeldAtEach HandedOutAtSome
+from-onward {v} {visits} {ended} {due} h on rest =
+    let (m, e) = larger (h .exponent) (rest .exponent) _ (largest visits) (h .size) (rest .power) in
+    let size = h .size in
+    record {
+      exponent = m;
+      power = e;
+      filled = omega (arith, pow-pos (h .exponent));
+      counted =
+          λ m fits.
+          let climb = h .climbs m (exponent-le (h .exponent) m (omega arith)) on in
+          omega (arith, rest .counted m (omega arith));
+      covered =
+          λ done key ahead held.
+          ⊎-elim inl (λ further. inr (rest .covered done key (further .1) (held .1))) (h .step key (held .0) ahead);
+    }
+
+-- ---- the walks of a sequence
+
+from : {l : Lengths} {due : ℕ} {i : Ideal} {es : List Event} {visits : List Visit} {ended : Bool}
+    → Legal (i .tables) → Answered l i es → Walk l due i es visits ended → From due visits ended
+unfolding Answered
+from legal a (Walk.over {due}) = from-over due
+from {l} legal a (Walk.other {due} {i} {e} w) = from (predict-legal l i legal (e .call)) (a .1) w
+from {l} legal a (Walk.onward {due} {i} {e} lent c n on w) =
+    from-onward (visited l i e legal (a .0) due lent c n) on (from (predict-legal l i legal (e .call)) (a .1) w)
+from {l} legal a (Walk.last {due} {i} {e} lent c n z) = from-last (visited l i e legal (a .0) due lent c n) z
+
+pub walks-hold : (l : Lengths) (i : Ideal) (es : List Event) → Legal (i .tables) → Answered l i es
+    → (visits : List Visit) (ended : Bool) → Walk l 0 i es visits ended → WalkHolds visits ended
+walks-hold l i es legal a visits ended w =
+    let h = from legal a w in
+    let counted = h .counted (h .exponent) (omega (arith, h .power)) in
     record {
       bound = λ e. omega arith;
-      bound-so-far = λ e some-visit. omega (arith, ap (λ (x : Bool). cond {A = ℕ} x 0 1) e);
-      covers = λ e key held. covers-from r e key (ahead-zero key) held;
+      bound-so-far = λ e some. omega (arith, ap (λ (x : Bool). cond {A = ℕ} x 0 1) e);
+      covers = λ e key held. h .covered e key (ahead-zero key) held;
     }

@@ -1,25 +1,28 @@
 -- Demand 3, one claim about a whole sequence of calls, for any meaning of the ten calls. An ideal store is fed the same
--- calls; from their arguments and the lengths of the lent buffers alone it says what each answers and where each key is.
+-- calls; from their arguments and the lengths of the lent buffers alone it says what each answers (but for what a look shows,
+-- which is said of the memory) and where each key is.
 use Prim.Native.Nat.{ℕ, zero, suc, _*_, _≤_, _<_, max, min}
 use mathlib.Core.Path.{_≡_}
 use mathlib.Core.Bool.{Bool, true, false, _&&_, cond, not}
-use mathlib.Core.List.{List, [], _∷_, map}
+use mathlib.Core.List.{List, [], _∷_}
 use mathlib.Core.Logic.{_⊎_}
 use mathlib.Core.Option.{some}
-use lib.ListN.{length, drop, getD}
-use lib.Dec.{leb, ltb, eqb}
-use Rattle.cursor.specs.Member.{In, Distinct}
+use lib.ListN.{length, take, drop, getD}
+use lib.Dec.{leb, eqb}
+use Rattle.cursor.specs.Member.{In, Distinct, any, keep}
 use Rattle.cursor.specs.Next.{next}
-use Rattle.cursor.specs.Group.{Group, oneTable, twoTables}
+use Rattle.model.specs.declared.Table.{Table}
 use Rattle.model.specs.Keys.{bucketOf}
-use Rattle.model.specs.Limits.{legalSize}
-use Rattle.model.specs.Calls.{withinLimits, longEnough, suggested}
-use Rattle.model.specs.Sequences.{World, Call, Outcome, carry, run, Event, events, Pair, PlainMap, MapReply, valueFor, mapFind, mapUpdate, mapAdd, mapDelete, Tables, oldOf, newOf}
-use Rattle.refinement.specs.Worlds.{UndamagedAt, Held, Holds, inOld, tablesOf}
+use Rattle.model.specs.Limits.{legalCapacity, legalSize}
+use Rattle.model.specs.Memory.{Place}
+use Rattle.model.specs.Answers.{Reply, reply}
+use Rattle.model.specs.Calls.{longEnough, acceptable, suggested, oldNew}
+use Rattle.model.specs.Walk.{Tables, tablesOf, smallerOf, groupPlaces}
+use Rattle.model.specs.Sequences.{World, ReadCall, Call, Outcome, carry, run, Event, events, Pair, PlainMap, keysOf, valueFor, mapDoes}
+use Rattle.refinement.specs.Worlds.{current, UndamagedAt, Held, Holds}
 use Rattle.refinement.specs.Demand2.{nextCursor, HandsOut}
 
--- The ideal: the plain map, the live tables, during a move the keys still in the old one, and whether the second bucket
--- buffer is the current one. The lengths of the lent buffers stay.
+-- The lengths of the lent buffers.
 
 pub record Lengths : Type 0 where
   pub first : ℕ
@@ -29,132 +32,118 @@ pub record Lengths : Type 0 where
 unfoldable pub lengthsOf : World → Lengths
 lengthsOf w = record { first = length (w .first); second = length (w .second); entries = length (w .entries) }
 
+-- The ideal: the plain map, the live tables, whether the second bucket buffer is the current one; and during a rehash the keys
+-- still in the old table, and the next bucket to move.
+
 pub record Ideal : Type 0 where
-  pub lengths : Lengths
   pub plain : PlainMap
   pub tables : Tables
-  pub unmoved : List ℕ
   pub turned : Bool
+  pub unmoved : List ℕ
+  pub index : ℕ
 
-unfoldable pub ideal : Lengths → PlainMap → Tables → List ℕ → Bool → Ideal
-ideal lengths plain tables unmoved turned =
-    record { lengths = lengths; plain = plain; tables = tables; unmoved = unmoved; turned = turned }
+unfoldable pub ideal : PlainMap → Tables → Bool → List ℕ → ℕ → Ideal
+ideal plain tables turned unmoved index =
+    record { plain = plain; tables = tables; turned = turned; unmoved = unmoved; index = index }
 
 -- after a start
-unfoldable pub begun : Lengths → ℕ → ℕ → Ideal
-begun lengths capacity size = ideal lengths (record { capacity = capacity; pairs = [] }) (Tables.one size) [] false
+unfoldable pub begun : ℕ → ℕ → Ideal
+begun capacity size = ideal (record { capacity = capacity; pairs = [] }) (Tables.one size) false [] 0
 
--- What it answers to a call, and the ideal after it.
-pub record Answer : Type 0 where
-  pub number : ℕ
-  pub values : List ℕ
-  pub after : Ideal
+unfoldable pub among : ℕ → List ℕ → Bool
+among key keys = any (λ k. eqb k key) keys
 
-unfoldable pub answer : ℕ → List ℕ → Ideal → Answer
-answer number values after = record { number = number; values = values; after = after }
+-- the table that a key is in, if it is held, and the size of a table
+
+unfoldable pub tableOf : Tables → List ℕ → ℕ → Table
+tableOf (Tables.one size) unmoved key = Table.Old
+tableOf (Tables.two old new) unmoved key = cond (among key unmoved) Table.Old Table.New
+
+unfoldable pub sizeIn : Tables → Table → ℕ
+sizeIn (Tables.one size) t = size
+sizeIn (Tables.two old new) t = oldNew old new t
+
+-- What it answers to a call, with the ideal after it.
 
 -- A start goes by the limits and the lengths of the buffers alone.
 
 unfoldable pub startNumber : Lengths → ℕ → ℕ → ℕ
 startNumber l capacity size =
-    cond (withinLimits capacity size) (cond (longEnough capacity size (l .first) (l .entries)) 0 1) 6
+    cond (legalCapacity capacity && legalSize size)
+    (cond (longEnough capacity size (l .first) (l .entries)) 0 1)
+    6
 
-unfoldable pub startAnswer : Ideal → ℕ → ℕ → ℕ → Answer
-startAnswer i capacity size zero = answer 0 [] (begun (i .lengths) capacity size)
-startAnswer i capacity size (suc number) = answer (suc number) [] i
+unfoldable pub startAnswer : Ideal → ℕ → ℕ → ℕ → Reply Ideal
+startAnswer i capacity size zero = reply 0 [] (begun capacity size)
+startAnswer i capacity size (suc number) = reply (suc number) [] i
 
 -- Find, change, add and delete answer as the map does. A key is added to the new table, if there is one.
+unfoldable pub keyAnswer : Ideal → Reply PlainMap → Reply Ideal
+keyAnswer i r =
+    reply (r .number) (r .values)
+    (ideal (r .state) (i .tables) (i .turned) (keep (λ k. among k (keysOf (r .state .pairs))) (i .unmoved)) (i .index))
 
-unfoldable pub mapAnswer : Ideal → List ℕ → MapReply → Answer
-mapAnswer i unmoved r = answer (r .number) (r .values) (ideal (i .lengths) (r .map) (i .tables) unmoved (i .turned))
+-- A resize is refused during a rehash, and else goes by its size.
+unfoldable pub resizeAnswer : Lengths → Ideal → ℕ → Tables → Reply Ideal
+resizeAnswer l i size (Tables.two old new) = reply 7 [] i
+resizeAnswer l i size (Tables.one old) =
+    cond (acceptable old (cond (i .turned) (l .first) (l .second)) size)
+    (reply 0 [] (ideal (i .plain) (Tables.two old size) (i .turned) (keysOf (i .plain .pairs)) 0))
+    (reply 6 [] i)
 
--- those for which the test holds
-unfoldable pub keep : {A : Type 0} → (A → Bool) → List A → List A
-keep test [] = []
-keep test (x ∷ xs) = cond (test x) (x ∷ keep test xs) (keep test xs)
+-- A step moves all the keys of the lowest bucket that an unmoved key calls for; with none unmoved the rehash ends.
 
-unfoldable pub keysOf : List Pair → List ℕ
-keysOf ps = map (λ (p : Pair). p .key) ps
-
-unfoldable pub among : ℕ → List ℕ → Bool
-among key [] = false
-among key (k ∷ ks) = cond (eqb k key) true (among key ks)
-
--- A resize: refused during a move; else a legal size, not the present one, for which the other bucket buffer is long enough.
-unfoldable pub resizeAnswer : Ideal → ℕ → Tables → Answer
-resizeAnswer i size (Tables.two old new) = answer 7 [] i
-resizeAnswer i size (Tables.one old) =
-    cond (legalSize size && not (eqb size old) && leb size (cond (i .turned) (i .lengths .first) (i .lengths .second)))
-    (answer 0 [] (ideal (i .lengths) (i .plain) (Tables.two old size) (keysOf (i .plain .pairs)) (i .turned)))
-    (answer 6 [] i)
-
--- A step moves all the keys of the lowest bucket that an unmoved key calls for; with none unmoved the move ends.
-
--- the lowest bucket that a key calls for, or that one
+-- the lowest of bucket b and those that the keys call for
 unfoldable pub lowest : ℕ → ℕ → List ℕ → ℕ
 lowest size b [] = b
 lowest size b (k ∷ ks) = lowest size (min b (bucketOf k size)) ks
 
-unfoldable pub moveAnswer : Ideal → ℕ → ℕ → List ℕ → Answer
-moveAnswer i old new [] = answer 0 (0 ∷ 0 ∷ []) (ideal (i .lengths) (i .plain) (Tables.one new) [] (not (i .turned)))
-moveAnswer i old new (k ∷ ks) =
-    let moves : ℕ → Bool = λ j. eqb (bucketOf j old) (lowest old (bucketOf k old) ks) in
-    answer 0 (length (keep moves (k ∷ ks)) ∷ 1 ∷ [])
-    (ideal (i .lengths) (i .plain) (Tables.two old new) (keep (λ j. not (moves j)) (k ∷ ks)) (i .turned))
+unfoldable pub stepAnswer : Ideal → Tables → List ℕ → Reply Ideal
+stepAnswer i (Tables.one size) unmoved = reply 8 (0 ∷ 0 ∷ []) i
+stepAnswer i (Tables.two old new) [] = reply 0 (0 ∷ 0 ∷ []) (ideal (i .plain) (Tables.one new) (not (i .turned)) [] 0)
+stepAnswer i (Tables.two old new) (k ∷ ks) =
+    let b = lowest old (bucketOf k old) ks in
+    let moves : ℕ → Bool = λ j. eqb (bucketOf j old) b in
+    reply 0 (length (keep moves (k ∷ ks)) ∷ 1 ∷ [])
+    (ideal (i .plain) (Tables.two old new) (i .turned) (keep (λ j. not (moves j)) (k ∷ ks)) (suc b))
 
-unfoldable pub stepAnswer : Ideal → Tables → Answer
-stepAnswer i (Tables.one size) = answer 8 (0 ∷ 0 ∷ []) i
-stepAnswer i (Tables.two old new) = moveAnswer i old new (i .unmoved)
+-- A walk call's pairs are those whose bucket, in the table that has the key, is one of the group's.
 
--- A walk call. Its pairs are those whose bucket, in the table that has the key, is one of the group's.
+unfoldable pub isBucket : Table → ℕ → Place → Bool
+isBucket t b Place.free = false
+isBucket t b (Place.bucket u c) = eqb (oldNew 0 1 t) (oldNew 0 1 u) && eqb b c
 
--- the size of the smaller live table; one live table counts as the smaller
-unfoldable pub smallerOf : Tables → ℕ
-smallerOf (Tables.one size) = size
-smallerOf (Tables.two old new) = min old new
-
-unfoldable pub groupAt : Tables → ℕ → Group
-groupAt (Tables.one size) cursor = oneTable size cursor
-groupAt (Tables.two old new) cursor = cond (ltb old new) (twoTables old new cursor) (twoTables new old cursor)
-
--- the group's buckets in the table of that size
-unfoldable pub groupIn : Tables → ℕ → ℕ → List ℕ
-groupIn t cursor size = cond (eqb size (smallerOf t)) (groupAt t cursor .small ∷ []) (groupAt t cursor .large)
-
--- the size of the table that has the key
-unfoldable pub tableSize : Ideal → ℕ → ℕ
-tableSize i key = cond (among key (i .unmoved)) (oldOf (i .tables)) (newOf (i .tables))
+unfoldable pub inGroup : Ideal → ℕ → ℕ → Bool
+inGroup i cursor key =
+    let t = tableOf (i .tables) (i .unmoved) key in
+    any (isBucket t (bucketOf key (sizeIn (i .tables) t))) (groupPlaces (i .tables) cursor)
 
 unfoldable pub groupPairs : Ideal → ℕ → List Pair
-groupPairs i cursor =
-    keep (λ p. among (bucketOf (p .key) (tableSize i (p .key))) (groupIn (i .tables) cursor (tableSize i (p .key))))
-    (i .plain .pairs)
+groupPairs i cursor = keep (λ p. inGroup i cursor (p .key)) (i .plain .pairs)
 
 -- two places of the list for each
-unfoldable pub walkAnswer : Ideal → ℕ → ℕ → ℕ → Answer
-walkAnswer i cursor count places =
+unfoldable pub scanAnswer : Ideal → ℕ → ℕ → ℕ → Reply Ideal
+scanAnswer i cursor count places =
     cond (leb (count * 2) places)
-    (answer 0 (nextCursor (length (i .plain .pairs)) (next (smallerOf (i .tables)) cursor) ∷ count ∷ []) i)
-    (answer 9 (0 ∷ count ∷ []) i)
+    (reply 0 (nextCursor (length (i .plain .pairs)) (next (smallerOf (i .tables)) cursor) ∷ count ∷ []) i)
+    (reply 9 (0 ∷ count ∷ []) i)
 
--- Any call. What a look answers is left open.
-unfoldable pub predict : Ideal → Call → Answer
-predict i (Call.init capacity size) = startAnswer i capacity size (startNumber (i .lengths) capacity size)
-predict i (Call.find key) = mapAnswer i (i .unmoved) (mapFind (i .plain) (valueFor key (i .plain .pairs)))
-predict i (Call.update key value) =
-    mapAnswer i (i .unmoved) (mapUpdate (i .plain) key value (valueFor key (i .plain .pairs)))
-predict i (Call.add key value) = mapAnswer i (i .unmoved) (mapAdd (i .plain) key value (valueFor key (i .plain .pairs)))
-predict i (Call.delete key) =
-    mapAnswer i (keep (λ k. not (eqb k key)) (i .unmoved)) (mapDelete (i .plain) key (valueFor key (i .plain .pairs)))
-predict i (Call.resize size) = resizeAnswer i size (i .tables)
-predict i Call.rehashStep = stepAnswer i (i .tables)
-predict i (Call.scan cursor lent) = walkAnswer i cursor (length (groupPairs i cursor)) (length lent)
-predict i (Call.suggestedSize growing) = answer 0 (suggested growing (length (i .plain .pairs)) ∷ []) i
-predict i Call.buckets = answer 0 [] i
+-- Suggested size, and a look, whose values are those of the memory, below.
+unfoldable pub readAnswer : Ideal → ReadCall → Reply Ideal
+readAnswer i (ReadCall.suggestedSize growing) = reply 0 (suggested growing (length (i .plain .pairs)) ∷ []) i
+readAnswer i ReadCall.currentTable = reply 0 [] i
 
-unfoldable pub replay : Ideal → List Call → Ideal
-replay i [] = i
-replay i (c ∷ cs) = replay (predict i c .after) cs
+unfoldable pub predict : Lengths → Ideal → Call → Reply Ideal
+predict l i (Call.init capacity size) = startAnswer i capacity size (startNumber l capacity size)
+predict l i (Call.on key c) = keyAnswer i (mapDoes (i .plain) key c)
+predict l i (Call.resize size) = resizeAnswer l i size (i .tables)
+predict l i Call.rehashStep = stepAnswer i (i .tables) (i .unmoved)
+predict l i (Call.scan cursor lent) = scanAnswer i cursor (length (groupPairs i cursor)) (length lent)
+predict l i (Call.read c) = readAnswer i c
+
+unfoldable pub replay : Lengths → Ideal → List Call → Ideal
+replay l i [] = i
+replay l i (c ∷ cs) = replay l (predict l i c .state) cs
 
 -- What each call of a sequence does, beside the ideal before it.
 
@@ -166,26 +155,27 @@ pairsIn (suc n) (key ∷ []) = []
 pairsIn (suc n) (key ∷ value ∷ rest) = record { key = key; value = value } ∷ pairsIn n rest
 
 -- those that an answered walk call hands out: its values are the next cursor and how many they are
-unfoldable pub handed : Event → List Pair
-handed e = pairsIn (getD (e .values) 1 0) (e .lent)
+unfoldable pub handedOut : Event → List Pair
+handedOut e = pairsIn (getD (e .values) 1 0) (e .lent)
 
 -- an answered walk call hands out the ideal's pairs, no more and no fewer, no key twice; the list beyond them stays
 pub record WalkCall (i : Ideal) (e : Event) (cursor : ℕ) (lent : List ℕ) : Type 0 where
-  pub only : (p : Pair) → In p (handed e) → In p (groupPairs i cursor)
-  pub all : (p : Pair) → In p (groupPairs i cursor) → In p (handed e)
-  pub none-twice : Distinct (keysOf (handed e))
-  pub beyond : drop (length (handed e) * 2) (e .lent) ≡ drop (length (handed e) * 2) lent
-  pub whole : length (e .lent) ≡ length lent
+  pub only : (p : Pair) → In p (handedOut e) → In p (groupPairs i cursor)
+  pub all : (p : Pair) → In p (groupPairs i cursor) → In p (handedOut e)
+  pub none-twice : Distinct (keysOf (handedOut e))
+  pub beyond : drop (length (handedOut e) * 2) (e .lent) ≡ drop (length (handedOut e) * 2) lent
 
-pub record AsPredicted (i : Ideal) (e : Event) : Type 0 where
-  pub number : e .number ≡ predict i (e .call) .number
-  pub values : (e .call ≡ Call.buckets → ⊥) → e .values ≡ predict i (e .call) .values
-  pub answered-walk : (cursor : ℕ) (lent : List ℕ) → e .call ≡ Call.scan cursor lent → e .number ≡ 0 → WalkCall i e cursor lent
-  pub refused-walk : (cursor : ℕ) (lent : List ℕ) → e .call ≡ Call.scan cursor lent → (e .number ≡ 0 → ⊥) → e .lent ≡ lent
+pub record AsPredicted (l : Lengths) (i : Ideal) (e : Event) : Type 0 where
+  pub number : e .number ≡ predict l i (e .call) .number
+  pub values : (e .call ≡ Call.read ReadCall.currentTable → ⊥) → e .values ≡ predict l i (e .call) .values
+  pub answered-walk : (cursor : ℕ) (lent : List ℕ) → e .call ≡ Call.scan cursor lent → e .number ≡ 0
+      → WalkCall i e cursor lent
+  pub refused-walk : (cursor : ℕ) (lent : List ℕ) → e .call ≡ Call.scan cursor lent → (e .number ≡ 0 → ⊥)
+      → e .lent ≡ lent
 
-unfoldable pub Answered : Ideal → List Event → Type 0
-Answered i [] = Unit {0}
-Answered i (e ∷ es) = AsPredicted i e × Answered (predict i (e .call) .after) es
+unfoldable pub Answered : Lengths → Ideal → List Event → Type 0
+Answered l i [] = Unit {0}
+Answered l i (e ∷ es) = AsPredicted l i e × Answered l (predict l i (e .call) .state) es
 
 -- Walks. A walk is some of the walk calls: the first is given cursor 0, each further one the cursor that its last answered
 -- call answered, and the first 0 answered ends it. Its visits are its answered calls, with the ideal before each.
@@ -194,17 +184,17 @@ pub record Visit : Type 0 where
   pub before : Ideal
   pub at : Event
 
-pub data Walk : ℕ → Ideal → List Event → List Visit → Bool → Type 0 where
-  over : {due : ℕ} {i : Ideal} {es : List Event} → Walk due i es [] false
+pub data Walk (l : Lengths) : ℕ → Ideal → List Event → List Visit → Bool → Type 0 where
+  over : {due : ℕ} {i : Ideal} {es : List Event} → Walk l due i es [] false
   other : {due : ℕ} {i : Ideal} {e : Event} {es : List Event} {visits : List Visit} {ended : Bool}
-      → Walk due (predict i (e .call) .after) es visits ended → Walk due i (e ∷ es) visits ended
+      → Walk l due (predict l i (e .call) .state) es visits ended → Walk l due i (e ∷ es) visits ended
   onward : {due : ℕ} {i : Ideal} {e : Event} {es : List Event} {visits : List Visit} {ended : Bool} (lent : List ℕ)
       → e .call ≡ Call.scan due lent → e .number ≡ 0 → (getD (e .values) 0 0 ≡ 0 → ⊥)
-      → Walk (getD (e .values) 0 0) (predict i (e .call) .after) es visits ended
-      → Walk due i (e ∷ es) (record { before = i; at = e } ∷ visits) ended
+      → Walk l (getD (e .values) 0 0) (predict l i (e .call) .state) es visits ended
+      → Walk l due i (e ∷ es) (record { before = i; at = e } ∷ visits) ended
   last : {due : ℕ} {i : Ideal} {e : Event} {es : List Event} (lent : List ℕ)
       → e .call ≡ Call.scan due lent → e .number ≡ 0 → getD (e .values) 0 0 ≡ 0
-      → Walk due i (e ∷ es) (record { before = i; at = e } ∷ []) true
+      → Walk l due i (e ∷ es) (record { before = i; at = e } ∷ []) true
 
 -- the largest size that the smaller live table had at any visit
 unfoldable pub largest : List Visit → ℕ
@@ -215,39 +205,42 @@ unfoldable pub HeldAtEach : ℕ → List Visit → Type 0
 HeldAtEach key [] = Unit {0}
 HeldAtEach key (v ∷ vs) = ((value : ℕ) × (valueFor key (v .before .plain .pairs) ≡ some value)) × HeldAtEach key vs
 
-unfoldable pub HandedOut : ℕ → List Visit → Type 0
-HandedOut key [] = ⊥
-HandedOut key (v ∷ vs) = In key (keysOf (handed (v .at))) ⊎ HandedOut key vs
+unfoldable pub HandedOutAtSome : ℕ → List Visit → Type 0
+HandedOutAtSome key [] = ⊥
+HandedOutAtSome key (v ∷ vs) = In key (keysOf (handedOut (v .at))) ⊎ HandedOutAtSome key vs
 
 -- at most as many answered calls as that largest size, fewer while it has not ended; and once it has ended, every key held
 -- at each of them has been handed out
 pub record WalkHolds (visits : List Visit) (ended : Bool) : Type 0 where
   pub bound : ended ≡ true → length visits ≤ largest visits
   pub bound-so-far : ended ≡ false → 0 < length visits → length visits < largest visits
-  pub covers : ended ≡ true → (key : ℕ) → HeldAtEach key visits → HandedOut key visits
+  pub covers : ended ≡ true → (key : ℕ) → HeldAtEach key visits → HandedOutAtSome key visits
 
--- The store has what the ideal has: the pairs, the live tables, the current buffer, and during a move each key in the table
--- that the ideal says; and the buffers are as long as they were.
-pub record Matches (w : World) (i : Ideal) : Type 0 where
+-- The store has what the ideal has: the pairs, the live tables, the current buffer, the next bucket to move, and each key in
+-- the table that the ideal says; and the buffers are as long as they were.
+pub record Matches (l : Lengths) (w : World) (i : Ideal) : Type 0 where
   pub contents : Holds w (i .plain)
-  pub tables : i .tables ≡ tablesOf (w .state)
-  pub turned : i .turned ≡ w .state .«second_is_current»
-  pub each-table : w .state .rehashing ≡ true → (key value : ℕ) (h : Held w key value)
-      → among key (i .unmoved) ≡ inOld (h .place)
-  pub lengths : i .lengths ≡ lengthsOf w
+  pub tables : tablesOf (w .state) ≡ i .tables
+  pub turned : w .state .«second_is_current» ≡ i .turned
+  pub index : w .state .«rehash_index» ≡ i .index
+  pub each-table : (key value : ℕ) (h : Held w key value) → h .table ≡ tableOf (i .tables) (i .unmoved) key
+  pub lengths : lengthsOf w ≡ l
 
--- After a start answered 0, from which that ideal begins, whatever the calls.
-pub record SequenceHolds (does : World → Call → Outcome) (w : World) (i : Ideal) (calls : List Call) : Type 0 where
+-- After a start answered 0, which was lent buffers of those lengths and from which that ideal begins, whatever the calls.
+pub record SequenceHolds (does : World → Call → Outcome) (l : Lengths) (w : World) (i : Ideal) (calls : List Call) : Type 0 where
   pub undamaged : UndamagedAt (run does w calls)
-  pub matches : Matches (run does w calls) (replay i calls)
-  pub answers : Answered i (events does w calls)
-  pub walks : (visits : List Visit) (ended : Bool) → Walk 0 i (events does w calls) visits ended → WalkHolds visits ended
-  -- at any walk call that comes next, and so at every walk call of a sequence: the exact keys, their order, the list after
+  pub matches : Matches l (run does w calls) (replay l i calls)
+  pub answers : Answered l i (events does w calls)
+  pub walks : (visits : List Visit) (ended : Bool) → Walk l 0 i (events does w calls) visits ended → WalkHolds visits ended
+  -- at any walk call or look that comes next, and so at every one of a sequence: the exact keys and their order; the table
   pub exact : (cursor : ℕ) (lent : List ℕ) → does (run does w calls) (Call.scan cursor lent) .reply .number ≡ 0
       → HandsOut does (run does w calls) cursor lent
+  pub look : does (run does w calls) (Call.read ReadCall.currentTable) .reply .values
+      ≡ take (run does w calls .state .«old_size») (current (run does w calls))
 
+-- The start that begins a sequence goes by the lengths of the buffers as they are lent to it.
 pub record Demand3 (does : World → Call → Outcome) : Type 0 where
   pub begins : (w : World) (capacity size : ℕ)
       → does w (Call.init capacity size) .reply .number ≡ startNumber (lengthsOf w) capacity size
   pub sequence : (w : World) (capacity size : ℕ) → does w (Call.init capacity size) .reply .number ≡ 0 → (calls : List Call)
-      → SequenceHolds does (carry w (does w (Call.init capacity size))) (begun (lengthsOf w) capacity size) calls
+      → SequenceHolds does (lengthsOf w) (carry w (does w (Call.init capacity size))) (begun capacity size) calls

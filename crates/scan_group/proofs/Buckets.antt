@@ -54,12 +54,12 @@ between small large at e =
     go : (c : ℕ) → c ≤ 32 → large ≡ 2 ^ c → next large at < large
     go c s q = rw q (next-lt c at s)
 
-module _ (buckets : List ℕ) (small large : ℕ) (h : Sizes buckets small large) where
+module _ (larger : List ℕ) (small large : ℕ) (h : Sizes larger small large) where
   exponents : Exponents small large
   unfolding legalSize largestExponent
   exponents =
       let p = power-of largestExponent small (h .small-legal) in
-      let q = power-of largestExponent large (h .large-legal) in
+      let q = power-of largestExponent large (h .large-in .legal) in
       record {
         b = p .0;
         c = q .0;
@@ -118,11 +118,11 @@ pub counts-fit : 2 ^ largestExponent * largestCapacity < 2 ^ 32
 unfolding largestExponent largestCapacity
 counts-fit = omega arith
 
-pub few-large : (buckets : List ℕ) (small large at : ℕ) → Sizes buckets small large
+pub few-large : (larger : List ℕ) (small large at : ℕ) → Sizes larger small large
     → length (bucketsFrom small large at) ≤ 2 ^ largestExponent
 unfolding twoTables legalSize
-few-large buckets small large at h =
-    omega (arith, few-swept (large / small) small large at, div-le-self large small, legal-le largestExponent large (h .large-legal))
+few-large larger small large at h =
+    omega (arith, few-swept (large / small) small large at, div-le-self large small, legal-le largestExponent large (h .large-in .legal))
 
 -- a call answers the next cursor, with two live tables that of the smaller size
 pub one-answered : (size cursor turned : ℕ) → legalSize size ≡ true → ((c : ℕ) → size ≡ 2 ^ c → turned ≡ next size cursor)
@@ -130,10 +130,10 @@ pub one-answered : (size cursor turned : ℕ) → legalSize size ≡ true → ((
 unfolding legalSize oneTable
 one-answered size cursor turned h t = let p = power-of largestExponent size h in t (p .0) (p .2)
 
-pub two-answered : (buckets : List ℕ) (small large cursor turned : ℕ) → Sizes buckets small large
+pub two-answered : (larger : List ℕ) (small large cursor turned : ℕ) → Sizes larger small large
     → ((c : ℕ) → small ≡ 2 ^ c → turned ≡ next small cursor) → turned ≡ twoTables small large cursor .answered
-two-answered buckets small large cursor turned h t =
-    let e = exponents buckets small large h in
+two-answered larger small large cursor turned h t =
+    let e = exponents larger small large h in
     t (e .b) (e .small-is) ∙ sym (go (e .b) (e .c) (e .less) (e .short) (e .small-is) (e .large-is))
   where
     go : (b c : ℕ) → b < c → c ≤ 32 → small ≡ 2 ^ b → large ≡ 2 ^ c → twoTables small large cursor .answered ≡ next small cursor

@@ -1,56 +1,36 @@
--- Chains read one after the other: what their count says of them, how long they are, and that a chain that is sound is read
--- the same where more is allowed.
+-- Chains read one after the other: what their parts say of the whole, how long they are, and that a chain that is sound is
+-- read the same where more is allowed.
 -- Assumes nothing.
 use Prim.Native.Nat.{ℕ, _+_, _*_, _≤_}
 use mathlib.Core.Path.{_≡_, refl, sym, ap, _∙_}
-use mathlib.Core.List.{List, [], _∷_, _++_, append-nil, append-assoc}
+use mathlib.Core.List.{List, [], _∷_, _++_, append-nil}
 use mathlib.Core.Option.{Option, none, some}
 use native.Mathlib.Omega.{arith}
 use native.Mathlib.Nat.{suc-mul}
 use lib.ListN.{length, getD, length-append}
-use Rattle.model.specs.Memory.{chain, bucketChain, listed}
-use Rattle.model.specs.Walk.{joined, chains}
+use Rattle.model.specs.Memory.{chain, listed}
+use Rattle.model.specs.Walk.{joined}
 use Rattle.model.proofs.Linked.{room, read-sound, chain-wider}
-use Rattle.lookup.specs.declared.chain.ChainLength.{ChainLength}
-use Rattle.lookup.specs.Length.{lengthOf}
-use Rattle.scan_group.specs.Written.{linked, allLinked}
+use Rattle.scan_group.specs.Chains.{chains, linked, allLinked}
 
--- a count says that what is read has an end, and how long it is
-pub count-sound : (o : Option (List ℕ)) (r : ChainLength) (n : ℕ) → r ≡ lengthOf o → r ≡ ChainLength.Sound n → o ≡ some (listed o)
-unfolding listed lengthOf
-count-sound none r n e s = let z : _≡_ {A = ℕ} 0 1 = cc in absurd (omega arith)
-count-sound (some ns) r n e s = refl
-
-pub count-length : (o : Option (List ℕ)) (r : ChainLength) (n : ℕ) → r ≡ lengthOf o → r ≡ ChainLength.Sound n → n ≡ length (listed o)
-unfolding listed lengthOf
-count-length none r n e s = let z : _≡_ {A = ℕ} 0 1 = cc in absurd (omega arith)
-count-length (some ns) r n e s = cc
-
-pub count-none : (o : Option (List ℕ)) (r : ChainLength) → r ≡ lengthOf o → r ≡ ChainLength.Unsound → o ≡ none
-unfolding lengthOf
-count-none none r e s = refl
-count-none (some ns) r e s = let z : _≡_ {A = ℕ} 0 1 = cc in absurd (omega arith)
-
--- nothing before, and nothing behind
-pub joined-nothing : (o : Option (List ℕ)) → joined (some []) o ≡ o
-unfolding joined
-joined-nothing none = refl
-joined-nothing (some ns) = refl
-
+-- nothing behind
 pub joined-end : (o : Option (List ℕ)) → joined o (some []) ≡ o
 unfolding joined
 joined-end none = refl
 joined-end (some ns) = ap some (append-nil ns)
 
-pub joined-none : (o : Option (List ℕ)) → joined o none ≡ none
-unfolding joined
-joined-none none = refl
-joined-none (some ns) = refl
+-- where the whole is sound, so is each part
+pub record Parts (a b : Option (List ℕ)) : Type 0 where
+  pub left : a ≡ some (listed a)
+  pub right : b ≡ some (listed b)
+  pub both : listed (joined a b) ≡ listed a ++ listed b
+  pub long : length (listed (joined a b)) ≡ length (listed a) + length (listed b)
 
-pub joined-more : (ns ms : List ℕ) (o : Option (List ℕ)) → joined (some (ns ++ ms)) o ≡ joined (some ns) (joined (some ms) o)
-unfolding joined
-joined-more ns ms none = refl
-joined-more ns ms (some ks) = ap some (append-assoc ns ms ks)
+pub joined-parts : (a b : Option (List ℕ)) → joined a b ≡ some (listed (joined a b)) → Parts a b
+unfolding joined listed
+joined-parts none b e = let z : _≡_ {A = ℕ} 0 1 = cc in absurd (omega arith)
+joined-parts (some ns) none e = let z : _≡_ {A = ℕ} 0 1 = cc in absurd (omega arith)
+joined-parts (some ns) (some ms) e = record { left = refl; right = refl; both = refl; long = length-append ns ms }
 
 -- a chain is no longer than its budget
 pub chain-short : (entries : List ℕ) (capacity budget head : ℕ) → length (listed (chain entries capacity budget head)) ≤ budget
@@ -69,35 +49,14 @@ joined-short (some ns) (some ms) = omega (arith, length-append ns ms)
 
 pub chains-short : (entries : List ℕ) (capacity used : ℕ) (buckets bs : List ℕ)
     → length (listed (chains entries capacity used buckets bs)) ≤ length bs * used
-unfolding chains bucketChain listed
+unfolding chains listed
 chains-short entries capacity used buckets [] = omega arith
 chains-short entries capacity used buckets (b ∷ bs) =
+    let here = chain entries capacity used (getD buckets b 0) in
+    let more = chains-short entries capacity used buckets bs in
     rw suc-mul
     (omega
-    (arith, joined-short (chain entries capacity used (getD buckets b 0)) (chains entries capacity used buckets bs), chain-short entries capacity used (getD buckets b 0), chains-short entries capacity used buckets bs))
-
--- two parts that are sound are read one after the other
-pub joined-sound : (a b : Option (List ℕ)) → a ≡ some (listed a) → b ≡ some (listed b) → joined a b ≡ some (listed a ++ listed b)
-unfolding joined
-joined-sound a b e f = cc
-
-pub joined-length : (a b : Option (List ℕ)) → a ≡ some (listed a) → b ≡ some (listed b)
-    → lengthOf (joined a b) ≡ ChainLength.Sound (length (listed a) + length (listed b))
-unfolding lengthOf
-joined-length a b e f = rw (joined-sound a b e f, length-append)
-
--- and where all is sound, so is each part
-pub record Parts (a b : Option (List ℕ)) : Type 0 where
-  pub left : a ≡ some (listed a)
-  pub right : b ≡ some (listed b)
-  pub both : listed (joined a b) ≡ listed a ++ listed b
-  pub length : length (listed a ++ listed b) ≡ length (listed a) + length (listed b)
-
-pub joined-parts : (a b : Option (List ℕ)) → joined a b ≡ some (listed (joined a b)) → Parts a b
-unfolding joined listed
-joined-parts none b e = let z : _≡_ {A = ℕ} 0 1 = cc in absurd (omega arith)
-joined-parts (some ns) none e = let z : _≡_ {A = ℕ} 0 1 = cc in absurd (omega arith)
-joined-parts (some ns) (some ms) e = record { left = refl; right = refl; both = refl; length = length-append ns ms }
+    (arith, joined-short here (chains entries capacity used buckets bs), chain-short entries capacity used (getD buckets b 0), more))
 
 -- Where more is allowed, a chain that is sound is the same.
 
@@ -112,11 +71,8 @@ module _ (entries : List ℕ) (capacity used : ℕ) (fits : capacity * 3 ≤ len
   pub all-linked-same : (buckets bs : List ℕ)
       → chains entries capacity used buckets bs ≡ some (listed (chains entries capacity used buckets bs))
       → allLinked entries buckets bs ≡ chains entries capacity used buckets bs
-  unfolding allLinked chains bucketChain linked
+  unfolding allLinked chains linked
   all-linked-same buckets [] e = refl
   all-linked-same buckets (b ∷ bs) e =
       let p = joined-parts (chain entries capacity used (getD buckets b 0)) (chains entries capacity used buckets bs) e in
-      ap
-      (λ o. joined o (allLinked entries buckets bs))
-      (linked-same (getD buckets b 0) (p .left))
-      ∙ ap (joined (chain entries capacity used (getD buckets b 0))) (all-linked-same buckets bs (p .right))
+      rw (linked-same (getD buckets b 0) (p .left), all-linked-same buckets bs (p .right))

@@ -8,11 +8,12 @@ use native.Mathlib.Omega.{arith}
 use lib.ListN.{length, getD, set, length-set}
 use Rattle.cursor.specs.Next.{next}
 use Rattle.model.specs.Keys.{bucketOf, hash}
-use Rattle.model.specs.Memory.{linkOf, keyOf, valueOf, bucketChain, listed}
-use Rattle.model.specs.Walk.{joined, chains}
+use Rattle.model.specs.Memory.{linkOf, keyOf, valueOf, listed}
+use Rattle.model.specs.Walk.{joined}
 use Rattle.model.proofs.Linked.{Linked, room, read-sound, linked-first, linked-empty}
 use Rattle.scan_group.specs.Tables.{Sizes}
-use Rattle.scan_group.specs.Written.{linked, allLinked, written, Writable}
+use Rattle.scan_group.specs.Chains.{chains, linked, allLinked}
+use Rattle.scan_group.specs.Written.{written, Writable}
 use Rattle.scan_group.proofs.Buckets.{bucketsFrom, behind, split, behind-last, behind-more}
 use Rattle.scan_group.proofs.Chains.{Parts, joined-parts}
 
@@ -38,18 +39,16 @@ module _ (entries list : List ℕ) (from : ℕ) (a b : Option (List ℕ)) (h : W
   parts : Parts a b
   parts = joined-parts a b (h .sound)
 
-  both-fit : from + (length (listed a) + length (listed b)) * 2 ≤ length list
-  both-fit = let p = parts in omega (arith, rw (p .both) at (h .fits), p .length)
-
   pub first-writable : Writable list from a
-  first-writable = record { sound = parts .left; fits = omega (arith, both-fit) }
+  first-writable = let p = parts in record { sound = p .left; fits = omega arith }
 
   module _ (to : ℕ) (list′ : List ℕ) (w : list′ ≡ written entries list from (listed a))
       (p : to ≡ from + length (listed a) * 2) where
     pub rest-writable : Writable list′ to b
     rest-writable =
-        let long : length list′ ≡ length list = ap length w ∙ length-written entries list from (listed a) in
-        record { sound = parts .right; fits = omega (arith, both-fit) }
+        let parts = parts in
+        let kept : length list′ ≡ length list = ap length w ∙ length-written entries list from (listed a) in
+        record { sound = parts .right; fits = omega arith }
 
     pub both-written : written entries list′ to (listed b) ≡ written entries list from (listed (joined a b))
     both-written = rw (w, p, parts .both) (written-more entries list from (listed a) (listed b))
@@ -124,59 +123,54 @@ module _ (entries list₀ : List ℕ) (head from : ℕ) where
       writing-place = let place = rw none-left at (h .place) in omega arith
 
 -- the pairs written, and those of the buckets from here on, are those of all the buckets
-pub record Handing (entries buckets list₀ : List ℕ) (small large cursor first at to : ℕ) (list : List ℕ) : Type 0 where
+pub record WritingLarge (entries larger list₀ : List ℕ) (small large cursor first at to : ℕ) (list : List ℕ) : Type 0 where
   pub same-length : length list ≡ length list₀
-  pub writable : Writable list to (allLinked entries buckets (bucketsFrom small large at))
-  pub so-far : written entries list to (listed (allLinked entries buckets (bucketsFrom small large at)))
-      ≡ written entries list₀ first (listed (allLinked entries buckets (bucketsFrom small large cursor)))
+  pub writable : Writable list to (allLinked entries larger (bucketsFrom small large at))
+  pub so-far : written entries list to (listed (allLinked entries larger (bucketsFrom small large at)))
+      ≡ written entries list₀ first (listed (allLinked entries larger (bucketsFrom small large cursor)))
 
-module _ (entries buckets list₀ : List ℕ) (small large cursor first : ℕ) where
-  pub handing-start : Writable list₀ first (allLinked entries buckets (bucketsFrom small large cursor))
-      → Handing entries buckets list₀ small large cursor first cursor first list₀
-  handing-start h = record { same-length = refl; writable = h; so-far = refl }
+module _ (entries larger list₀ : List ℕ) (small large cursor first : ℕ) where
+  pub large-start : Writable list₀ first (allLinked entries larger (bucketsFrom small large cursor))
+      → WritingLarge entries larger list₀ small large cursor first cursor first list₀
+  large-start h = record { same-length = refl; writable = h; so-far = refl }
 
-  module _ (g : Sizes buckets small large) (at to : ℕ) (list : List ℕ)
-      (h : Handing entries buckets list₀ small large cursor first at to list) (b : ℕ) (i : b ≡ bucketOf at large) where
-    chain-here : Option (List ℕ)
-    chain-here = linked entries (getD buckets b 0)
-
+  module _ (g : Sizes larger small large) (at to head : ℕ) (list : List ℕ)
+      (h : WritingLarge entries larger list₀ small large cursor first at to list)
+      (i : head ≡ getD larger (bucketOf at large) 0) where
     chains-behind : Option (List ℕ)
-    chains-behind = allLinked entries buckets (behind small large at)
+    chains-behind = allLinked entries larger (behind small large at)
 
-    here : allLinked entries buckets (bucketsFrom small large at) ≡ joined chain-here chains-behind
-    unfolding chain-here chains-behind allLinked linked chains bucketChain bucketOf hash
-    here = rw (split buckets small large g at, i)
+    here : allLinked entries larger (bucketsFrom small large at) ≡ joined (linked entries head) chains-behind
+    unfolding chains-behind allLinked linked chains bucketOf hash
+    here = rw (split larger small large g at, i)
 
-    writable-here : Writable list to (joined chain-here chains-behind)
+    writable-here : Writable list to (joined (linked entries head) chains-behind)
     writable-here = rw here at (h .writable)
 
-    pub chain-writable : Writable list to (linked entries (getD buckets b 0))
-    unfolding chain-here
-    chain-writable = first-writable entries list to chain-here chains-behind writable-here
+    pub chain-writable : Writable list to (linked entries head)
+    chain-writable = first-writable entries list to (linked entries head) chains-behind writable-here
 
-    module _ (r : ℕ) (list′ : List ℕ) (w : list′ ≡ written entries list to (listed (linked entries (getD buckets b 0))))
-        (p : r ≡ to + length (listed (linked entries (getD buckets b 0))) * 2) where
+    module _ (r : ℕ) (list′ : List ℕ) (w : list′ ≡ written entries list to (listed (linked entries head)))
+        (p : r ≡ to + length (listed (linked entries head)) * 2) where
       on : written entries list′ r (listed chains-behind)
-          ≡ written entries list₀ first (listed (allLinked entries buckets (bucketsFrom small large cursor)))
-      unfolding chain-here
-      on = both-written entries list to chain-here chains-behind writable-here r list′ w p ∙ (rw here at (h .so-far))
+          ≡ written entries list₀ first (listed (allLinked entries larger (bucketsFrom small large cursor)))
+      on = both-written entries list to (linked entries head) chains-behind writable-here r list′ w p ∙ (rw here at (h .so-far))
 
       ahead : Writable list′ r chains-behind
-      unfolding chain-here
-      ahead = rest-writable entries list to chain-here chains-behind writable-here r list′ w p
+      ahead = rest-writable entries list to (linked entries head) chains-behind writable-here r list′ w p
 
       module _ (turned : ℕ) (t : (c : ℕ) → large ≡ 2 ^ c → turned ≡ next large at) where
-        pub handing-end : turned < small
-            → list′ ≡ written entries list₀ first (listed (allLinked entries buckets (bucketsFrom small large cursor)))
+        pub large-end : turned < small
+            → list′ ≡ written entries list₀ first (listed (allLinked entries larger (bucketsFrom small large cursor)))
         unfolding chains-behind allLinked chains listed written
-        handing-end e = rw (behind-last buckets small large g at turned t e) at on
+        large-end e = rw (behind-last larger small large g at turned t e) at on
 
-        pub handing-next : small ≤ turned → Handing entries buckets list₀ small large cursor first turned r list′
-        unfolding chain-here chains-behind
-        handing-next e =
-            let rest = behind-more buckets small large g at turned t e in
+        pub large-next : small ≤ turned → WritingLarge entries larger list₀ small large cursor first turned r list′
+        unfolding chains-behind
+        large-next e =
+            let rest = behind-more larger small large g at turned t e in
             record {
-              same-length = ap length w ∙ length-written entries list to (listed chain-here) ∙ h .same-length;
+              same-length = ap length w ∙ length-written entries list to (listed (linked entries head)) ∙ h .same-length;
               writable = rw rest at ahead;
               so-far = rw rest at on;
             }

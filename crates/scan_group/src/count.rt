@@ -1,19 +1,20 @@
 // How many entries the group of a walk call has. Every chain is tested here, before any is written.
+use crate::bucket::bucket_head;
 use cursor::next_cursor;
-use lookup::chain::ChainLength;
-use lookup::chain::chain_length;
-use lookup::state::bucket_index;
+use memory::chain::ChainLength;
+use memory::chain::chain_length;
 ghost use mathlib.Core.Path.{_≡_};
 ghost use Rattle.cursor.specs.Group.{twoTables};
 ghost use Rattle.model.specs.Memory.{chain};
-ghost use Rattle.model.specs.Walk.{chains, joined};
-ghost use Rattle.lookup.specs.Length.{lengthOf};
+ghost use Rattle.model.specs.Walk.{joined};
+ghost use Rattle.memory.specs.Length.{lengthOf};
+ghost use Rattle.scan_group.specs.Chains.{chains};
 ghost use Rattle.scan_group.specs.Tables.{Larger, Both};
 
 // Those of the larger table. The next cursor of a size is below that size, so its bits between the two sizes are zero
 // once it is below the smaller one.
-pub fn count_large(
-    buckets: &[u32],
+fn count_large(
+    larger: &[u32],
     entries: &[u32],
     capacity: u32,
     used: u32,
@@ -21,14 +22,14 @@ pub fn count_large(
     large: u32,
     cursor: u32,
 ) -> ChainLength
-    requires { ⌜ Larger (now buckets) (now entries) capacity used small large ⌝ }
-    ensures { λ r. ⌜ r ≡ lengthOf (chains (now (entries .entry)) capacity used (now (buckets .entry)) (twoTables small large cursor .large)) ⌝ }
+    requires { ⌜ Larger (now larger) (now entries) capacity used small large ⌝ }
+    ensures { λ r. ⌜ r ≡ lengthOf (chains (now (entries .entry)) capacity used (now (larger .entry)) (twoTables small large cursor .large)) ⌝ }
 {
     let mut at = cursor;
     let mut count = 0;
     loop {
-        let b = bucket_index(at, large);
-        let length = chain_length(entries, capacity, used, buckets[b]);
+        let head = bucket_head(larger, large, at);
+        let length = chain_length(entries, capacity, used, head);
         match length {
             ChainLength::Unsound => return ChainLength::Unsound,
             ChainLength::Sound(n) => count += n,
@@ -40,27 +41,27 @@ pub fn count_large(
     }
 }
 
-// How many entries the group has in both tables: the chain of the smaller one's bucket, then the larger one's.
+// Those of both tables: the smaller one's chain, from its head, then the larger one's.
 pub fn count_group(
-    buckets: &[u32],
+    head: u32,
+    larger: &[u32],
     entries: &[u32],
     capacity: u32,
     small_used: u32,
     large_used: u32,
     small: u32,
     large: u32,
-    head: u32,
     cursor: u32,
 ) -> ChainLength
-    requires { ⌜ Both (now buckets) (now entries) capacity «small_used» «large_used» small large ⌝ }
+    requires { ⌜ Both (now larger) (now entries) capacity «small_used» «large_used» small large ⌝ }
     ensures { λ r. ⌜ r ≡ lengthOf (joined (chain (now (entries .entry)) capacity «small_used» head)
-        (chains (now (entries .entry)) capacity «large_used» (now (buckets .entry)) (twoTables small large cursor .large))) ⌝ }
+        (chains (now (entries .entry)) capacity «large_used» (now (larger .entry)) (twoTables small large cursor .large))) ⌝ }
 {
     let first = chain_length(entries, capacity, small_used, head);
     match first {
         ChainLength::Unsound => ChainLength::Unsound,
         ChainLength::Sound(n) => {
-            let rest = count_large(buckets, entries, capacity, large_used, small, large, cursor);
+            let rest = count_large(larger, entries, capacity, large_used, small, large, cursor);
             match rest {
                 ChainLength::Unsound => ChainLength::Unsound,
                 ChainLength::Sound(m) => ChainLength::Sound(n + m),

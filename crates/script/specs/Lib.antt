@@ -1,4 +1,4 @@
--- The program as definitions, read beside paper 01, "The program": numbers, lines, answers, and the script.
+-- SPECIFICATION, "The program", as definitions: numbers, lines, answers, and the script.
 pub mod Numbers
 pub mod Lines
 pub mod Answers

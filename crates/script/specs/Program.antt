@@ -1,12 +1,12 @@
--- The program: what each line of a script writes and leaves, and what a script writes. Every call goes through model's
--- `perform`, and `carry` keeps the store of a refused call.
+-- SPECIFICATION, "The program": what each line of a script writes and leaves, and what a script writes. Every call goes
+-- through model's `perform`, and `carry` keeps the store of a refused call.
 use Prim.Native.Nat.{ℕ, _*_}
 use mathlib.Core.Bool.{cond}
 use mathlib.Core.List.{List, [], _∷_, _++_}
 use lib.ListN.{length, getD, take, replicate}
 use lib.Dec.{ltb}
 use Rattle.model.specs.Calls.{noState}
-use Rattle.model.specs.Sequences.{Call, World, Outcome, perform, carry}
+use Rattle.model.specs.Sequences.{KeyCall, Call, World, world, Outcome, perform, carry}
 use Rattle.script.specs.declared.line.Command.{Command}
 use Rattle.script.specs.Lines.{command, linesOf}
 use Rattle.script.specs.Answers.{answerLine, badLine}
@@ -17,30 +17,31 @@ pub record Ran : Type 0 where
   pub world : World
   pub lent : List ℕ
 
-unfoldable pub answered : World → List ℕ → Outcome → Ran
-answered w lent o =
-    record { written = answerLine (o .reply .number) (o .reply .values); world = carry w o; lent = lent }
+-- a call's answer, with some numbers behind its values, what it leaves, and the list that walk calls are then lent
+unfoldable pub answered : World → Outcome → (more lent : List ℕ) → Ran
+answered w o more lent =
+    record { written = answerLine (o .reply .number) (o .reply .values ++ more); world = carry w o; lent = lent }
 
--- after a walk's next cursor and number of keys come the pairs that it handed out
-unfoldable pub handedOut : World → Outcome → Ran
-handedOut w o =
-    record {
-      written =
-          answerLine (o .reply .number) (o .reply .values ++ take (getD (o .reply .values) 1 0 * 2) (o .lent));
-      world = carry w o;
-      lent = o .lent;
-    }
+unfoldable pub called : World → List ℕ → Call → Ran
+called w lent call = answered w (perform w call) [] lent
+
+-- the pairs that a walk call hands out: two numbers for each of the keys that it answers
+unfoldable pub handedOut : Outcome → List ℕ
+handedOut o = take (getD (o .reply .values) 1 0 * 2) (o .lent)
+
+unfoldable pub walked : World → Call → Ran
+walked w call = let o = perform w call in answered w o (handedOut o) (o .lent)
 
 unfoldable pub runCommand : World → List ℕ → Command → Ran
 runCommand w lent Command.Bad = record { written = answerLine badLine []; world = w; lent = lent }
-runCommand w lent (Command.Init capacity size) = answered w lent (perform w (Call.init capacity size))
-runCommand w lent (Command.Add key value) = answered w lent (perform w (Call.add key value))
-runCommand w lent (Command.Update key value) = answered w lent (perform w (Call.update key value))
-runCommand w lent (Command.Delete key) = answered w lent (perform w (Call.delete key))
-runCommand w lent (Command.Find key) = answered w lent (perform w (Call.find key))
-runCommand w lent (Command.Resize size) = answered w lent (perform w (Call.resize size))
-runCommand w lent Command.RehashStep = answered w lent (perform w Call.rehashStep)
-runCommand w lent (Command.Scan cursor) = handedOut w (perform w (Call.scan cursor lent))
+runCommand w lent (Command.Init capacity size) = called w lent (Call.init capacity size)
+runCommand w lent (Command.Add key value) = called w lent (Call.on key (KeyCall.add value))
+runCommand w lent (Command.Update key value) = called w lent (Call.on key (KeyCall.update value))
+runCommand w lent (Command.Delete key) = called w lent (Call.on key KeyCall.delete)
+runCommand w lent (Command.Find key) = called w lent (Call.on key KeyCall.find)
+runCommand w lent (Command.Resize size) = called w lent (Call.resize size)
+runCommand w lent Command.RehashStep = called w lent Call.rehashStep
+runCommand w lent (Command.Scan cursor) = walked w (Call.scan cursor lent)
 
 unfoldable pub runLine : World → List ℕ → List ℕ → Ran
 runLine w lent line = runCommand w lent (command line)
@@ -63,13 +64,7 @@ unfoldable pub programRoom : ℕ
 programRoom = 4096
 
 unfoldable pub firstWorld : World
-firstWorld =
-    record {
-      state = noState;
-      first = replicate programRoom 0;
-      second = replicate programRoom 0;
-      entries = replicate (programRoom * 3) 0;
-    }
+firstWorld = world noState (replicate programRoom 0) (replicate programRoom 0) (replicate (programRoom * 3) 0)
 
 unfoldable pub runScript : List ℕ → List ℕ
 runScript script =

@@ -10,7 +10,7 @@ ghost use Rattle.script.specs.Numbers.{decimal};
 ghost use Rattle.script.specs.Lines.{space};
 ghost use Rattle.script.specs.Answers.{spaced, answerLine, Wrote};
 
-// Paper 01: the number of a refusal.
+// The number of a refusal (SPECIFICATION, "Answers").
 pub fn error_number(e: Error) -> u32
     ensures { λ r. ⌜ r ≡ errorNumber e ⌝ }
 {

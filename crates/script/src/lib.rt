@@ -1,4 +1,4 @@
-// A script's lines in, their answers out, over byte slices (paper 01: the program).
+// A script's lines in, their answers out, over byte slices (SPECIFICATION, "The program").
 
 pub mod answer;
 pub mod line;

@@ -6,7 +6,7 @@ ghost use lib.ListN.{length, drop};
 ghost use Rattle.script.specs.Lines.{space, split, one, two, arguments, named, command, linesOf};
 ghost use Rattle.script.specs.Places.{Reaches, linesFrom};
 
-// A line of a script (paper 01: the program), by its letter. Anything else is Bad.
+// A line of a script (SPECIFICATION, "The script"), by its letter. Anything else is Bad.
 pub enum Command {
     Bad,
     Init { capacity: u32, size: u32 },

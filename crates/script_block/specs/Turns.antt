@@ -1,22 +1,15 @@
 -- What the functions below `run_block` ask and hand up, one line a turn.
-use Prim.Native.Nat.{ℕ, suc, _+_, _-_, _≤_}
+use Prim.Native.Nat.{ℕ, _+_, _≤_}
 use mathlib.Core.Path.{_≡_}
-use mathlib.Core.List.{List, _∷_, _++_}
-use lib.ListN.{length, take, drop}
+use mathlib.Core.List.{List, _++_}
+use lib.ListN.{length, take}
 use Rattle.model.specs.Sequences.{World}
-use Rattle.script.specs.Lines.{linesOf}
 use Rattle.script.specs.Program.{Ran}
 use Rattle.script_run.specs.Runs.{pairRoom, lineRoom}
 
 -- the block has room for two of the longest answers
 abbrev pub blockRoom : ℕ
 blockRoom = lineRoom + lineRoom
-
--- The line that starts at a place ends at another, and the next one starts behind that.
-pub record LineAt (script : List ℕ) (from end : ℕ) : Type 0 where
-  pub lines : linesOf (drop from script) ≡ take (end - from) (drop from script) ∷ linesOf (drop (suc end) script)
-  pub starts : from ≤ end
-  pub ends : end ≤ length script
 
 -- There is room in the block for the longest answer, and a walk call is lent no more than that is long for.
 pub record Room (block : List ℕ) (filled : ℕ) (lent : List ℕ) : Type 0 where

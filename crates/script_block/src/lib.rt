@@ -1,21 +1,22 @@
-// A script's answers, gathered in blocks, so that a program needs no system call for each line (paper 01: the program).
+// A script's answers, gathered in blocks, so that a program needs no system call for each line (SPECIFICATION, "The
+// program").
 use model::State;
 use script::line::NextLine;
 use script::line::next_line;
-use script_run::LINE_ROOM;
-use script_run::LineAnswer;
-use script_run::PAIR_ROOM;
-use script_run::run_line;
-ghost use Prim.Native.Nat.{_-_};
-ghost use lib.ListN.{take, drop};
+use script_run::answer::LINE_ROOM;
+use script_run::answer::LineAnswer;
+use script_run::answer::PAIR_ROOM;
+use script_run::line::run_line;
+ghost use Prim.Native.Nat.{_-_, _≤_};
+ghost use lib.ListN.{length, take, drop};
+ghost use Rattle.model.specs.Sequences.{world};
 ghost use Rattle.script.specs.Program.{runLine};
-ghost use Rattle.script_run.specs.Runs.{worldOf};
 ghost use Rattle.script_block.specs.Blocks.{RunsBlock};
-ghost use Rattle.script_block.specs.Turns.{Room, LineAt, RunsInto};
+ghost use Rattle.script_block.specs.Turns.{Room, RunsInto};
 
 // The bytes of a block: two of the longest answers. A line runs while there is room for the longest, so a block that is
 // written before the script ends is at least half full.
-pub const BLOCK_ROOM: usize = 180272;
+pub const BLOCK_ROOM: usize = LINE_ROOM + LINE_ROOM;
 
 // How far a script has run: the state for its next line, where that starts, and how many bytes of the block are filled.
 pub struct Progress {
@@ -37,8 +38,8 @@ fn run_into(
 ) -> LineAnswer
     requires { ⌜ Room (now block) filled (now pairs) ⌝ }
     ensures { λ r. ⌜ RunsInto
-        (runLine (worldOf s (now (first .entry)) (now (second .entry)) (now (entries .entry))) (now (pairs .entry)) (now (line .entry)))
-        (worldOf (r .state) (now (first .exit)) (now (second .exit)) (now (entries .exit))) (now (pairs .exit))
+        (runLine (world s (now (first .entry)) (now (second .entry)) (now (entries .entry))) (now (pairs .entry)) (now (line .entry)))
+        (world (r .state) (now (first .exit)) (now (second .exit)) (now (entries .exit))) (now (pairs .exit))
         (now (block .entry)) filled (now (block .exit)) (r .length) ⌝ }
 {
     run_line(first, second, entries, pairs, &mut block[filled..], s, line)
@@ -58,11 +59,11 @@ fn run_one(
     filled: usize,
 ) -> LineAnswer
     requires { ⌜ Room (now block) filled (now pairs) ⌝ }
-    requires { ⌜ LineAt (now script) from end ⌝ }
+    requires { ⌜ (from ≤ end) × (end ≤ length (now script)) ⌝ }
     ensures { λ r. ⌜ RunsInto
-        (runLine (worldOf s (now (first .entry)) (now (second .entry)) (now (entries .entry))) (now (pairs .entry))
+        (runLine (world s (now (first .entry)) (now (second .entry)) (now (entries .entry))) (now (pairs .entry))
         (take (end - from) (drop from (now (script .entry)))))
-        (worldOf (r .state) (now (first .exit)) (now (second .exit)) (now (entries .exit))) (now (pairs .exit))
+        (world (r .state) (now (first .exit)) (now (second .exit)) (now (entries .exit))) (now (pairs .exit))
         (now (block .entry)) filled (now (block .exit)) (r .length) ⌝ }
 {
     run_into(
@@ -89,8 +90,8 @@ pub fn run_block(
     from: usize,
 ) -> Progress
     ensures { λ r. ⌜ RunsBlock (now (script .entry))
-        (worldOf s (now (first .entry)) (now (second .entry)) (now (entries .entry))) (now (pairs .entry)) from
-        (worldOf (r .state) (now (first .exit)) (now (second .exit)) (now (entries .exit))) (now (pairs .exit)) (r .next)
+        (world s (now (first .entry)) (now (second .entry)) (now (entries .entry))) (now (pairs .entry)) from
+        (world (r .state) (now (first .exit)) (now (second .exit)) (now (entries .exit))) (now (pairs .exit)) (r .next)
         (now (block .exit)) (r .filled) ⌝ }
 {
     let mut state = s;

@@ -1,2 +1,3 @@
--- A block's front, and how a script is used up.
+-- A buffer's front, and how a script is used up.
+mod Reading
 mod Writing

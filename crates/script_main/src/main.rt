@@ -1,12 +1,13 @@
-// The program of paper 01: a script from standard input, its answers to standard output.
+// The program (SPECIFICATION, "The program"): a script from standard input, its answers to standard output.
 use dict_tables::init::no_state;
 use libc::STDIN_FILENO;
 use libc::STDOUT_FILENO;
 use script_block::BLOCK_ROOM;
 use script_block::run_block;
-use script_run::PAIR_ROOM;
+use script_run::answer::PAIR_ROOM;
 ghost use Prim.Native.Nat.{_≤_};
 ghost use lib.ListN.{length};
+ghost use Rattle.script_main.specs.Input.{Within};
 
 // The bytes of the longest script.
 const LONGEST_SCRIPT: usize = 65536;
@@ -65,14 +66,39 @@ fn run_script(script: &[u8]) {
     );
 }
 
+// What came of reading: a read that failed, or as many bytes at the front of the buffer.
+enum Input {
+    Failed,
+    Bytes(usize),
+}
+
+// Reads until the buffer is full or the input ends. Only what read itself answers tells whether it failed.
+fn read_input(text: &mut [u8]) -> Input
+    ensures { λ r. ⌜ Within r (now (text .exit)) ⌝ }
+{
+    let mut filled = 0;
+    while filled < text.len() {
+        let got = libc::read(STDIN_FILENO, &mut text[filled..]);
+        if got < 0 {
+            return Input::Failed;
+        }
+        let more = io::count(got, &text[filled..]);
+        if more == 0 {
+            break;
+        }
+        filled += more;
+    }
+    Input::Bytes(filled)
+}
+
 fn main() {
     // One byte more than a script may have, so that one that is too long shows.
     let mut text = [0u8; LONGEST_SCRIPT + 1];
-    let length = io::read_full(STDIN_FILENO, &mut text);
-    if os::errno() != 0 {
+    let input = read_input(&mut text);
+    let Input::Bytes(length) = input else {
         os::fail(b"read");
         return;
-    }
+    };
     if LONGEST_SCRIPT < length {
         write_front(b"10\n", 3);
         return;

@@ -1,3 +1,5 @@
 -- From what a call of the store answers and the line that is written to what the definitions say of a line.
-mod Handing
+mod Calls
+mod Room
+mod Walk
 mod Commands

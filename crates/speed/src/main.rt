@@ -12,20 +12,18 @@ use keys::KEYS;
 use keys::make_keys;
 use libc::STDIN_FILENO;
 use libc::STDOUT_FILENO;
+use order::ORDER_ROOM;
 use order::Order;
 use order::Work;
 use order::parse_order;
 use rounds::all_rounds;
-
-// The longest order has 13 bytes, so one that fills the buffer is bad.
-const ORDER_ROOM: usize = 16;
 
 // Three numbers for each entry, and two in a walk's list for each key.
 const ENTRY_ROOM: usize = 12288;
 
 const LIST_ROOM: usize = 8192;
 
-fn run(work: Work, rounds: u32, zero: u8) -> u32 {
+fn run(work: Work, rounds: u32, padding: &[u8; ORDER_ROOM]) -> u32 {
     let mut first = [0u32; KEYS];
     let mut second = [0u32; KEYS];
     let mut entries = [0u32; ENTRY_ROOM];
@@ -40,18 +38,18 @@ fn run(work: Work, rounds: u32, zero: u8) -> u32 {
         &keys,
         work,
         rounds,
-        zero,
+        padding,
     )
 }
 
-fn answer(text: &[u8], zero: u8) {
+fn answer(text: &[u8], padding: &[u8; ORDER_ROOM]) {
     let order = parse_order(text);
     match order {
         Order::Bad => {
             io::write_all(STDOUT_FILENO, b"bad order\n");
         }
         Order::Repeat(work, rounds) => {
-            io::print_decimal(STDOUT_FILENO, run(work, rounds, zero) as u64);
+            io::print_decimal(STDOUT_FILENO, run(work, rounds, padding) as u64);
             io::write_all(STDOUT_FILENO, b"\n");
         }
     }
@@ -60,7 +58,6 @@ fn answer(text: &[u8], zero: u8) {
 fn main() {
     let mut text = [0u8; ORDER_ROOM];
     let length = io::read_full(STDIN_FILENO, &mut text);
-    // No good order reaches the last byte.
-    let zero = text[ORDER_ROOM - 1];
-    answer(&text[..length], zero);
+    let padding = text;
+    answer(&text[..length], &padding);
 }

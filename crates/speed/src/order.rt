@@ -2,6 +2,10 @@
 use script::number::Number;
 use script::number::parse_number;
 
+// The longest order has 13 bytes, so one that reaches into the buffer's second half is bad. Behind a good one that half is
+// 0, and the rounds hide the state with it.
+pub(crate) const ORDER_ROOM: usize = 32;
+
 pub(crate) enum Work {
     Adds,
     Finds,

@@ -3,9 +3,10 @@ use crate::keys::key_at;
 use crate::keys::next_key;
 use crate::keys::next_place;
 use crate::keys::path_of;
+use crate::order::ORDER_ROOM;
 use crate::order::Work;
 use dict_add::add::add;
-use dict_find::find::find;
+use dict_find_update::find::find;
 use dict_scan::scan::scan;
 use dict_tables::init::init;
 use model::AddAnswer;
@@ -34,21 +35,24 @@ fn new_store(first: &mut [u32], second: &mut [u32], entries: &mut [u32]) -> Stat
     }
 }
 
-// The same state as long as zero is 0, which it is: but no compiler knows that, so none can drop a test of a state whose
-// start it has seen. Where a caller keeps the state between calls none could either.
-fn hide(s: State, zero: u8) -> State {
-    let on = zero != 0;
-    let bits = zero as u32;
+fn wide(b: u8) -> u32 {
+    b as u32
+}
+
+// The same state, since the padding behind an order is 0: but no compiler knows that, so none can drop a test of a state
+// whose start it has seen. Where a caller keeps the state between calls none could either. Each field has a byte of its
+// own: one for all would tell the compiler that the two flags are equal.
+fn hide(s: State, padding: &[u8; ORDER_ROOM]) -> State {
     State {
-        second_is_current: s.second_is_current | on,
-        old_size: s.old_size ^ bits,
-        new_size: s.new_size ^ bits,
-        old_used: s.old_used ^ bits,
-        new_used: s.new_used ^ bits,
-        rehashing: s.rehashing | on,
-        rehash_index: s.rehash_index ^ bits,
-        free_head: s.free_head ^ bits,
-        capacity: s.capacity ^ bits,
+        second_is_current: s.second_is_current | (padding[16] != 0),
+        old_size: s.old_size ^ wide(padding[17]),
+        new_size: s.new_size ^ wide(padding[18]),
+        old_used: s.old_used ^ wide(padding[19]),
+        new_used: s.new_used ^ wide(padding[20]),
+        rehashing: s.rehashing | (padding[21] != 0),
+        rehash_index: s.rehash_index ^ wide(padding[22]),
+        free_head: s.free_head ^ wide(padding[23]),
+        capacity: s.capacity ^ wide(padding[24]),
     }
 }
 
@@ -95,9 +99,9 @@ fn fill(
     entries: &mut [u32],
     keys: &[u32],
     seed: u32,
-    zero: u8,
+    padding: &[u8; ORDER_ROOM],
 ) -> State {
-    let s = hide(new_store(first, second, entries), zero);
+    let s = hide(new_store(first, second, entries), padding);
     add_all(first, second, entries, keys, s, seed)
 }
 
@@ -218,13 +222,13 @@ fn one_round(
     work: Work,
     before: Round,
     seed: u32,
-    zero: u8,
+    padding: &[u8; ORDER_ROOM],
 ) -> Round {
     let s = before.state;
     let sum = before.sum;
     match work {
         Work::Adds => {
-            let state = fill(first, second, entries, keys, seed, zero);
+            let state = fill(first, second, entries, keys, seed, padding);
             Round { state, sum }
         }
         Work::Finds => {
@@ -248,16 +252,26 @@ pub(crate) fn all_rounds(
     keys: &[u32],
     work: Work,
     rounds: u32,
-    zero: u8,
+    padding: &[u8; ORDER_ROOM],
 ) -> u32 {
-    let state = fill(first, second, entries, keys, SEED, zero);
+    let state = fill(first, second, entries, keys, SEED, padding);
     let mut last = Round { state, sum: 0 };
     let mut seed = SEED;
     let mut left = rounds;
     while 0 < left {
         left -= 1;
         seed = next_key(seed);
-        last = one_round(first, second, entries, list, keys, work, last, seed, zero);
+        last = one_round(
+            first,
+            second,
+            entries,
+            list,
+            keys,
+            work,
+            last,
+            seed,
+            padding,
+        );
     }
     let s = last.state;
     walk_all(first, second, entries, list, s, last.sum)

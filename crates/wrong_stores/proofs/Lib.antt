@@ -1,6 +1,12 @@
--- Each wrong store refuted: demand 3 does not hold of it.
+-- Each wrong store refuted: a demand does not hold of it.
 pub mod Start
+pub mod Starts
 pub mod KeyCalls
-pub mod Steps
 pub mod Walks
-pub mod LeftOpen
+pub mod Rehashes
+pub mod ReadCalls
+pub mod Refusals
+pub mod OneMoment
+pub mod Reordered
+pub mod SameNumbers
+pub mod ChainOrder

@@ -1,87 +1,163 @@
--- What the refutations share: a world of zeros to start from, demand 3 at a start of three entries in it, and everything
--- that a store of specs/ computes with, opened by one name.
+-- What the refutations share: a world of zeros to start from, demand 3 at a start of three entries in it, and everything that
+-- a store of specs/ computes with, opened by one name.
 -- Assumes nothing.
-use Prim.Native.Nat.{ℕ}
-use mathlib.Core.Path.{_≡_, _∙_, ap}
+use Prim.Native.Nat.{ℕ, zero, suc, _<_}
+use mathlib.Core.Path.{_≡_, refl, sym, _∙_, ap}
 use mathlib.Core.Bool.{false}
+use mathlib.Core.Logic.{_⊎_, inl, inr}
 use mathlib.Core.List.{List}
 use lib.ListN.{replicate, getD}
 use native.Mathlib.Omega.{arith}
 use lib.Dec.{eqb}
 use borrow.Author.Tests.{eqb-false}
+use Rattle.cursor.specs.Member as member
+use Rattle.cursor.specs.Member.{In}
 use Rattle.cursor.specs.Reverse as reversal
 use Rattle.cursor.specs.Next as next
 use Rattle.cursor.specs.Group as groups
 use Rattle.model.specs.Keys as keys
 use Rattle.model.specs.Limits as limits
+use Rattle.model.specs.declared.Table.{Table}
 use Rattle.model.specs.Memory as memory
+use Rattle.model.specs.Memory.{keyOf, valueOf, Place, Live, sizeOf, entriesAt}
 use Rattle.model.specs.Answers as answers
 use Rattle.model.specs.Calls as calls
 use Rattle.model.specs.Walk as walk
 use Rattle.model.specs.Sequences as sequences
-use Rattle.model.specs.Sequences.{World, Call, Outcome, carry}
+use Rattle.model.specs.Sequences.{World, KeyCall, ReadCall, Call, Outcome, carry}
 use Rattle.refinement.specs.Worlds as worlds
+use Rattle.refinement.specs.Worlds.{current, other, Held}
+use Rattle.refinement.specs.Demand1 as demand1
 use Rattle.refinement.specs.Demand2 as demand2
 use Rattle.refinement.specs.Demand3 as demand3
 use Rattle.refinement.specs.Demand3.{Demand3, SequenceHolds, lengthsOf, begun, startNumber}
 use Rattle.wrong_stores.specs.OneCall as one
+use Rattle.wrong_stores.specs.OneCall.{byCall, byReadCall}
 
 -- two bucket buffers of 16 numbers, and an entry buffer for three entries, all zeros
 unfoldable pub zeros : World
-zeros =
-    record { state = calls.noState; first = replicate 16 0; second = replicate 16 0; entries = replicate 9 0 }
+zeros = sequences.world calls.noState (replicate 16 0) (replicate 16 0) (replicate 9 0)
 
 -- after a start of three entries and that size
 unfoldable pub started : (World → Call → Outcome) → ℕ → World
 started does size = carry zeros (does zeros (Call.init 3 size))
 
+-- a lent list with room for every key
+unfoldable pub room : List ℕ
+room = replicate 6 0
+
+-- The calls on a key, as a history has them.
+
+abbrev pub find : ℕ → Call
+find key = Call.on key KeyCall.find
+
+abbrev pub update : ℕ → ℕ → Call
+update key value = Call.on key (KeyCall.update value)
+
+abbrev pub add : ℕ → ℕ → Call
+add key value = Call.on key (KeyCall.add value)
+
+abbrev pub delete : ℕ → Call
+delete key = Call.on key KeyCall.delete
+
+-- 1 for a look, and for a walk call; else 0
+
+unfoldable pub isLook : Call → ℕ
+isLook = byCall (λ capacity size. 0) (λ key c. 0) (λ size. 0) 0 (λ cursor lent. 0) (byReadCall (λ growing. 0) 1)
+
+unfoldable pub isScan : Call → ℕ
+isScan = byCall (λ capacity size. 0) (λ key c. 0) (λ size. 0) 0 (λ cursor lent. 1) (λ c. 0)
+
 -- All that a history computes with, opened by one name: to unfold `computing` is to unfold every definition named here.
 
 -- the next cursor and the groups
 unfoldable pub theCursor : Unit {0}
-unfolding reversal.reverse reversal.rev next.setHigh next.addOne next.next groups.oneTable groups.betweenZero groups.sweep groups.twoTables
+unfolding member.any member.keep reversal.reverse reversal.rev next.setHigh next.addOne next.next groups.oneTable groups.betweenZero groups.sweep groups.twoTables
 theCursor = tt
 
 -- keys, limits, chains
 unfoldable pub theMemory : Unit {0}
-unfolding keys.hash keys.bucketOf limits.largestCapacity limits.largestExponent limits.powerUpTo limits.legalSize memory.linkOf memory.keyOf memory.valueOf memory.setLink memory.setKey memory.setValue memory.setEntry memory.soundCapacity memory.soundTable memory.soundMove memory.soundBase memory.soundState memory.met memory.chain memory.bucketChain memory.Live memory.chainAt memory.listed memory.entriesAt memory.Home memory.IsBucket memory.sum
+unfolding keys.hash keys.bucketOf limits.largestCapacity limits.largestExponent limits.legalCapacity limits.powerUpTo limits.legalSize memory.linkOf memory.keyOf memory.valueOf memory.setLink memory.setKey memory.setValue memory.setEntry memory.sizeOf memory.usedOf memory.bucketsOf memory.keysHeld memory.soundCapacity memory.soundTable memory.soundRehash memory.soundBase memory.soundState memory.met memory.chain memory.Live memory.keyPlace memory.headAt memory.budgetAt memory.chainAt memory.listed memory.entriesAt memory.sum
 theMemory = tt
 
 -- the calls and what they answer
 unfoldable pub theCalls : Unit {0}
-unfolding answers.errorNumber answers.shortNumber answers.flag answers.initReply answers.findReply answers.updateReply answers.addReply answers.deleteReply answers.resizeReply answers.stepReply answers.sizeReply answers.bucketsReply answers.scanReply calls.swapped calls.oriented calls.orientedBack calls.cleared calls.keysHeld calls.freeLink calls.freeEntries calls.noState calls.newState calls.withinLimits calls.longEnough calls.init calls.firstWith calls.searched calls.both calls.lookupIn calls.lookup calls.sound calls.found calls.findIn calls.find calls.updated calls.updateIn calls.update calls.addedOld calls.addedNew calls.pushBucket calls.pushEntry calls.pushed calls.takeable calls.added calls.addIn calls.add calls.deletedOld calls.deletedNew calls.unlinkBucket calls.unlinkEntry calls.freed calls.deleted calls.deleteIn calls.delete calls.acceptable calls.resizing calls.resized calls.resizeIn calls.resize calls.firstFilled calls.movedBuckets calls.movedEntries calls.steppedPast calls.finished calls.movedChain calls.movedFrom calls.stepped calls.rehashStepIn calls.rehashStep calls.powerFrom calls.sizeFor calls.suggested calls.suggestedSizeIn calls.suggestedSize calls.bucketsIn calls.buckets walk.joined walk.chains walk.group walk.groupEntries walk.pairs walk.handOut walk.scanIn walk.scan
+unfolding answers.reply answers.errorNumber answers.initReply answers.findReply answers.updateReply answers.addReply answers.deleteReply answers.resizeReply answers.stepReply answers.sizeReply answers.tableReply answers.scanReply calls.sound calls.oriented calls.checked calls.reading calls.back calls.writing calls.changed calls.stateOf calls.oldNew calls.emptyState calls.recounted calls.retabled calls.cleared calls.freeLink calls.freeEntries calls.noState calls.longEnough calls.init calls.firstWith calls.searched calls.both calls.lookupIn calls.lookupWhile calls.lookup calls.held calls.found calls.find calls.updated calls.update calls.push calls.withCount calls.pushed calls.target calls.takeable calls.added calls.add calls.unlinkBucket calls.unlinkEntry calls.removed calls.deleted calls.delete calls.acceptable calls.resizing calls.resized calls.resize calls.firstFilled calls.moved calls.steppedPast calls.finished calls.movedChain calls.movedFrom calls.stepped calls.rehashStep calls.powerFrom calls.suggested calls.suggestedSize calls.currentTable walk.tablesBy walk.tablesOf walk.smallerOf walk.group walk.smallFirst walk.groupPlaces walk.joined walk.chainsAt walk.pairs walk.scanned walk.scan
 theCalls = tt
 
--- histories, the plain map, the live tables; and ours but for one call
+-- histories, the plain map; and ours but for one call
 unfoldable pub theHistories : Unit {0}
-unfolding sequences.kept sequences.left sequences.handedOut sequences.perform sequences.carriedState sequences.carry sequences.run sequences.event sequences.events sequences.valueFor sequences.withValue sequences.without sequences.refusedMap sequences.doneMap sequences.mapFind sequences.mapUpdate sequences.mapAdd sequences.mapDelete sequences.mapReply sequences.oldOf sequences.newOf one.changed one.same one.sameAdd one.sameScan one.butFind one.butUpdate one.butDelete one.butResize one.butStep one.butAdd one.butScan one.ifDone one.answering one.leaving
+unfolding sequences.world sequences.kept sequences.keptScan sequences.left sequences.given sequences.perform sequences.carriedState sequences.carry sequences.run sequences.event sequences.events sequences.keysOf sequences.valueFor sequences.withValue sequences.without sequences.withPairs sequences.mapAnswer sequences.mapDoes one.none one.byCall one.byKeyCall one.byReadCall one.but one.butInit one.butOn one.butResize one.butStep one.butScan one.butRead one.butFind one.butUpdate one.butAdd one.butDelete one.butSuggestedSize one.butLook one.byNumber one.ifDone one.ifRefused one.replying one.answering one.handingBack one.listing one.leaving
 theHistories = tt
 
--- demand 3, and what it says of a world
-unfoldable pub theStatement : Unit {0}
-unfolding worlds.current worlds.other worlds.tablesBy worlds.tablesOf worlds.inOld worlds.UndamagedAt worlds.KeysDistinct demand2.KeyCall demand2.placesOf demand2.groupPlaces demand2.entriesIn demand2.nextCursor demand3.lengthsOf demand3.ideal demand3.begun demand3.answer demand3.startNumber demand3.startAnswer demand3.mapAnswer demand3.keep demand3.keysOf demand3.resizeAnswer demand3.lowest demand3.moveAnswer demand3.stepAnswer demand3.smallerOf demand3.groupAt demand3.groupIn demand3.among demand3.tableSize demand3.groupPairs demand3.walkAnswer demand3.predict demand3.replay demand3.pairsIn demand3.handed demand3.Answered demand3.largest demand3.HeldAtEach demand3.HandedOut
-theStatement = tt
+-- the demands, and what they say of a world
+unfoldable pub theStatements : Unit {0}
+unfolding worlds.current worlds.other worlds.UndamagedAt demand1.BadState demand1.nth demand1.headOf demand1.ChainAt demand1.SoundChain demand1.Damaged demand1.liveTables demand1.keyPlaces demand1.OnChain demand1.KeyHeld demand1.Full demand1.FreeListDamaged demand1.EmptyFrom demand1.StepDamaged demand1.places demand1.KeysOn demand1.GroupDamaged demand1.Short demand1.row demand1.keyRows demand1.rows demand1.Decides demand1.Leaves demand1.keyZeros demand1.LeavesAll demand2.groupEntries demand2.nextCursor demand2.HandsOut demand3.lengthsOf demand3.ideal demand3.begun demand3.among demand3.tableOf demand3.sizeIn demand3.startNumber demand3.startAnswer demand3.keyAnswer demand3.resizeAnswer demand3.lowest demand3.stepAnswer demand3.isBucket demand3.inGroup demand3.groupPairs demand3.scanAnswer demand3.readAnswer demand3.predict demand3.replay demand3.pairsIn demand3.handedOut demand3.Answered demand3.largest demand3.HeldAtEach demand3.HandedOutAtSome
+theStatements = tt
 
 unfoldable pub computing : Unit {0}
-unfolding zeros started theCursor theMemory theCalls theHistories theStatement
+unfolding zeros started room isLook isScan theCursor theMemory theCalls theHistories theStatements
 computing = tt
 
 -- demand 3 at a history that begins with that start, for a size that it accepts
 pub at : {does : World → Call → Outcome} → Demand3 does → (size : ℕ) → startNumber (lengthsOf zeros) 3 size ≡ 0
-    → (calls : List Call) → SequenceHolds does (started does size) (begun (lengthsOf zeros) 3 size) calls
+    → (calls : List Call) → SequenceHolds does (lengthsOf zeros) (started does size) (begun 3 size) calls
 unfolding zeros started
 at d size fits calls = d .sequence zeros 3 size (d .begins zeros 3 size ∙ fits) calls
 
--- two lists that differ at a place
+-- Two things that some number tells apart; two lists, by the number at a place.
+
+pub apart : {A : Type 0} (number : A → ℕ) (x y : A) → eqb (number x) (number y) ≡ false → x ≡ y → ⊥
+apart number x y e same = eqb-false _ _ e (ap number same)
+
 pub differ : (i : ℕ) (xs ys : List ℕ) → eqb (getD xs i 0) (getD ys i 0) ≡ false → xs ≡ ys → ⊥
-differ i xs ys e same = eqb-false _ _ e (ap (λ (l : List ℕ). getD l i 0) same)
+differ i xs ys e same = apart (λ (l : List ℕ). getD l i 0) xs ys e same
 
--- no call but a look is one
-pub find-no-look : {key : ℕ} → Call.find key ≡ Call.buckets → ⊥
-find-no-look e = let z : _≡_ {A = ℕ} 0 1 = cc in omega arith
+pub neither : {A B : Type 0} → (A → ⊥) → (B → ⊥) → A ⊎ B → ⊥
+neither f g (inl a) = f a
+neither f g (inr b) = g b
 
-pub step-no-look : Call.rehashStep ≡ Call.buckets → ⊥
-step-no-look e = let z : _≡_ {A = ℕ} 0 1 = cc in omega arith
+-- calls that are no look, and no walk call
 
-pub scan-no-look : {cursor : ℕ} {lent : List ℕ} → Call.scan cursor lent ≡ Call.buckets → ⊥
-scan-no-look e = let z : _≡_ {A = ℕ} 0 1 = cc in omega arith
+pub no-look : {c : Call} → isLook c ≡ 0 → c ≡ Call.read ReadCall.currentTable → ⊥
+unfolding isLook byCall byReadCall
+no-look is-not same = eqb-false 0 1 refl (sym is-not ∙ ap isLook same)
+
+pub no-scan : {c : Call} {cursor : ℕ} {lent : List ℕ} → isScan c ≡ 0 → c ≡ Call.scan cursor lent → ⊥
+unfolding isScan byCall
+no-scan is-not same = eqb-false 0 1 refl (sym is-not ∙ ap isScan same)
+
+-- the entries at a place
+abbrev pub entriesIn : World → Place → List ℕ
+entriesIn w p = entriesAt (w .state) (current w) (other w) (w .entries) p
+
+-- With one table of one bucket, an entry that is not in that bucket is in none, and one that is not free either on no chain.
+
+pub in-no-bucket : (w : World) (n : ℕ) → w .state .«old_size» ≡ 1 → w .state .«new_size» ≡ 0
+    → (In n (entriesIn w (Place.bucket Table.Old 0)) → ⊥) → (t : Table) (b : ℕ)
+    → b < sizeOf (w .state) t → In n (entriesIn w (Place.bucket t b)) → ⊥
+unfolding memory.sizeOf
+in-no-bucket w n one no-new not-there Table.Old zero live h = not-there h
+in-no-bucket w n one no-new not-there Table.Old (suc b) live h = omega arith
+in-no-bucket w n one no-new not-there Table.New b live h = omega arith
+
+pub on-no-chain : (w : World) (n : ℕ) → w .state .«old_size» ≡ 1 → w .state .«new_size» ≡ 0
+    → (In n (entriesIn w Place.free) → ⊥)
+    → (In n (entriesIn w (Place.bucket Table.Old 0)) → ⊥) → (p : Place)
+    → Live (w .state) p → In n (entriesIn w p) → ⊥
+unfolding memory.Live
+on-no-chain w n one no-new not-free not-there Place.free live h = not-free h
+on-no-chain w n one no-new not-free not-there (Place.bucket t b) live h = in-no-bucket w n one no-new not-there t b live h
+
+abbrev pub held : {w : World} {key value : ℕ} (n : ℕ) (t : Table) (b : ℕ) → b < sizeOf (w .state) t
+    → In n (entriesIn w (Place.bucket t b)) → keyOf (w .entries) n ≡ key → valueOf (w .entries) n ≡ value → Held w key value
+held n t b live there its-key its-value =
+    record {
+      entry = n;
+      table = t;
+      index = b;
+      live = live;
+      there = there;
+      its-key = its-key;
+      its-value = its-value;
+    }

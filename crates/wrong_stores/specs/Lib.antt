@@ -1,6 +1,8 @@
--- Stores that demand 3 excludes: each is a meaning of the ten calls, most of them ours but for one call.
+-- Stores that the statements exclude: each is a meaning of the ten calls, most of them ours but for one call.
 pub mod OneCall
+pub mod Starts
 pub mod KeyCalls
-pub mod Steps
 pub mod Walks
-pub mod LeftOpen
+pub mod Rehashes
+pub mod ReadCalls
+pub mod Refusals

@@ -1,69 +1,108 @@
 -- Ours, but for the calls of one kind: those answer and leave something else, made from what ours answers and leaves.
 use Prim.Native.Nat.{ℕ, zero, suc}
+use mathlib.Core.Bool.{Bool}
 use mathlib.Core.List.{List}
-use Rattle.model.specs.Sequences.{World, Call, Outcome, perform}
+use Rattle.model.specs.declared.State.{State}
+use Rattle.model.specs.Answers.{Reply, reply}
+use Rattle.model.specs.Sequences.{World, KeyCall, ReadCall, Call, Outcome, perform}
 
-unfoldable pub changed : (find update delete resize step : World → Outcome → Outcome) (add : World → ℕ → ℕ → Outcome → Outcome)
-    (scan : World → ℕ → List ℕ → Outcome → Outcome) → World → Call → Outcome
-changed find update delete resize step add scan w (Call.init capacity size) = perform w (Call.init capacity size)
-changed find update delete resize step add scan w (Call.find key) = find w (perform w (Call.find key))
-changed find update delete resize step add scan w (Call.update key value) = update w (perform w (Call.update key value))
-changed find update delete resize step add scan w (Call.add key value) = add w key value (perform w (Call.add key value))
-changed find update delete resize step add scan w (Call.delete key) = delete w (perform w (Call.delete key))
-changed find update delete resize step add scan w (Call.resize size) = resize w (perform w (Call.resize size))
-changed find update delete resize step add scan w Call.rehashStep = step w (perform w Call.rehashStep)
-changed find update delete resize step add scan w (Call.scan cursor lent) = scan w cursor lent (perform w (Call.scan cursor lent))
-changed find update delete resize step add scan w (Call.suggestedSize growing) = perform w (Call.suggestedSize growing)
-changed find update delete resize step add scan w Call.buckets = perform w Call.buckets
+-- Something for each class of calls, ..
+unfoldable pub byCall : {A : Type 0} → (ℕ → ℕ → A) → (ℕ → KeyCall → A) → (ℕ → A) → A → (ℕ → List ℕ → A) → (ReadCall → A)
+    → Call → A
+byCall init on resize step scan read (Call.init capacity size) = init capacity size
+byCall init on resize step scan read (Call.on key c) = on key c
+byCall init on resize step scan read (Call.resize size) = resize size
+byCall init on resize step scan read Call.rehashStep = step
+byCall init on resize step scan read (Call.scan cursor lent) = scan cursor lent
+byCall init on resize step scan read (Call.read c) = read c
 
--- as ours
-unfoldable pub same : World → Outcome → Outcome
-same w o = o
+-- .. for each call on a key, ..
+unfoldable pub byKeyCall : {A : Type 0} → (find : ℕ → A) (update add : ℕ → ℕ → A) (delete : ℕ → A) → ℕ → KeyCall → A
+byKeyCall find update add delete key KeyCall.find = find key
+byKeyCall find update add delete key (KeyCall.update value) = update key value
+byKeyCall find update add delete key (KeyCall.add value) = add key value
+byKeyCall find update add delete key KeyCall.delete = delete key
 
-unfoldable pub sameAdd : World → ℕ → ℕ → Outcome → Outcome
-sameAdd w key value o = o
+-- .. and for each that reads.
+unfoldable pub byReadCall : {A : Type 0} → (suggestedSize : Bool → A) (look : A) → ReadCall → A
+byReadCall suggestedSize look (ReadCall.suggestedSize growing) = suggestedSize growing
+byReadCall suggestedSize look ReadCall.currentTable = look
 
-unfoldable pub sameScan : World → ℕ → List ℕ → Outcome → Outcome
-sameScan w cursor lent o = o
+-- Ours, with a change made from the world and what ours answers and leaves in it.
 
--- all as ours but one
-unfoldable pub butFind : (World → Outcome → Outcome) → World → Call → Outcome
-butFind find = changed find same same same same sameAdd sameScan
+abbrev pub Change : Type 0
+Change = World → Outcome → Outcome
 
-unfoldable pub butUpdate : (World → Outcome → Outcome) → World → Call → Outcome
-butUpdate update = changed same update same same same sameAdd sameScan
+unfoldable pub none : Change
+none w o = o
 
-unfoldable pub butDelete : (World → Outcome → Outcome) → World → Call → Outcome
-butDelete delete = changed same same delete same same sameAdd sameScan
+unfoldable pub but : (Call → Change) → World → Call → Outcome
+but change w c = change c w (perform w c)
 
-unfoldable pub butResize : (World → Outcome → Outcome) → World → Call → Outcome
-butResize resize = changed same same same resize same sameAdd sameScan
+-- of one class
+unfoldable pub butInit : (ℕ → ℕ → Change) → World → Call → Outcome
+butInit init = but (byCall init (λ key c. none) (λ size. none) none (λ cursor lent. none) (λ c. none))
 
-unfoldable pub butStep : (World → Outcome → Outcome) → World → Call → Outcome
-butStep step = changed same same same same step sameAdd sameScan
+unfoldable pub butOn : (ℕ → KeyCall → Change) → World → Call → Outcome
+butOn on = but (byCall (λ capacity size. none) on (λ size. none) none (λ cursor lent. none) (λ c. none))
 
-unfoldable pub butAdd : (World → ℕ → ℕ → Outcome → Outcome) → World → Call → Outcome
-butAdd add = changed same same same same same add sameScan
+unfoldable pub butResize : (ℕ → Change) → World → Call → Outcome
+butResize resize = but (byCall (λ capacity size. none) (λ key c. none) resize none (λ cursor lent. none) (λ c. none))
 
-unfoldable pub butScan : (World → ℕ → List ℕ → Outcome → Outcome) → World → Call → Outcome
-butScan scan = changed same same same same same sameAdd scan
+unfoldable pub butStep : Change → World → Call → Outcome
+butStep step = but (byCall (λ capacity size. none) (λ key c. none) (λ size. none) step (λ cursor lent. none) (λ c. none))
 
--- something else in place of what ours answers with 0; its refusals stay
+unfoldable pub butScan : (ℕ → List ℕ → Change) → World → Call → Outcome
+butScan scan = but (byCall (λ capacity size. none) (λ key c. none) (λ size. none) none scan (λ c. none))
+
+unfoldable pub butRead : (ReadCall → Change) → World → Call → Outcome
+butRead read = but (byCall (λ capacity size. none) (λ key c. none) (λ size. none) none (λ cursor lent. none) read)
+
+-- of one call on a key, or one that reads
+unfoldable pub butFind : (ℕ → Change) → World → Call → Outcome
+butFind find = butOn (byKeyCall find (λ key value. none) (λ key value. none) (λ key. none))
+
+unfoldable pub butUpdate : (ℕ → ℕ → Change) → World → Call → Outcome
+butUpdate update = butOn (byKeyCall (λ key. none) update (λ key value. none) (λ key. none))
+
+unfoldable pub butAdd : (ℕ → ℕ → Change) → World → Call → Outcome
+butAdd add = butOn (byKeyCall (λ key. none) (λ key value. none) add (λ key. none))
+
+unfoldable pub butDelete : (ℕ → Change) → World → Call → Outcome
+butDelete delete = butOn (byKeyCall (λ key. none) (λ key value. none) (λ key value. none) delete)
+
+unfoldable pub butSuggestedSize : (Bool → Change) → World → Call → Outcome
+butSuggestedSize suggestedSize = butRead (byReadCall suggestedSize none)
+
+unfoldable pub butLook : Change → World → Call → Outcome
+butLook look = butRead (byReadCall (λ growing. none) look)
+
+-- What stands in place of ours: only where ours answers 0, or only where it refuses; ..
+
+unfoldable pub byNumber : {A : Type 0} → (done refused : A) → ℕ → A
+byNumber done refused zero = done
+byNumber done refused (suc number) = refused
+
 unfoldable pub ifDone : Outcome → Outcome → Outcome
-ifDone instead o = elim (o .reply .number) [ zero ↦ instead | suc refused ↦ o ]
+ifDone instead o = byNumber instead o (o .reply .number)
 
--- other values
+unfoldable pub ifRefused : Outcome → Outcome → Outcome
+ifRefused instead o = byNumber o instead (o .reply .number)
+
+-- .. with other values, another state, another lent list, or other buffers.
+
+unfoldable pub replying : Reply State → Outcome → Outcome
+replying r o = record { reply = r; first = o .first; second = o .second; entries = o .entries; lent = o .lent }
+
 unfoldable pub answering : List ℕ → Outcome → Outcome
-answering values o =
-    record {
-      reply = record { number = o .reply .number; values = values; state = o .reply .state };
-      first = o .first;
-      second = o .second;
-      entries = o .entries;
-      lent = o .lent;
-    }
+answering values o = replying (reply (o .reply .number) values (o .reply .state)) o
 
--- another lent list
-unfoldable pub leaving : List ℕ → Outcome → Outcome
-leaving lent o =
-    record { reply = o .reply; first = o .first; second = o .second; entries = o .entries; lent = lent }
+unfoldable pub handingBack : State → Outcome → Outcome
+handingBack state o = replying (reply (o .reply .number) (o .reply .values) state) o
+
+unfoldable pub listing : List ℕ → Outcome → Outcome
+listing lent o = record { reply = o .reply; first = o .first; second = o .second; entries = o .entries; lent = lent }
+
+unfoldable pub leaving : List ℕ → List ℕ → List ℕ → Outcome → Outcome
+leaving first second entries o =
+    record { reply = o .reply; first = first; second = second; entries = entries; lent = o .lent }

@@ -1,80 +1,129 @@
--- Wrong stores by a walk call.
+-- Wrong stores by an answered walk call.
 use Prim.Native.Nat.{ℕ, zero, suc, _+_, _*_, _/_, _%_}
 use mathlib.Core.Bool.{Bool, true, false, _||_, cond}
 use mathlib.Core.List.{List, [], _∷_, _++_, reverse}
 use mathlib.Core.Option.{some}
-use lib.ListN.{length, getD, set, replicate}
+use lib.ListN.{getD, set}
 use lib.Dec.{ltb}
+use Rattle.cursor.specs.Member.{any, keep}
 use Rattle.cursor.specs.Next.{next}
 use Rattle.cursor.specs.Group.{Group, betweenZero}
-use Rattle.model.specs.declared.State.{State}
-use Rattle.model.specs.declared.Error.{Error}
-use Rattle.model.specs.declared.ScanAnswer.{ScanAnswer}
+use Rattle.model.specs.declared.Table.{Table}
 use Rattle.model.specs.Keys.{bucketOf}
-use Rattle.model.specs.Memory.{Place, entriesAt, keyOf}
-use Rattle.model.specs.Walk.{Handed, handOut, groupEntries}
-use Rattle.model.specs.Sequences.{World, Call, Outcome, perform, handedOut}
-use Rattle.refinement.specs.Worlds.{current, other, tablesOf}
-use Rattle.refinement.specs.Demand2.{groupPlaces, entriesIn}
-use Rattle.refinement.specs.Demand3.{keep, among, groupIn}
-use Rattle.wrong_stores.specs.OneCall.{butScan, ifDone, answering, leaving}
+use Rattle.model.specs.Memory.{keyOf, sizeOf, Place, entriesAt}
+use Rattle.model.specs.Walk.{tablesOf, smallFirst, groupPlaces, chainsAt, scanned}
+use Rattle.model.specs.Sequences.{World, Call, Outcome, keptScan, perform}
+use Rattle.refinement.specs.Worlds.{current, other}
+use Rattle.refinement.specs.Demand2.{groupEntries}
+use Rattle.refinement.specs.Demand3.{isBucket}
+use Rattle.wrong_stores.specs.OneCall.{Change, butScan, ifDone, answering, listing}
 
--- refuses every walk call as damaged
-unfoldable pub refusesWalks : World → Call → Outcome
-refusesWalks = butScan (λ w cursor lent o. handedOut w (Handed.handed (ScanAnswer.Refused Error.Damaged) lent))
+-- Other entries than those of the group.
 
--- always short, with the right number of keys
-unfoldable pub alwaysShort : World → Call → Outcome
-alwaysShort =
-    butScan
-    (λ w cursor lent o. ifDone (handedOut w (Handed.handed (ScanAnswer.Short (getD (o .reply .values) 1 0)) lent)) o)
+-- the entries of a live table's buckets, so many of them
+unfoldable pub entriesUpTo : World → Table → ℕ → List ℕ
+entriesUpTo w t zero = []
+entriesUpTo w t (suc b) =
+    entriesAt (w .state) (current w) (other w) (w .entries) (Place.bucket t b) ++ entriesUpTo w t b
+
+unfoldable pub entriesOf : World → Table → List ℕ
+entriesOf w t = entriesUpTo w t (sizeOf (w .state) t)
+
+unfoldable pub allEntries : World → List ℕ
+allEntries w = entriesOf w Table.Old ++ entriesOf w Table.New
 
 -- these entries handed out, and that cursor answered
 unfoldable pub handing : World → ℕ → List ℕ → List ℕ → Outcome
-handing w next lent ns = handedOut w (handOut (w .entries) lent next (some ns))
+handing w next lent ns = keptScan w (scanned (w .entries) lent next (some ns))
 
--- the buckets of a table, by the places that they are
-unfoldable pub allBuckets : (ℕ → Place) → ℕ → List Place
-allBuckets place zero = []
-allBuckets place (suc b) = place b ∷ allBuckets place b
-
-unfoldable pub allEntries : World → List ℕ
-allEntries w =
-    entriesIn w (allBuckets Place.old (w .state .«old_size»))
-    ++ entriesIn w (allBuckets Place.new (w .state .«new_size»))
+-- the entries made from a cursor and those of its group; where ours is answered, and with the cursor that it answers
+unfoldable pub handingOut : (World → ℕ → List ℕ → List ℕ) → World → Call → Outcome
+handingOut choose =
+    butScan
+    (λ cursor lent w o. ifDone (handing w (getD (o .reply .values) 0 0) lent (choose w cursor (groupEntries w cursor))) o)
 
 -- hands out all keys in its first call, and answers 0
 unfoldable pub allThenEnd : World → Call → Outcome
-allThenEnd = butScan (λ w cursor lent o. ifDone (handing w 0 lent (allEntries w)) o)
+allThenEnd = butScan (λ cursor lent w o. ifDone (handing w 0 lent (allEntries w)) o)
 
--- hands out all keys in its first call and none in the further ones, with the published cursors
-unfoldable pub allFirst : World → List ℕ → ℕ → Outcome → Outcome
-allFirst w lent zero o = handing w (getD (o .reply .values) 0 0) lent (allEntries w)
-allFirst w lent (suc cursor) o = handing w (getD (o .reply .values) 0 0) lent []
+-- hands out all keys in its first call and none in the further ones
+unfoldable pub allAtZero : World → ℕ → List ℕ → List ℕ
+allAtZero w zero ns = allEntries w
+allAtZero w (suc cursor) ns = []
 
 unfoldable pub allThenNone : World → Call → Outcome
-allThenNone = butScan (λ w cursor lent o. ifDone (allFirst w lent cursor o) o)
+allThenNone = handingOut allAtZero
 
--- During a move, a group made from the smaller and the larger size, and its entries; with one table, as ours.
-unfoldable pub bySizes : (ℕ → ℕ → ℕ → Group) → State → ℕ → Group
-bySizes twoTables s cursor =
-    cond (ltb (s .«old_size») (s .«new_size»))
-    (twoTables (s .«old_size») (s .«new_size») cursor)
-    (twoTables (s .«new_size») (s .«old_size») cursor)
+-- every key whose bucket in either table is one of the group's
+unfoldable pub eitherBucket : World → ℕ → ℕ → Bool
+eitherBucket w cursor n =
+    let key = keyOf (w .entries) n in
+    let ps = groupPlaces (tablesOf (w .state)) cursor in
+    any (isBucket Table.Old (bucketOf key (w .state .«old_size»))) ps
+    || any (isBucket Table.New (bucketOf key (w .state .«new_size»))) ps
 
-unfoldable pub byGroup : World → List ℕ → Group → Outcome
-byGroup w lent g =
-    handedOut w
-    (handOut (w .entries) lent (g .answered) (groupEntries (w .state) (current w) (other w) (w .entries) g))
+unfoldable pub handsEither : World → Call → Outcome
+handsEither = handingOut (λ w cursor ns. keep (eitherBucket w cursor) (allEntries w))
 
-unfoldable pub inMove : (ℕ → ℕ → ℕ → Group) → World → ℕ → List ℕ → Outcome → Outcome
-inMove twoTables w cursor lent o =
+-- leaves the first pair out
+unfoldable pub rest : List ℕ → List ℕ
+rest [] = []
+rest (n ∷ ns) = ns
+
+unfoldable pub leavesOut : World → Call → Outcome
+leavesOut = handingOut (λ w cursor ns. rest ns)
+
+-- hands the first pair out again in place of the second
+unfoldable pub firstTwice : List ℕ → List ℕ
+firstTwice [] = []
+firstTwice (n ∷ []) = n ∷ []
+firstTwice (n ∷ m ∷ ns) = n ∷ n ∷ ns
+
+unfoldable pub handsTwice : World → Call → Outcome
+handsTwice = handingOut (λ w cursor ns. firstTwice ns)
+
+-- hands the pairs out backwards
+unfoldable pub backwards : World → Call → Outcome
+backwards = handingOut (λ w cursor ns. reverse ns)
+
+-- Another list.
+
+-- values handed out as 0
+unfoldable pub keysOnly : ℕ → List ℕ → List ℕ
+keysOnly zero list = list
+keysOnly (suc n) [] = []
+keysOnly (suc n) (key ∷ []) = key ∷ []
+keysOnly (suc n) (key ∷ value ∷ rest) = key ∷ 0 ∷ keysOnly n rest
+
+unfoldable pub losesValues : World → Call → Outcome
+losesValues = butScan (λ cursor lent w o. ifDone (listing (keysOnly (getD (o .reply .values) 1 0) (o .lent)) o) o)
+
+-- the places behind the pairs written too
+unfoldable pub writesBeyond : World → Call → Outcome
+writesBeyond = butScan (λ cursor lent w o. ifDone (listing (set (o .lent) (getD (o .reply .values) 1 0 * 2) 0) o) o)
+
+-- Another next cursor. During a rehash, a group made from the smaller and the larger size; with one table, as ours.
+
+unfoldable pub byGroup : World → List ℕ → Table → Table → Group → Outcome
+byGroup w lent small large g =
+    keptScan w
+    (scanned (w .entries) lent (g .answered)
+    (chainsAt (w .state) (current w) (other w) (w .entries) (smallFirst small large g)))
+
+unfoldable pub inRehash : (ℕ → ℕ → ℕ → Group) → ℕ → List ℕ → Change
+inRehash twoTables cursor lent w o =
+    let old = w .state .«old_size» in
+    let new = w .state .«new_size» in
     elim (w .state .rehashing) [
-      | true ↦ ifDone (byGroup w lent (bySizes twoTables (w .state) cursor)) o
+      | true ↦ ifDone
+          (cond (ltb old new)
+          (byGroup w lent Table.Old Table.New (twoTables old new cursor))
+          (byGroup w lent Table.New Table.Old (twoTables new old cursor)))
+          o
       | false ↦ o
     ]
 
--- the larger table's buckets counted upwards from the cursor (paper 01, mistake 1)
+-- the larger table's buckets counted upwards from the cursor (SPECIFICATION, "Tempting mistakes", 1)
 unfoldable pub upwardsFrom : ℕ → ℕ → ℕ → ℕ → List ℕ
 upwardsFrom zero small large cursor = []
 upwardsFrom (suc n) small large cursor =
@@ -86,7 +135,7 @@ upwardsFrom (suc n) small large cursor =
 unfoldable pub upwards : World → Call → Outcome
 upwards =
     butScan
-    (inMove
+    (inRehash
     (λ small large cursor.
     record {
       small = cursor % small;
@@ -94,11 +143,11 @@ upwards =
       answered = next small cursor;
     }))
 
--- the next cursor from the larger size, after one of its buckets (paper 01, mistake 2)
+-- the next cursor from the larger size, after one of its buckets (SPECIFICATION, "Tempting mistakes", 2)
 unfoldable pub nextOfLarger : World → Call → Outcome
 nextOfLarger =
     butScan
-    (inMove
+    (inRehash
     (λ small large cursor. record { small = cursor % small; large = cursor % large ∷ []; answered = next large cursor }))
 
 -- skips empty buckets: goes on, at most so many times, while nothing is handed out and the walk has not ended
@@ -114,7 +163,7 @@ skipping (suc n) w lent o =
     ]
 
 unfoldable pub skipsEmpty : World → Call → Outcome
-skipsEmpty = butScan (λ w cursor lent o. skipping (w .state .«old_size») w lent o)
+skipsEmpty = butScan (λ cursor lent w o. skipping (w .state .«old_size») w lent o)
 
 -- ends early: answers 0 where the walk from its next cursor on, for so many calls at most, would hand out nothing
 unfoldable pub emptyFrom : ℕ → World → List ℕ → ℕ → Bool
@@ -130,68 +179,8 @@ emptyFrom (suc n) w lent (suc c) =
 unfoldable pub endsEarly : World → Call → Outcome
 endsEarly =
     butScan
-    (λ w cursor lent o.
+    (λ cursor lent w o.
     elim (emptyFrom (w .state .«old_size») w lent (getD (o .reply .values) 0 0)) [
       | true ↦ ifDone (answering (0 ∷ getD (o .reply .values) 1 0 ∷ []) o) o
-      | false ↦ o
-    ])
-
--- each chain handed out backwards
-unfoldable pub backwardsIn : World → List Place → List ℕ
-backwardsIn w [] = []
-backwardsIn w (p ∷ ps) =
-    reverse (entriesAt (w .state) (current w) (other w) (w .entries) p) ++ backwardsIn w ps
-
-unfoldable pub backwards : World → Call → Outcome
-backwards =
-    butScan
-    (λ w cursor lent o.
-    ifDone (handing w (getD (o .reply .values) 0 0) lent (backwardsIn w (groupPlaces (w .state) cursor))) o)
-
--- the first pair of a call handed out twice
-unfoldable pub firstTwice : List ℕ → List ℕ
-firstTwice [] = []
-firstTwice (n ∷ ns) = n ∷ n ∷ ns
-
-unfoldable pub handsTwice : World → Call → Outcome
-handsTwice =
-    butScan
-    (λ w cursor lent o.
-    ifDone (handing w (getD (o .reply .values) 0 0) lent (firstTwice (entriesIn w (groupPlaces (w .state) cursor)))) o)
-
--- values handed out as 0
-unfoldable pub keysOnly : ℕ → List ℕ → List ℕ
-keysOnly zero list = list
-keysOnly (suc n) [] = []
-keysOnly (suc n) (key ∷ []) = key ∷ []
-keysOnly (suc n) (key ∷ value ∷ rest) = key ∷ 0 ∷ keysOnly n rest
-
-unfoldable pub losesValues : World → Call → Outcome
-losesValues = butScan (λ w cursor lent o. ifDone (leaving (keysOnly (getD (o .reply .values) 1 0) (o .lent)) o) o)
-
--- the places behind the pairs written too
-unfoldable pub writesBeyond : World → Call → Outcome
-writesBeyond = butScan (λ w cursor lent o. ifDone (leaving (set (o .lent) (getD (o .reply .values) 1 0 * 2) 0) o) o)
-
--- a refused call that writes the lent list
-unfoldable pub writesRefused : World → Call → Outcome
-writesRefused =
-    butScan
-    (λ w cursor lent o. elim (o .reply .number) [ zero ↦ o | suc refused ↦ leaving (replicate (length lent) 0) o ])
-
--- during a move, every key whose bucket in either table is one of the group's
-unfoldable pub eitherBucket : World → ℕ → ℕ → Bool
-eitherBucket w cursor n =
-    let key = keyOf (w .entries) n in
-    let t = tablesOf (w .state) in
-    among (bucketOf key (w .state .«old_size»)) (groupIn t cursor (w .state .«old_size»))
-    || among (bucketOf key (w .state .«new_size»)) (groupIn t cursor (w .state .«new_size»))
-
-unfoldable pub handsEither : World → Call → Outcome
-handsEither =
-    butScan
-    (λ w cursor lent o.
-    elim (w .state .rehashing) [
-      | true ↦ ifDone (handing w (getD (o .reply .values) 0 0) lent (keep (eitherBucket w cursor) (allEntries w))) o
       | false ↦ o
     ])

@@ -1,10 +1,23 @@
-//! The store of paper 01 in plain Rust: the same lent buffers, links and tests
-//! as the proved one, for the calls that are timed.
+//! The store in plain Rust: the same lent buffers, read and written by index,
+//! the same links and tests as the proved one, for the calls that are timed.
+//!
+//! What makes the comparison fair: every call tests the whole state; every
+//! number is tested against the capacity, and every chain's length against the
+//! keys held, before an entry is read; a lookup reads both chains to their
+//! ends, even where the first entry has the key; a walk call has tested its
+//! chains and its room before it writes. There is no `unsafe` (Cargo.toml
+//! forbids it), and the state is hidden from the compiler (`work.rs`).
+//!
+//! It is the bar for the proved store, so it is tuned within that form. Tried,
+//! and kept: a bucket by a mask, one loop to a chain's end that carries what
+//! was found without a branch, errors as wide as the numbers beside them.
+//! Inlining is left to the compiler on both sides, since Rattle has no word
+//! for it. docs/COSTS.md says what a store does that leaves this form.
 
 pub const MAX_CAPACITY: u32 = 4096;
 pub const MAX_SIZE: u32 = 4096;
 
-/// The places of an entry's fields: link, key, value.
+/// The numbers of an entry in its buffer: link, key, value.
 const FIELDS: usize = 3;
 
 #[derive(Clone, Copy, Debug, Default, PartialEq, Eq)]
@@ -20,16 +33,30 @@ pub struct State {
     pub capacity: u32,
 }
 
+/// The specification's numbers.
 #[derive(Clone, Copy, Debug, PartialEq, Eq)]
+#[repr(u32)]
 pub enum Error {
-    BadState,
-    Damaged,
-    Absent,
-    Present,
-    Full,
-    BadSize,
-    /// A walk's list has too little room for this many keys.
+    BadState = 1,
+    Damaged = 2,
+    Absent = 3,
+    Present = 4,
+    Full = 5,
+    BadSize = 6,
+}
+
+/// Why a walk call is refused.
+#[derive(Clone, Copy, Debug, PartialEq, Eq)]
+pub enum ScanError {
+    Refused(Error),
+    /// Its list has too little room for this many keys.
     Short(u32),
+}
+
+impl From<Error> for ScanError {
+    fn from(error: Error) -> Self {
+        ScanError::Refused(error)
+    }
 }
 
 /// What a walk call answers beside the pairs in its list.
@@ -120,14 +147,14 @@ impl<'a> Store<'a> {
     pub fn find(&self, key: u32) -> Result<u32, Error> {
         self.check_state()?;
         match self.look_up(key)? {
-            Some(entry) => Ok(self.value(entry)),
-            None => Err(Error::Absent),
+            0 => Err(Error::Absent),
+            entry => Ok(self.value(entry)),
         }
     }
 
     pub fn add(&mut self, key: u32, value: u32) -> Result<(), Error> {
         self.check_state()?;
-        if self.look_up(key)?.is_some() {
+        if self.look_up(key)? != 0 {
             return Err(Error::Present);
         }
         let State {
@@ -151,7 +178,7 @@ impl<'a> Store<'a> {
     }
 
     /// One walk call. The pairs go to the front of `list`.
-    pub fn scan(&self, cursor: u32, list: &mut [u32]) -> Result<Scanned, Error> {
+    pub fn scan(&self, cursor: u32, list: &mut [u32]) -> Result<Scanned, ScanError> {
         self.check_state()?;
         let state = &self.state;
         if state.old_used + state.new_used == 0 {
@@ -169,11 +196,11 @@ impl<'a> Store<'a> {
         }
     }
 
-    fn scan_one(&self, table: Table, cursor: u32, list: &mut [u32]) -> Result<Scanned, Error> {
+    fn scan_one(&self, table: Table, cursor: u32, list: &mut [u32]) -> Result<Scanned, ScanError> {
         let head = table.head(cursor);
         let count = self.chain_length(head, table.used)?;
         if list.len() < count as usize * 2 {
-            return Err(Error::Short(count));
+            return Err(ScanError::Short(count));
         }
         self.write_chain(head, list);
         Ok(Scanned {
@@ -188,7 +215,7 @@ impl<'a> Store<'a> {
         large: Table,
         cursor: u32,
         list: &mut [u32],
-    ) -> Result<Scanned, Error> {
+    ) -> Result<Scanned, ScanError> {
         let mut count = self.chain_length(small.head(cursor), small.used)?;
         let mut at = cursor;
         loop {
@@ -199,7 +226,7 @@ impl<'a> Store<'a> {
             }
         }
         if list.len() < count as usize * 2 {
-            return Err(Error::Short(count));
+            return Err(ScanError::Short(count));
         }
 
         let mut written = self.write_chain(small.head(cursor), list);
@@ -248,28 +275,28 @@ impl<'a> Store<'a> {
         *head = entry;
     }
 
-    /// The first entry with the key, the old table's before the new one's.
-    /// Both chains are read to their ends.
-    fn look_up(&self, key: u32) -> Result<Option<u32>, Error> {
+    /// The first entry with the key, the old table's before the new one's, or
+    /// 0 for none. Both chains are read to their ends.
+    fn look_up(&self, key: u32) -> Result<u32, Error> {
         let old = self.search(self.old_table(), key)?;
         if !self.state.rehashing {
             return Ok(old);
         }
         let new = self.search(self.new_table(), key)?;
-        Ok(old.or(new))
+        let first = if old == 0 { new } else { old };
+        Ok(first)
     }
 
-    fn search(&self, table: Table, key: u32) -> Result<Option<u32>, Error> {
-        let mut found = None;
+    fn search(&self, table: Table, key: u32) -> Result<u32, Error> {
+        let mut found = 0;
         let mut at = table.head(key);
         let mut left = table.used;
         while at != 0 {
-            if left == 0 || at > self.state.capacity {
+            if (left == 0) | (at > self.state.capacity) {
                 return Err(Error::Damaged);
             }
-            if found.is_none() && self.key(at) == key {
-                found = Some(at);
-            }
+            let is_first = (found == 0) & (self.key(at) == key);
+            found = if is_first { at } else { found };
             at = self.link(at);
             left -= 1;
         }
@@ -280,7 +307,7 @@ impl<'a> Store<'a> {
         let mut count = 0;
         let mut at = head;
         while at != 0 {
-            if count == used || at > self.state.capacity {
+            if (count == used) | (at > self.state.capacity) {
                 return Err(Error::Damaged);
             }
             at = self.link(at);
@@ -385,7 +412,7 @@ mod tests {
             let answer = Scanned { next: 3, count: 3 };
             assert_eq!(store.scan(1, &mut list), Ok(answer));
             assert_eq!(list, PAIRS);
-            assert_eq!(store.scan(1, &mut list[..5]), Err(Error::Short(3)));
+            assert_eq!(store.scan(1, &mut list[..5]), Err(ScanError::Short(3)));
         });
     }
 
@@ -402,11 +429,52 @@ mod tests {
     #[test]
     fn a_chain_that_loops_is_damaged() {
         with_store(|store| {
-            store.entries[start_of(1)] = 3;
+            store.entries[0] = 3;
             assert_eq!(store.find(1), Err(Error::Damaged));
-            store.entries[start_of(1)] = 9;
+            // The first entry has key 9, and still the chain is read.
+            assert_eq!(store.find(9), Err(Error::Damaged));
+            assert_eq!(store.add(13, 0), Err(Error::Damaged));
+            let mut list = [7; 8];
+            let damaged = Err(ScanError::Refused(Error::Damaged));
+            assert_eq!(store.scan(1, &mut list), damaged);
+            assert_eq!(list, [7; 8]);
+            store.entries[0] = 9;
             assert_eq!(store.find(1), Err(Error::Damaged));
             assert_eq!(store.find(2), Err(Error::Absent));
+        });
+    }
+
+    #[test]
+    fn unsound_states_are_refused() {
+        let spoil: [fn(&mut State); 14] = [
+            |s| s.capacity = 0,
+            |s| s.capacity = 9,
+            |s| s.capacity = MAX_CAPACITY + 1,
+            |s| s.old_used = 9,
+            |s| s.free_head = 9,
+            |s| s.old_size = 0,
+            |s| s.old_size = 3,
+            |s| s.old_size = 8,
+            |s| s.new_size = 8,
+            |s| s.new_used = 1,
+            |s| s.rehash_index = 1,
+            |s| s.rehashing = true,
+            |s| (s.rehashing, s.new_size) = (true, 4),
+            |s| (s.rehashing, s.new_size, s.rehash_index) = (true, 8, 5),
+        ];
+        with_store(|store| {
+            let sound = store.state;
+            for spoil in spoil {
+                store.state = sound;
+                spoil(&mut store.state);
+                let state = store.state;
+                assert_eq!(store.find(1), Err(Error::BadState), "{state:?}");
+                assert_eq!(store.add(2, 0), Err(Error::BadState), "{state:?}");
+                let refused = Err(ScanError::Refused(Error::BadState));
+                assert_eq!(store.scan(0, &mut [0; 8]), refused, "{state:?}");
+            }
+            store.state = sound;
+            assert_eq!(store.find(1), Ok(10));
         });
     }
 

@@ -122,7 +122,9 @@ fn ordered(keys: &[u32], seed: u32) -> impl Iterator<Item = u32> + '_ {
 /// up from the seed.
 fn fill(store: &mut Store, keys: &[u32], seed: u32) {
     // A refusal shows in the sums. What the state holds is hidden from the
-    // compiler, as it is where a caller keeps it between calls.
+    // compiler, as it is where a caller keeps it between calls: each field by
+    // itself, so that no two are known to be equal either. The proved program
+    // does so once for each start too, by a byte for each field.
     let _ = store.init(KEYS, KEYS);
     store.state = black_box(store.state);
     let mut value = seed;

@@ -1,18 +1,29 @@
-//! The fixed scripts: paper 01's cases and the edges of the script's form.
+//! The fixed scripts: the specification's cases and the edges of the script's form.
+//! Nothing here is taken from the model.
 
-use crate::cursor;
-use crate::program::MAX_SCRIPT;
+/// The longest script, from the specification.
+const LONGEST: usize = 65_536;
 
 pub struct Case {
     pub name: String,
     pub script: Vec<u8>,
-    /// The answer as it follows from the paper by hand, where it is short or
-    /// regular; the twin's own model has to agree with it as well.
-    pub answer: Option<Vec<u8>>,
+    pub answer: Answer,
+}
+
+/// Where the answer to a script comes from. One that does not come from the
+/// twin's own model binds the model too.
+pub enum Answer {
+    /// Written down by hand from the specification: literally, or for a line that
+    /// comes again and again once for all of them.
+    ByHand(Vec<u8>),
+    /// Computed by a rule that the model does not use.
+    Computed(Vec<u8>),
+    /// Left to the model.
+    Modelled,
 }
 
 pub fn all() -> Vec<Case> {
-    let mut cases = paper();
+    let mut cases = specified();
     cases.extend(states());
     cases.extend(bad_and_odd_lines());
     cases.extend(whole_scripts());
@@ -29,15 +40,23 @@ fn dialogue(name: &str, lines: &[(&str, &str)]) -> Case {
     Case {
         name: name.to_string(),
         script: join(|line| line.0.to_string()),
-        answer: Some(join(|line| line.1.to_string())),
+        answer: Answer::ByHand(join(|line| line.1.to_string())),
     }
 }
 
-fn printed(name: &str, script: impl Into<Vec<u8>>, answer: impl Into<Vec<u8>>) -> Case {
+fn by_hand(name: &str, script: impl Into<Vec<u8>>, answer: impl Into<Vec<u8>>) -> Case {
     Case {
         name: name.to_string(),
         script: script.into(),
-        answer: Some(answer.into()),
+        answer: Answer::ByHand(answer.into()),
+    }
+}
+
+fn computed(name: &str, script: impl Into<Vec<u8>>, answer: impl Into<Vec<u8>>) -> Case {
+    Case {
+        name: name.to_string(),
+        script: script.into(),
+        answer: Answer::Computed(answer.into()),
     }
 }
 
@@ -46,12 +65,12 @@ pub fn modelled(name: &str, script: impl Into<Vec<u8>>) -> Case {
     Case {
         name: name.to_string(),
         script: script.into(),
-        answer: None,
+        answer: Answer::Modelled,
     }
 }
 
-/// The worked examples and the cases of paper 01, in its order.
-fn paper() -> Vec<Case> {
+/// The worked examples and the cases of the specification, in its order.
+fn specified() -> Vec<Case> {
     vec![
         dialogue(
             "the printed script",
@@ -570,7 +589,7 @@ fn bad_and_odd_lines() -> Vec<Case> {
         let script = [b"N 4 4\nA 1 10\n", line, b"\nF 1\n", line].concat();
         let answer = format!("0\n0\n{answer}\n0 10\n{answer}\n");
         let name = format!("the line \"{}\"", line.escape_ascii());
-        printed(&name, script, answer)
+        by_hand(&name, script, answer)
     })
     .collect()
 }
@@ -590,20 +609,20 @@ fn whole_scripts() -> Vec<Case> {
         script
     };
     vec![
-        printed("an empty script", "", ""),
-        printed("one line feed", "\n", "10\n"),
-        printed("line feeds only", "\n\n\n", "10\n10\n10\n"),
-        printed(
+        by_hand("an empty script", "", ""),
+        by_hand("one line feed", "\n", "10\n"),
+        by_hand("line feeds only", "\n\n\n", "10\n10\n10\n"),
+        by_hand(
             "a last line without its line feed",
             "N 4 4\nC 0",
             "0\n0 0 0\n",
         ),
-        printed("one letter without a line feed", "S", "1\n"),
-        printed("an empty line at the end", "S\n\n", "1\n10\n"),
-        printed("an empty line at the beginning", "\nS\n", "10\n1\n"),
-        printed("empty lines between", "N 4 4\n\n\nS\n", "0\n10\n10\n8\n"),
-        printed("carriage returns", "N 4 4\r\nS\r\nS\n", "10\n10\n1\n"),
-        printed("every byte alone on a line", lone_bytes, lone_answer),
+        by_hand("one letter without a line feed", "S", "1\n"),
+        by_hand("an empty line at the end", "S\n\n", "1\n10\n"),
+        by_hand("an empty line at the beginning", "\nS\n", "10\n1\n"),
+        by_hand("empty lines between", "N 4 4\n\n\nS\n", "0\n10\n10\n8\n"),
+        by_hand("carriage returns", "N 4 4\r\nS\r\nS\n", "10\n10\n1\n"),
+        by_hand("every byte alone on a line", lone_bytes, lone_answer),
         modelled("every byte as a letter", with_byte(b"", b" 1")),
         modelled("every byte as a number", with_byte(b"F ", b"")),
         modelled("every byte as a space", with_byte(b"F", b"1")),
@@ -614,36 +633,32 @@ fn whole_scripts() -> Vec<Case> {
 
 /// Scripts at and beyond the longest length, and those with large outputs.
 fn large() -> Vec<Case> {
-    let steps = "S\n".repeat(MAX_SCRIPT / 2);
-    let feeds = "\n".repeat(MAX_SCRIPT);
-    let digits = "1".repeat(MAX_SCRIPT - 2);
+    let steps = "S\n".repeat(LONGEST / 2);
+    let feeds = "\n".repeat(LONGEST);
+    let digits = "1".repeat(LONGEST - 2);
     let one_line = format!("F {digits}");
     vec![
-        printed(
+        by_hand(
             "65,536 bytes of steps",
             steps.clone(),
-            "1\n".repeat(MAX_SCRIPT / 2),
+            "1\n".repeat(LONGEST / 2),
         ),
-        printed(
+        by_hand(
             "65,537 bytes: steps and one byte",
             steps.clone() + "S",
             "10\n",
         ),
-        printed(
+        by_hand(
             "65,537 bytes: steps and a line feed",
             steps.clone() + "\n",
             "10\n",
         ),
-        printed(
-            "65,536 line feeds",
-            feeds.clone(),
-            "10\n".repeat(MAX_SCRIPT),
-        ),
-        printed("65,537 line feeds", feeds + "\n", "10\n"),
-        printed("65,536 bytes in one line", one_line.clone(), "10\n"),
-        printed("65,537 bytes in one line", one_line + "\n", "10\n"),
-        printed("twice the longest script", steps.repeat(2), "10\n"),
-        printed("a script of a million bytes", "S\n".repeat(500_000), "10\n"),
+        by_hand("65,536 line feeds", feeds.clone(), "10\n".repeat(LONGEST)),
+        by_hand("65,537 line feeds", feeds + "\n", "10\n"),
+        by_hand("65,536 bytes in one line", one_line.clone(), "10\n"),
+        by_hand("65,537 bytes in one line", one_line + "\n", "10\n"),
+        by_hand("twice the longest script", steps.repeat(2), "10\n"),
+        by_hand("a script of a million bytes", "S\n".repeat(500_000), "10\n"),
         filled_to_the_last_entry(),
         walk_of_the_largest_table(),
         modelled("4,096 keys of one bucket moved to 4,096", {
@@ -656,7 +671,7 @@ fn large() -> Vec<Case> {
         }),
         modelled("4,096 keys handed out as often as fits", {
             let mut script = fill("N 4096 1\n", 4096);
-            let rest = MAX_SCRIPT - script.len();
+            let rest = LONGEST - script.len();
             script += &"C 0\n".repeat(rest / 4 - 1);
             script + "C 0" + &"0".repeat(rest % 4) + "\n"
         }),
@@ -673,26 +688,29 @@ fn filled_to_the_last_entry() -> Case {
     let script = fill("N 4096 4096\n", 4096)
         + "A 4096 1\nA 4095 1\nD 17\nA 4096 1\nA 17 1\nF 4096\nF 17\nC 0\n";
     let answer = "0\n".repeat(4097) + "5\n4\n0\n0\n5\n0 1\n3\n0 2048 2 4096 1 0 0\n";
-    printed("4,096 keys and one more", script, answer)
+    by_hand("4,096 keys and one more", script, answer)
 }
 
+/// The cursors of a walk in turn are 0, 1, 2 up to 4,095, each written with 12
+/// binary digits and read from right to left.
 fn walk_of_the_largest_table() -> Case {
+    let backwards = |number: u32| {
+        let digits: String = format!("{number:012b}").chars().rev().collect();
+        u32::from_str_radix(&digits, 2).expect("binary digits")
+    };
     let mut script = fill("N 4096 4096\n", 1000);
     let mut answer = "0\n".repeat(1001);
-    let mut cursor = 0;
-    loop {
-        let next = cursor::next(cursor, 4096);
+    for number in 0..4096 {
+        let cursor = backwards(number);
+        let next = backwards((number + 1) % 4096);
         script += &format!("C {cursor}\n");
         answer += &if cursor < 1000 {
             format!("0 {next} 1 {cursor} {}\n", cursor % 10)
         } else {
             format!("0 {next} 0\n")
         };
-        cursor = next;
-        if cursor == 0 {
-            return printed("a whole walk of size 4,096", script, answer);
-        }
     }
+    computed("a whole walk of size 4,096", script, answer)
 }
 
 #[cfg(test)]
@@ -703,7 +721,7 @@ mod tests {
     fn the_largest_output_comes_from_the_longest_script() {
         let cases = all();
         let last = cases.last().unwrap();
-        assert_eq!(last.script.len(), MAX_SCRIPT);
+        assert_eq!(last.script.len(), LONGEST);
         assert!(last.script.ends_with(b"\n"));
     }
 

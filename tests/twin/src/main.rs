@@ -1,4 +1,4 @@
-//! A twin of the program of paper 01, written from the paper alone.
+//! A twin of the program, written from the specification alone.
 //!
 //! It runs the program under test on fixed and on random scripts, each script
 //! in a process of its own, and compares every byte of the output with the
@@ -13,13 +13,14 @@
 
 mod cases;
 mod cursor;
+mod line;
 mod program;
 mod random;
 mod run;
 mod store;
 mod walk;
 
-use cases::Case;
+use cases::{Answer, Case};
 use run::Failure;
 use std::env;
 use std::fs;
@@ -114,11 +115,16 @@ impl Plan {
     }
 
     fn check(&self, case: &Case) -> Result<Tally, Failure> {
-        // The twin may err as well: answers known by hand bind it too.
-        if let Some(printed) = &case.answer {
-            if program::answer(&case.script) != *printed {
-                let text = "the model does not give the printed answer";
-                return Err(Failure::Broken(text.to_string()));
+        // The twin may err as well: an answer that it did not make binds it.
+        let known = match &case.answer {
+            Answer::ByHand(answer) => Some(("written by hand", answer)),
+            Answer::Computed(answer) => Some(("computed apart from it", answer)),
+            Answer::Modelled => None,
+        };
+        if let Some((origin, answer)) = known {
+            if program::answer(&case.script) != *answer {
+                let text = format!("the model does not give the answer {origin}");
+                return Err(Failure::Broken(text));
             }
         }
         run::check(&self.program, &case.script)

@@ -19,7 +19,7 @@ const SHOWN: usize = 160;
 pub enum Failure {
     /// The program under test wrote something else than the model.
     Differs(String),
-    /// The model itself broke a promise or missed a printed answer.
+    /// The model itself broke a promise or missed a known answer.
     Broken(String),
     /// The program under test could not be run or read.
     Io(io::Error),

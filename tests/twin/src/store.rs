@@ -1,4 +1,4 @@
-//! The store of paper 01, kept in ordinary Rust collections.
+//! The store, kept in ordinary Rust collections.
 //!
 //! Lent buffers, links and the free chain are left out on purpose: nothing of
 //! them shows in what the program writes. What does show is kept exactly: the
@@ -10,7 +10,7 @@ use std::collections::VecDeque;
 pub const MAX_CAPACITY: u32 = 4096;
 pub const MAX_SIZE: u32 = 4096;
 
-/// The refusals that a script can bring about. The paper's 2 (damaged) and
+/// The refusals that a script can bring about. The specification's 2 (damaged) and
 /// 9 (short) need memory that the program never lends.
 #[derive(Clone, Copy, Debug, PartialEq, Eq)]
 pub enum Refusal {

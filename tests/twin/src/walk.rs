@@ -1,12 +1,32 @@
 //! A witness that follows a run from outside, knowing only the commands and
-//! their replies, and says when a promise of the request's demand 3 is broken.
+//! their replies, and says when a promise of the request is broken: demand 3,
+//! and of each walk call demand 2.
 //!
-//! It shares no data with the store: it keeps the paper's plain map, the live
-//! sizes as the calls tell them, and the walks under way.
+//! It has nothing in common with the store. The limits and the numbers of the
+//! answers stand here once more, from the specification; the plain map, the live sizes
+//! and which keys are in the new table it learns from calls and answers; and
+//! where a walk goes it reads off the line of `line.rs`. Left to the store is
+//! only in which order a bucket's own keys come.
 
+use crate::line::{self, number_at, part, place};
 use crate::program::{Command, Exchange, Reply};
-use crate::store::{is_legal_capacity, is_legal_size, Refusal};
-use std::collections::HashMap;
+use std::collections::BTreeMap;
+
+/// The numbers of the answers.
+const DONE: u32 = 0;
+const BAD_STATE: u32 = 1;
+const ABSENT: u32 = 3;
+const PRESENT: u32 = 4;
+const FULL: u32 = 5;
+const BAD_SIZE: u32 = 6;
+const MOVING: u32 = 7;
+const NOT_MOVING: u32 = 8;
+const BAD_LINE: u32 = 10;
+
+const LARGEST_CAPACITY: u32 = 4096;
+
+/// All sizes that a table may have.
+const SIZES: [u32; 13] = [1, 2, 4, 8, 16, 32, 64, 128, 256, 512, 1024, 2048, 4096];
 
 /// More walks than this are not followed at one time. Any choice of a run's
 /// walk calls is fair, and a script of many thousand `C 0` lines stays cheap.
@@ -15,15 +35,28 @@ const MAX_WALKS: usize = 64;
 /// The sizes of the live tables.
 #[derive(Clone, Copy, PartialEq, Eq)]
 struct Live {
-    size: u32,
-    target: Option<u32>,
+    old: u32,
+    /// During a move.
+    new: Option<u32>,
 }
 
 impl Live {
     fn smaller(self) -> u32 {
-        self.target
-            .map_or(self.size, |target| target.min(self.size))
+        self.new.map_or(self.old, |new| new.min(self.old))
     }
+
+    /// The size of the table that a key is in.
+    fn size_for(self, held: &Held) -> u32 {
+        self.new.filter(|_| held.in_new).unwrap_or(self.old)
+    }
+}
+
+/// A key that is held.
+struct Held {
+    key: u32,
+    value: u32,
+    /// During a move: whether it was moved yet, or added since the move began.
+    in_new: bool,
 }
 
 /// A walk that began at cursor 0 and was handed each cursor it was answered.
@@ -33,8 +66,8 @@ struct Walk {
     calls: u32,
     /// The largest size that the smaller live table had at any of its calls.
     bound: u32,
-    /// Keys held at each call so far and not handed out yet.
-    owed: Vec<u32>,
+    /// The places of the keys held at each call so far and not handed out yet.
+    owed: Vec<u64>,
     /// The tables of its first call, and whether a later call saw others.
     first: Live,
     resized: bool,
@@ -51,7 +84,8 @@ pub struct Tally {
 #[derive(Default)]
 pub struct Witness {
     capacity: u32,
-    pairs: HashMap<u32, u32>,
+    /// The plain map, in the order of the keys' places on the line.
+    held: BTreeMap<u64, Held>,
     /// `None` before the first start that was answered.
     live: Option<Live>,
     walks: Vec<Walk>,
@@ -67,29 +101,32 @@ impl Witness {
     pub fn observe(&mut self, exchange: &Exchange) -> Result<(), String> {
         let reply = &exchange.reply;
         let Some(command) = exchange.command else {
-            return expect(reply, &Err(Refusal::BadLine));
+            return expect(reply, BAD_LINE, &[]);
         };
         if let Command::Start { capacity, size } = command {
             return self.start(capacity, size, reply);
         }
         let Some(live) = self.live else {
-            return expect(reply, &Err(Refusal::BadState));
+            return expect(reply, BAD_STATE, &[]);
         };
         match command {
             Command::Start { .. } => unreachable!("seen above"),
-            Command::Add { key, value } => self.add(key, value, reply),
-            Command::Update { key, value } => self.update(key, value, reply),
-            Command::Delete { key } => {
-                let gone = self.pairs.remove(&key);
-                expect(reply, &gone.map(|_| vec![]).ok_or(Refusal::Absent))
-            }
-            Command::Find { key } => {
-                let value = self.pairs.get(&key);
-                expect(
-                    reply,
-                    &value.map(|&value| vec![value]).ok_or(Refusal::Absent),
-                )
-            }
+            Command::Add { key, value } => self.add(live, key, value, reply),
+            Command::Update { key, value } => match self.held.get_mut(&place(key)) {
+                Some(held) => {
+                    held.value = value;
+                    expect(reply, DONE, &[])
+                }
+                None => expect(reply, ABSENT, &[]),
+            },
+            Command::Delete { key } => match self.held.remove(&place(key)) {
+                Some(_) => expect(reply, DONE, &[]),
+                None => expect(reply, ABSENT, &[]),
+            },
+            Command::Find { key } => match self.held.get(&place(key)) {
+                Some(held) => expect(reply, DONE, &[held.value]),
+                None => expect(reply, ABSENT, &[]),
+            },
             Command::Resize { size } => self.resize(live, size, reply),
             Command::Step => self.step(live, reply),
             Command::Scan { cursor } => self.scan(live, cursor, reply),
@@ -97,91 +134,141 @@ impl Witness {
     }
 
     fn start(&mut self, capacity: u32, size: u32, reply: &Reply) -> Result<(), String> {
-        if !is_legal_capacity(capacity) || !is_legal_size(size) {
-            return expect(reply, &Err(Refusal::BadSize));
+        if capacity == 0 || capacity > LARGEST_CAPACITY || !SIZES.contains(&size) {
+            return expect(reply, BAD_SIZE, &[]);
         }
         self.capacity = capacity;
-        self.pairs.clear();
-        self.live = Some(Live { size, target: None });
-        expect(reply, &Ok(vec![]))
+        self.held.clear();
+        self.live = Some(Live {
+            old: size,
+            new: None,
+        });
+        expect(reply, DONE, &[])
     }
 
-    fn add(&mut self, key: u32, value: u32, reply: &Reply) -> Result<(), String> {
-        if self.pairs.contains_key(&key) {
-            return expect(reply, &Err(Refusal::Present));
+    fn add(&mut self, live: Live, key: u32, value: u32, reply: &Reply) -> Result<(), String> {
+        if self.held.contains_key(&place(key)) {
+            return expect(reply, PRESENT, &[]);
         }
-        if self.pairs.len() == self.capacity as usize {
-            return expect(reply, &Err(Refusal::Full));
+        if self.held.len() as u64 == u64::from(self.capacity) {
+            return expect(reply, FULL, &[]);
         }
-        self.pairs.insert(key, value);
-        expect(reply, &Ok(vec![]))
-    }
-
-    fn update(&mut self, key: u32, value: u32, reply: &Reply) -> Result<(), String> {
-        match self.pairs.get_mut(&key) {
-            Some(held) => {
-                *held = value;
-                expect(reply, &Ok(vec![]))
-            }
-            None => expect(reply, &Err(Refusal::Absent)),
-        }
+        let in_new = live.new.is_some();
+        self.held.insert(place(key), Held { key, value, in_new });
+        expect(reply, DONE, &[])
     }
 
     fn resize(&mut self, live: Live, size: u32, reply: &Reply) -> Result<(), String> {
-        if live.target.is_some() {
-            return expect(reply, &Err(Refusal::Moving));
+        if live.new.is_some() {
+            return expect(reply, MOVING, &[]);
         }
-        if !is_legal_size(size) || size == live.size {
-            return expect(reply, &Err(Refusal::BadSize));
+        if !SIZES.contains(&size) || size == live.old {
+            return expect(reply, BAD_SIZE, &[]);
         }
         self.live = Some(Live {
-            target: Some(size),
+            new: Some(size),
             ..live
         });
-        expect(reply, &Ok(vec![]))
+        expect(reply, DONE, &[])
     }
 
+    /// A step moves the keys of the lowest bucket that a key still in the old
+    /// table calls for. With none left there the new table is the only one.
     fn step(&mut self, live: Live, reply: &Reply) -> Result<(), String> {
-        let Some(target) = live.target else {
-            return expect(reply, &Err(Refusal::NotMoving));
+        let Some(new) = live.new else {
+            return expect(reply, NOT_MOVING, &[]);
         };
-        match reply.as_deref() {
-            Ok([0, 0]) => {
-                self.live = Some(Live {
-                    size: target,
-                    target: None,
-                });
-                Ok(())
+        let left = || self.held.values().filter(|held| !held.in_new);
+        let Some(lowest) = left().map(|held| held.key % live.old).min() else {
+            self.held.values_mut().for_each(|held| held.in_new = false);
+            self.live = Some(Live {
+                old: new,
+                new: None,
+            });
+            return expect(reply, DONE, &[0, 0]);
+        };
+        let mut moved = 0;
+        for held in self.held.values_mut() {
+            if !held.in_new && held.key % live.old == lowest {
+                held.in_new = true;
+                moved += 1;
             }
-            Ok([moved, 1]) if *moved > 0 => Ok(()),
-            _ => Err(format!("a step during a move answers {reply:?}")),
         }
+        expect(reply, DONE, &[moved, 1])
     }
 
     fn scan(&mut self, live: Live, cursor: u32, reply: &Reply) -> Result<(), String> {
-        let Ok([next, count, pairs @ ..]) = reply.as_deref() else {
+        let (DONE, [next, count, pairs @ ..]) = told(reply) else {
             return Err(format!("a walk call answers {reply:?}"));
         };
-        if pairs.len() != 2 * *count as usize {
+        if pairs.len() as u64 != 2 * u64::from(*count) {
             return Err("a walk call miscounts its keys".to_string());
         }
+        let mut handed = Vec::new();
+        let mut last_bucket = (0, 0);
         for pair in pairs.chunks_exact(2) {
             let (key, value) = (pair[0], pair[1]);
-            if self.pairs.get(&key) != Some(&value) {
+            let at = place(key);
+            let held = self.held.get(&at).filter(|held| held.value == value);
+            let Some(held) = held else {
                 return Err(format!("key {key} with {value} is handed out but not held"));
+            };
+            // Buckets come one after another: the smaller table's first, and
+            // those of the larger one along the line.
+            let size = live.size_for(held);
+            let bucket = (size, part(at, size).start);
+            if bucket < last_bucket {
+                return Err(format!("key {key} is handed out in another order"));
             }
-            // The smaller table's size divides the larger one's, so that all
-            // keys of a group share the cursor's place in the smaller table.
-            if key % live.smaller() != cursor % live.smaller() {
-                return Err(format!("key {key} is not of the group of cursor {cursor}"));
-            }
+            last_bucket = bucket;
+            handed.push(at);
         }
-        let mut handed: Vec<u32> = pairs.iter().step_by(2).copied().collect();
         handed.sort_unstable();
         if let Some(twice) = handed.windows(2).find(|pair| pair[0] == pair[1]) {
-            return Err(format!("key {} is handed out twice in one call", twice[0]));
+            let key = number_at(twice[0]);
+            return Err(format!("key {key} is handed out twice in one call"));
         }
-        self.advance_walks(live, cursor, *next, &handed)
+        self.advance_walks(live, cursor, *next, &handed)?;
+        self.check_group(live, cursor, *next, &handed)
+    }
+
+    /// The keys of a call are those from its cursor's part on, as the table
+    /// that they are in cuts the line, to the end of the cursor's part in the
+    /// smaller table. The next cursor has its place at that end. With no keys
+    /// the walk is at the line's end.
+    fn check_group(
+        &self,
+        live: Live,
+        cursor: u32,
+        next: u32,
+        handed: &[u64],
+    ) -> Result<(), String> {
+        let at = place(cursor);
+        let whole = part(at, live.smaller());
+        let end = if self.held.is_empty() {
+            line::LENGTH
+        } else {
+            whole.end
+        };
+        let due: Vec<u64> = self
+            .held
+            .range(whole)
+            .filter(|(place, held)| part(at, live.size_for(held)).start <= **place)
+            .map(|(&place, _)| place)
+            .collect();
+        if let Some(key) = beyond(handed, &due) {
+            return Err(format!("key {key} is not of the group of cursor {cursor}"));
+        }
+        if let Some(key) = beyond(&due, handed) {
+            return Err(format!(
+                "key {key} is missing from the group of cursor {cursor}"
+            ));
+        }
+        if next != number_at(end) {
+            let wanted = number_at(end);
+            return Err(format!("after cursor {cursor} comes {wanted}, not {next}"));
+        }
+        Ok(())
     }
 
     /// Moves every walk on whose next cursor was called, a new one at 0 too.
@@ -190,14 +277,14 @@ impl Witness {
         live: Live,
         cursor: u32,
         next: u32,
-        handed: &[u32],
+        handed: &[u64],
     ) -> Result<(), String> {
         if cursor == 0 && self.walks.len() < MAX_WALKS {
             self.walks.push(Walk {
                 due: 0,
                 calls: 0,
                 bound: 0,
-                owed: self.pairs.keys().copied().collect(),
+                owed: self.held.keys().copied().collect(),
                 first: live,
                 resized: false,
             });
@@ -207,9 +294,9 @@ impl Witness {
             walk.calls += 1;
             walk.bound = walk.bound.max(live.smaller());
             walk.resized |= walk.first != live;
-            let pairs = &self.pairs;
+            let held = &self.held;
             walk.owed
-                .retain(|key| pairs.contains_key(key) && handed.binary_search(key).is_err());
+                .retain(|place| handed.binary_search(place).is_err() && held.contains_key(place));
             walk.check()?;
         }
         // No walk that goes on is due at 0.
@@ -226,7 +313,8 @@ impl Walk {
     fn check(&self) -> Result<(), String> {
         let ended = self.due == 0;
         if ended && !self.owed.is_empty() {
-            return Err(format!("a walk ends without keys {:?}", self.owed));
+            let keys: Vec<u32> = self.owed.iter().copied().map(number_at).collect();
+            return Err(format!("a walk ends without keys {keys:?}"));
         }
         // A walk that goes on needs one more call at least.
         let least = if ended { self.calls } else { self.calls + 1 };
@@ -240,12 +328,30 @@ impl Walk {
     }
 }
 
-fn expect(reply: &Reply, wanted: &Reply) -> Result<(), String> {
-    if reply == wanted {
+/// The first key, by its place, that the other places do not have. Both are
+/// sorted.
+fn beyond(places: &[u64], others: &[u64]) -> Option<u32> {
+    if places == others {
+        return None;
+    }
+    let is_new = |place: &&u64| others.binary_search(place).is_err();
+    places.iter().find(is_new).copied().map(number_at)
+}
+
+/// A reply's number, and the numbers that follow it.
+fn told(reply: &Reply) -> (u32, &[u32]) {
+    match reply {
+        Ok(results) => (DONE, results),
+        Err(refusal) => (*refusal as u32, &[]),
+    }
+}
+
+fn expect(reply: &Reply, number: u32, results: &[u32]) -> Result<(), String> {
+    if told(reply) == (number, results) {
         Ok(())
     } else {
         Err(format!(
-            "the plain map answers {wanted:?}, the store {reply:?}"
+            "{number} {results:?} is to be answered, and the store answers {reply:?}"
         ))
     }
 }
@@ -254,6 +360,7 @@ fn expect(reply: &Reply, wanted: &Reply) -> Result<(), String> {
 mod tests {
     use super::*;
     use crate::program::replies;
+    use crate::store::Refusal;
 
     /// Shows the witness a script whose last reply is a forged one.
     fn forged(script: &str, last: Reply) -> Result<(), String> {
@@ -263,6 +370,16 @@ mod tests {
         exchanges
             .iter()
             .try_for_each(|exchange| witness.observe(exchange))
+    }
+
+    /// A walk call at the end of the script is fine with the first numbers,
+    /// and with each of the others the witness says what is wrong.
+    fn expect_noticed(script: &str, right: &[u32], wrong: &[(&[u32], &str)]) {
+        assert_eq!(forged(script, Ok(right.to_vec())), Ok(()), "{script}");
+        for (numbers, message) in wrong {
+            let error = forged(script, Ok(numbers.to_vec())).unwrap_err();
+            assert!(error.contains(message), "{numbers:?}: {error}");
+        }
     }
 
     #[test]
@@ -276,33 +393,142 @@ mod tests {
     }
 
     #[test]
-    fn a_lost_key_is_noticed() {
-        let script = "N 8 1\nA 1 10\nA 6 60\nC 0\n";
-        assert!(forged(script, Ok(vec![0, 2, 6, 60, 1, 10])).is_ok());
-        let error = forged(script, Ok(vec![0, 1, 6, 60])).unwrap_err();
-        assert!(error.contains("without keys [1]"), "{error}");
+    fn a_key_that_a_whole_walk_lost_is_noticed() {
+        expect_noticed(
+            "N 8 1\nA 1 10\nA 6 60\nC 0\n",
+            &[0, 2, 6, 60, 1, 10],
+            &[(&[0, 1, 6, 60], "without keys [1]")],
+        );
+        // The walk alone, with calls that are not looked at for themselves: the
+        // first one leaves key 2 out, and the second one ends the walk.
+        let mut witness = Witness::default();
+        for exchange in replies(b"N 8 2\nA 2 20\n") {
+            witness.observe(&exchange).unwrap();
+        }
+        let live = witness.live.unwrap();
+        witness.advance_walks(live, 0, 1, &[]).unwrap();
+        let error = witness.advance_walks(live, 1, 0, &[]).unwrap_err();
+        assert!(error.contains("without keys [2]"), "{error}");
     }
 
     #[test]
-    fn a_walk_that_goes_on_too_long_is_noticed() {
-        let error = forged("N 8 1\nA 1 10\nC 0\n", Ok(vec![1, 1, 1, 10])).unwrap_err();
-        assert!(error.contains("bound"), "{error}");
+    fn a_walk_of_too_many_calls_is_noticed() {
+        expect_noticed(
+            "N 8 1\nA 1 10\nC 0\n",
+            &[0, 1, 1, 10],
+            &[(&[1, 1, 1, 10], "2 calls or more, with 1 as its bound")],
+        );
+        expect_noticed(
+            "N 8 2\nA 1 10\nC 0\nC 1\n",
+            &[0, 1, 1, 10],
+            &[(&[3, 1, 1, 10], "3 calls or more, with 2 as its bound")],
+        );
+        // The bound is that of the smaller table, and of the largest at any call.
+        expect_noticed(
+            "N 8 2\nA 1 10\nR 8\nC 0\nC 1\n",
+            &[0, 1, 1, 10],
+            &[(&[5, 1, 1, 10], "3 calls or more, with 2 as its bound")],
+        );
+        expect_noticed(
+            "N 8 4\nA 3 30\nC 0\nC 2\nR 2\nC 1\n",
+            &[0, 1, 3, 30],
+            &[
+                (&[0, 0], "without keys [3]"),
+                (&[3, 1, 3, 30], "after cursor 1"),
+            ],
+        );
     }
 
     #[test]
     fn keys_out_of_place_are_noticed() {
-        let script = "N 8 2\nA 1 10\nA 2 20\nC 0\n";
-        assert!(forged(script, Ok(vec![1, 1, 2, 20])).is_ok());
-        for wrong in [
-            vec![1, 1, 1, 10],
-            vec![1, 1, 2, 21],
-            vec![1, 1, 4, 20],
-            vec![1, 2, 2, 20, 2, 20],
-            vec![1, 2, 2, 20],
-            vec![1],
-        ] {
-            assert!(forged(script, Ok(wrong.clone())).is_err(), "{wrong:?}");
+        expect_noticed(
+            "N 8 2\nA 1 10\nA 2 20\nA 4 40\nC 0\n",
+            &[1, 2, 4, 40, 2, 20],
+            &[
+                (&[1, 3, 4, 40, 2, 20, 1, 10], "key 1 is not of the group"),
+                (&[1, 3, 1, 10, 4, 40, 2, 20], "another order"),
+                (&[1, 1, 1, 10], "key 1 is not of the group"),
+                (&[1, 1, 2, 20], "key 4 is missing"),
+                (&[1, 2, 4, 40, 2, 21], "key 2 with 21"),
+                (&[1, 2, 4, 40, 6, 20], "key 6 with 20"),
+                (&[1, 3, 4, 40, 2, 20, 2, 20], "key 2 is handed out twice"),
+                (&[1, 2, 2, 20], "miscounts"),
+                (&[1], "a walk call answers"),
+            ],
+        );
+    }
+
+    /// The groups of two tables, here of 4 and 16 buckets, both ways round.
+    #[test]
+    fn keys_out_of_a_group_are_noticed() {
+        let adds = "A 0 3\nA 4 4\nA 8 5\nA 12 6\nA 1 7\n";
+        let growing = format!("N 16 4\nA 32 1\nA 33 2\nR 16\n{adds}C 8\n");
+        let shrinking = format!("N 16 16\n{adds}R 4\nA 32 1\nA 33 2\nC 8\n");
+        for script in [growing, shrinking] {
+            expect_noticed(
+                &script,
+                &[2, 4, 32, 1, 8, 5, 4, 4, 12, 6],
+                &[
+                    // The larger table's buckets counted upwards: 8 and 12.
+                    (&[2, 3, 32, 1, 8, 5, 12, 6], "key 4 is missing"),
+                    // A bucket that was passed, and others than the cursor's.
+                    (&[2, 5, 32, 1, 0, 3, 8, 5, 4, 4, 12, 6], "key 0 is not"),
+                    (&[2, 5, 32, 1, 8, 5, 4, 4, 12, 6, 1, 7], "key 1 is not"),
+                    (&[2, 5, 32, 1, 33, 2, 8, 5, 4, 4, 12, 6], "key 33 is not"),
+                    // The smaller table's bucket left out, or behind the others.
+                    (&[2, 3, 8, 5, 4, 4, 12, 6], "key 32 is missing"),
+                    (&[2, 4, 8, 5, 4, 4, 12, 6, 32, 1], "another order"),
+                    (&[2, 4, 32, 1, 4, 4, 8, 5, 12, 6], "another order"),
+                ],
+            );
         }
+    }
+
+    #[test]
+    fn wrong_next_cursors_are_noticed() {
+        // One bucket up, an empty one passed, the end too early, the same again.
+        let one = "N 8 4\nA 0 10\nA 3 30\nC 0\nC 2\n";
+        let due = "after cursor 2 comes 1";
+        expect_noticed(
+            one,
+            &[1, 0],
+            &[(&[3, 0], due), (&[2, 0], due), (&[5, 0], due)],
+        );
+        expect_noticed(one, &[1, 0], &[(&[0, 0], "without keys [3]")]);
+        let ended = "N 8 4\nA 0 10\nC 0\nC 2\n";
+        expect_noticed(ended, &[1, 0], &[(&[0, 0], due)]);
+        // Taken from the larger size.
+        let two = "N 8 4\nA 2 20\nR 8\nA 6 60\nC 2\n";
+        expect_noticed(
+            two,
+            &[1, 2, 2, 20, 6, 60],
+            &[(&[6, 2, 2, 20, 6, 60], due), (&[5, 2, 2, 20, 6, 60], due)],
+        );
+        // Without keys a walk is at its end, whatever the cursor.
+        let none = "after cursor 1 comes 0";
+        expect_noticed("N 8 4\nC 1\n", &[0, 0], &[(&[3, 0], none)]);
+        // Cursors from no walk: any bits above the table.
+        let high = "after cursor 4294967293 comes 3";
+        expect_noticed("N 8 4\nA 0 10\nC 4294967293\n", &[3, 0], &[(&[7, 0], high)]);
+    }
+
+    #[test]
+    fn wrong_steps_are_noticed() {
+        let script = "N 8 4\nA 1 10\nA 5 50\nA 3 30\nR 8\nA 9 90\nS\n";
+        let due = "0 [2, 1] is to be answered";
+        expect_noticed(
+            script,
+            &[2, 1],
+            &[
+                (&[0, 0], due),
+                (&[0, 1], due),
+                (&[3, 1], due),
+                (&[2, 0], due),
+            ],
+        );
+        let ending = "N 8 4\nA 1 10\nR 8\nS\nA 2 20\nS\n";
+        let due = "0 [0, 0] is to be answered";
+        expect_noticed(ending, &[0, 0], &[(&[1, 1], due), (&[0, 1], due)]);
     }
 
     #[test]
@@ -319,6 +545,24 @@ mod tests {
             ("N 1 1\nR 2\n", Err(Refusal::BadSize)),
             ("N 1 1\nR 2\nS\n", Ok(vec![0, 1])),
             ("N 1 1\n\n", Ok(vec![])),
+        ] {
+            assert!(forged(script, wrong).is_err(), "{script}");
+        }
+    }
+
+    #[test]
+    fn wrong_limits_are_noticed() {
+        for (script, wrong) in [
+            ("N 4096 4096\n", Err(Refusal::BadSize)),
+            ("N 4097 4096\n", Ok(vec![])),
+            ("N 0 4096\n", Ok(vec![])),
+            ("N 1 8192\n", Ok(vec![])),
+            ("N 1 4095\n", Ok(vec![])),
+            ("N 1 0\n", Ok(vec![])),
+            ("N 1 1\nR 4096\n", Err(Refusal::BadSize)),
+            ("N 1 1\nR 8192\n", Ok(vec![])),
+            ("N 1 1\nR 3\n", Ok(vec![])),
+            ("N 1 1\nR 1\n", Ok(vec![])),
         ] {
             assert!(forged(script, wrong).is_err(), "{script}");
         }

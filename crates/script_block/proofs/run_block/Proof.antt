@@ -4,14 +4,14 @@ use Prim.Native.Nat.{suc, _-_}
 use borrow.Author.Needs.{needs}
 use native.Mathlib.Omega.{arith}
 use lib.ListN.{length}
-use Rattle.script_run.specs.Runs.{worldOf}
-use Rattle.script_block.proofs.Gathering.{Gathering, gathering-start, room-left, line-at, turn-less, block-full, block-last, next-fits, gathering-next}
+use Rattle.script.specs.Program.{programRoom}
+use Rattle.script_block.proofs.Gathering.{Gathering, gathering-start, room-left, starts, ends, turn-less, block-full, block-last, next-fits, gathering-next}
 use Rattle.script_block.proofs.run_block.Statement.{statement}
 use Rattle.script_block.proofs.run_block.Tie as tie
 
 abbrev Inv-loop : tie.InvT-loop
 Inv-loop first₀ second₀ entries₀ pairs₀ block₀ script from state₀ next₀ filled₀ first second entries pairs block state next filled =
-    Gathering script (worldOf state₀ first₀ second₀ entries₀) pairs₀ from (worldOf state first second entries) pairs block next filled
+    Gathering script state₀ first₀ second₀ entries₀ pairs₀ from state first second entries pairs block next filled
 
 abbrev μ-loop : tie.MeasureT-loop
 μ-loop first₀ second₀ entries₀ pairs₀ block₀ script from state₀ next₀ filled₀ first second entries pairs block state next filled =
@@ -24,7 +24,8 @@ returns : tie.Need-returns Inv-loop μ-loop
 returns c = search block-last
 
 run-one-requires : tie.Need-run-one-requires Inv-loop μ-loop
-run-one-requires c κs = (search room-left, search line-at)
+unfolding programRoom
+run-one-requires c κs = (search room-left, (search starts, search ends))
 
 add-next : tie.Need-add-next Inv-loop μ-loop
 add-next c = search next-fits
@@ -39,6 +40,7 @@ loop-again : tie.Need-loop-again Inv-loop μ-loop
 loop-again c = search gathering-next
 
 returns-2 : tie.Need-returns-2 Inv-loop μ-loop
+unfolding programRoom
 returns-2 c = search block-full
 
 pub run-block-spec : {M : Type 1} → statement M

@@ -1,7 +1,7 @@
 -- `dict_tables::clear::clear` meets its contract: the buckets passed are clear, and the rest is as it was.
 -- Assumes nothing.
 use Prim.Native.Nat.{_-_}
-use native.Mathlib.Omega.{arith}
+use borrow.Author.Needs.{needs}
 use Rattle.dict_tables.proofs.Clearing.{Clearing, clearing-start, clearing-next, clearing-end}
 use Rattle.dict_tables.proofs.clear.clear.Statement.{statement}
 use Rattle.dict_tables.proofs.clear.clear.Tie as tie
@@ -15,23 +15,8 @@ abbrev μ-loop : tie.MeasureT-loop
 loop-holds : tie.Need-loop-holds Inv-loop μ-loop
 loop-holds c = search clearing-start
 
-mul-buckets : tie.Need-mul-buckets Inv-loop μ-loop
-mul-buckets c = omega arith
-
-slice-write-buckets : tie.Need-slice-write-buckets Inv-loop μ-loop
-slice-write-buckets c = omega arith
-
-add-i : tie.Need-add-i Inv-loop μ-loop
-add-i c = omega arith
-
-loop-less : tie.Need-loop-less Inv-loop μ-loop
-loop-less c = omega arith
-
 loop-again : tie.Need-loop-again Inv-loop μ-loop
 loop-again c = search clearing-next
-
-same-length : tie.Need-same-length Inv-loop μ-loop
-same-length c = omega arith
 
 returns : tie.Need-returns Inv-loop μ-loop
 returns c = search clearing-end
@@ -43,10 +28,10 @@ clear-spec =
     Inv-loop
     μ-loop
     loop-holds
-    mul-buckets
-    slice-write-buckets
-    add-i
-    loop-less
+    (λ c. search needs)
+    (λ c. search needs)
+    (λ c. search needs)
+    (λ c. search needs)
     loop-again
-    same-length
+    (λ c. search needs)
     returns)

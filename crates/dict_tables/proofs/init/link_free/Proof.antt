@@ -1,8 +1,7 @@
--- `dict_tables::init::link_free` meets its contract: the entries above the one to write next are on the free list, and the rest is
--- as it was.
+-- `dict_tables::init::link_free` meets its contract: the entries above the one to write next are on the free list, and the
+-- rest is as it was.
 -- Assumes nothing.
 use borrow.Author.Needs.{needs}
-use native.Mathlib.Omega.{arith}
 use Rattle.dict_tables.proofs.FreeList.{Linking, linking-start, linking-next, linking-end}
 use Rattle.dict_tables.proofs.init.link_free.Statement.{statement}
 use Rattle.dict_tables.proofs.init.link_free.Tie as tie
@@ -16,20 +15,8 @@ abbrev μ-loop : tie.MeasureT-loop
 loop-holds : tie.Need-loop-holds Inv-loop μ-loop
 loop-holds c = search linking-start
 
-set-entry-requires : tie.Need-set-entry-requires Inv-loop μ-loop
-set-entry-requires c κs = search needs
-
-sub-n : tie.Need-sub-n Inv-loop μ-loop
-sub-n c = omega arith
-
-loop-less : tie.Need-loop-less Inv-loop μ-loop
-loop-less c = omega arith
-
 loop-again : tie.Need-loop-again Inv-loop μ-loop
 loop-again c = search linking-next
-
-same-length : tie.Need-same-length Inv-loop μ-loop
-same-length c = omega arith
 
 returns : tie.Need-returns Inv-loop μ-loop
 returns c = search linking-end
@@ -41,9 +28,9 @@ link-free-spec =
     Inv-loop
     μ-loop
     loop-holds
-    set-entry-requires
-    sub-n
-    loop-less
+    (λ c κs. search needs)
+    (λ c. search needs)
+    (λ c. search needs)
     loop-again
-    same-length
+    (λ c. search needs)
     returns)

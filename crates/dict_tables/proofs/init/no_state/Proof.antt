@@ -1,4 +1,4 @@
--- `dict_tables::init::no_state` meets its contract: the code writes the definition's fields.
+-- `dict_tables::init::no_state` meets its contract: it is the empty state of zeros.
 -- Assumes nothing.
 use borrow.Author.Needs.{needs}
 use Rattle.model.specs.Calls.{noState}
@@ -10,4 +10,4 @@ unfolding noState
 returns c = search needs
 
 pub no-state-spec : {M : Type 1} → statement M
-no-state-spec = tie.close (tie.spec returns)
+no-state-spec = tie.close (tie.spec (λ c κs. search needs) returns)

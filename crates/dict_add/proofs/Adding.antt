@@ -1,0 +1,162 @@
+-- From what the functions of numbers leave to the definition: on the current and the other buffer, on the lent ones, and the
+-- answer.
+-- Assumes nothing.
+use Prim.Native.Nat.{ℕ, _+_, _≤_}
+use mathlib.Core.Path.{_≡_, refl, sym, ap, _∙_}
+use mathlib.Core.Bool.{Bool, true, false, cond}
+use mathlib.Core.List.{List}
+use native.Mathlib.Omega.{arith}
+use lib.ListN.{length, getD, set}
+use Rattle.model.specs.declared.State.{State}
+use Rattle.model.specs.declared.Table.{Table}
+use Rattle.model.specs.declared.Error.{Error}
+use Rattle.model.specs.declared.Lookup.{Lookup}
+use Rattle.model.specs.declared.AddAnswer.{AddAnswer}
+use Rattle.model.specs.Keys.{bucketOf}
+use Rattle.model.specs.Memory.{linkOf, setEntry, sizeOf, bucketsOf, keysHeld}
+use Rattle.model.specs.Calls.{After, changed, both, lookup, push, pushed, takeable, target, added, add}
+use Rattle.model.proofs.Soundness.{Sound, Counted, tells-sound, tested-counts}
+use Rattle.model.proofs.Tests.{told}
+use Rattle.memory.specs.Lent.{soundLent}
+use Rattle.memory.proofs.Orientation.{written-first, written-second, writing-refused, writing-sound}
+use Rattle.search.specs.Found.{foundOf}
+use Rattle.search.specs.Tables.{searchedIn}
+use Rattle.search.proofs.Lookups.{lookup-resting, lookup-rehashing}
+use Rattle.dict_add.specs.declared.add.Push.{Push}
+use Rattle.dict_add.specs.Push.{Left, pushFree, pushFound, oneMore, pushAnswer}
+
+-- On the current and the other buffer.
+
+afterLeft : State → List ℕ → List ℕ → Table → Left → After AddAnswer
+afterLeft s current other t (Left.left r b e) = changed t (pushAnswer s r) current other b e
+
+module _ (s : State) (current other entries : List ℕ) (key value : ℕ) (t : Table) (e : target (s .rehashing) ≡ t) where
+  -- a refusal changes nothing
+  kept : (u : Table) (a : AddAnswer)
+      → changed u a current other (bucketsOf current other u) entries ≡ After.after a current other entries
+  unfolding changed bucketsOf
+  kept Table.Old a = refl
+  kept Table.New a = refl
+
+  taken : changed t (AddAnswer.Added (oneMore s (target (s .rehashing)) (linkOf entries (s .«free_head»)))) current other
+      (set (bucketsOf current other t) (bucketOf key (sizeOf s t)) (s .«free_head»))
+      (setEntry entries (s .«free_head») (getD (bucketsOf current other t) (bucketOf key (sizeOf s t)) 0) key value)
+      ≡ pushed s current other entries key value (target (s .rehashing))
+  unfolding pushed push setEntry oneMore
+  taken = rw e
+
+  after-cond : (f : Bool) (x y : Left)
+      → afterLeft s current other t (cond f x y) ≡ cond f (afterLeft s current other t x) (afterLeft s current other t y)
+  after-cond true x y = refl
+  after-cond false x y = refl
+
+  added-by : (held : ℕ) → held ≡ keysHeld s → (l : Lookup)
+      → afterLeft s current other t
+      (pushFound (bucketsOf current other t) entries
+      (pushFree (bucketsOf current other t) entries (sizeOf s t) (s .capacity) held (s .«free_head») key value) (foundOf l))
+      ≡ added s current other entries key value l
+  unfolding afterLeft pushFree pushFound foundOf pushAnswer added takeable
+  added-by held h Lookup.Damaged = kept t _
+  added-by held h (Lookup.At u before n) = kept t _
+  added-by held h Lookup.Absent = simp (h, after-cond, kept, taken)
+
+-- What a sound state gives, whichever buffer is current.
+
+module _ (s : State) (first second entries : ℕ) (h : soundLent first second entries s ≡ true) where
+  lent-sound : Sound s (cond (s .«second_is_current») second first) (cond (s .«second_is_current») first second) entries
+  unfolding soundLent
+  lent-sound = told (tells-sound s _ _ entries) h
+
+  pub free-fits : s .«free_head» ≤ s .capacity
+  free-fits = lent-sound .free-fits
+
+  pub used-fits : s .«old_used» + s .«new_used» ≤ s .capacity
+  used-fits = lent-sound .used-fits
+
+  old-held : s .rehashing ≡ false → s .«old_used» ≡ keysHeld s
+  unfolding keysHeld
+  old-held f = let z = lent-sound .resting f .no-keys in omega arith
+
+-- into the only table, or the new one
+
+module _ (s : State) (current other entries : List ℕ) (key value : ℕ) (r : Push) (b e : List ℕ) where
+  pub added-resting : (first second : ℕ) → soundLent first second (length entries) s ≡ true → s .rehashing ≡ false
+      → Left.left r b e
+      ≡ pushFound current entries
+      (pushFree current entries (s .«old_size») (s .capacity) (s .«old_used») (s .«free_head») key value)
+      (foundOf (searchedIn entries (s .capacity) (s .«old_used») current (s .«old_size») key Table.Old))
+      → After.after (pushAnswer s r) b other e
+      ≡ added s current other entries key value (lookup s current other entries key)
+  unfolding afterLeft changed bucketsOf sizeOf target
+  added-resting first second h f p =
+      ap (afterLeft s current other Table.Old) p
+      ∙ added-by s current other entries key value Table.Old (ap target f) (s .«old_used»)
+      (old-held s first second (length entries) h f) _
+      ∙ ap (added s current other entries key value) (lookup-resting s current other entries key f)
+
+  pub added-rehashing : s .rehashing ≡ true
+      → Left.left r b e
+      ≡ pushFound other entries
+      (pushFree other entries (s .«new_size») (s .capacity) (s .«old_used» + s .«new_used») (s .«free_head») key value)
+      (foundOf
+      (both (searchedIn entries (s .capacity) (s .«old_used») current (s .«old_size») key Table.Old)
+      (searchedIn entries (s .capacity) (s .«new_used») other (s .«new_size») key Table.New)))
+      → After.after (pushAnswer s r) current b e
+      ≡ added s current other entries key value (lookup s current other entries key)
+  unfolding afterLeft changed bucketsOf sizeOf target keysHeld
+  added-rehashing f p =
+      ap (afterLeft s current other Table.New) p
+      ∙ added-by s current other entries key value Table.New (ap target f) (s .«old_used» + s .«new_used») refl _
+      ∙ ap (added s current other entries key value) (lookup-rehashing s current other entries key f)
+
+-- On the lent buffers.
+
+module _ (s : State) (first second entries : List ℕ) (key value : ℕ) (a : AddAnswer) (x y e : List ℕ)
+    (h : soundLent (length first) (length second) (length entries) s ≡ true) where
+  pub added-first : s .«second_is_current» ≡ false
+      → After.after a x y e ≡ added s first second entries key value (lookup s first second entries key)
+      → After.after a x y e ≡ add s first second entries key value
+  unfolding add
+  added-first f p =
+      writing-sound s first second entries true (sym h) _ _ _ refl (written-first _ _ first second _ x y e f p)
+
+  pub added-second : s .«second_is_current» ≡ true
+      → After.after a x y e ≡ added s second first entries key value (lookup s second first entries key)
+      → After.after a y x e ≡ add s first second entries key value
+  unfolding add
+  added-second f p =
+      writing-sound s first second entries true (sym h) _ _ _ refl (written-second _ _ first second _ x y e f p)
+
+-- The answer.
+
+pub counted : (s : State) (first second entries : ℕ) (t : Bool) → t ≡ soundLent first second entries s → t ≡ true → Counted s
+unfolding soundLent
+counted s first second entries t e h = tested-counts s _ _ entries t e h
+
+pub add-unsound : (s : State) (first second entries : List ℕ) (key value : ℕ) (t : Bool)
+    → t ≡ soundLent (length first) (length second) (length entries) s → t ≡ false
+    → After.after (AddAnswer.Refused Error.BadState) first second entries ≡ add s first second entries key value
+unfolding add
+add-unsound s first second entries key value t e f = writing-refused s first second entries t e _ _ f
+
+module _ (s : State) (x y e : List ℕ) (r : Push) (meant : After AddAnswer)
+    (h : After.after (pushAnswer s r) x y e ≡ meant) where
+  pub add-refused : (error : Error) → r ≡ Push.Refused error → After.after (AddAnswer.Refused error) x y e ≡ meant
+  unfolding pushAnswer
+  add-refused error p = rw p at h
+
+  pub add-done : (free : ℕ) (t : State) → r ≡ Push.Done free → t ≡ oneMore s (target (s .rehashing)) free
+      → After.after (AddAnswer.Added t) x y e ≡ meant
+  unfolding pushAnswer
+  add-done free t p o = rw o (rw p at h)
+
+-- One key more.
+
+module _ (s : State) (free : ℕ) where
+  pub more-old : s .rehashing ≡ false → oneMore s Table.Old free ≡ oneMore s (target (s .rehashing)) free
+  unfolding target
+  more-old e = ap (λ (f : Bool). oneMore s (target f) free) (sym e)
+
+  pub more-new : s .rehashing ≡ true → oneMore s Table.New free ≡ oneMore s (target (s .rehashing)) free
+  unfolding target
+  more-new e = ap (λ (f : Bool). oneMore s (target f) free) (sym e)

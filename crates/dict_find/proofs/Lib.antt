@@ -1,3 +1,0 @@
--- What the loops keep and what each turn gives, and what the parts of a call come to.
-mod Finding
-mod Updating

@@ -1,0 +1,3 @@
+-- What the parts of each call come to.
+mod Finding
+mod Updating

@@ -1,0 +1,70 @@
+-- The suggested size: the smallest power of two that is not below the number asked for, up to the largest size.
+-- Assumes nothing.
+use Prim.Native.Nat.{ℕ, zero, suc, _+_, _*_, _^_, _≤_, _<_}
+use mathlib.Core.Path.{_≡_, refl, subst}
+use mathlib.Core.Bool.{Bool, true, false, cond}
+use mathlib.Core.Logic.{_⊎_, inl, inr}
+use native.Mathlib.Decide.{decLt}
+use native.Mathlib.Omega.{arith}
+use lib.Dec.{leb}
+use borrow.Author.Tests.{leb-true, leb-false}
+use Rattle.model.specs.Limits.{largestExponent}
+use Rattle.model.specs.Calls.{powerFrom, suggested}
+
+-- a power of two from 2^from to 2^to: not below n, or the last of them; and all those before it are below n
+pub record Smallest (from to n size : ℕ) : Type 0 where
+  pub exponent : ℕ
+  pub power : size ≡ 2 ^ exponent
+  pub at-least : from ≤ exponent
+  pub at-most : exponent ≤ to
+  pub enough : (n ≤ size) ⊎ (exponent ≡ to)
+  pub none-smaller : (b : ℕ) → from ≤ b → b < exponent → 2 ^ b < n
+
+smallest : (b left n : ℕ) → Smallest b (b + left) n (powerFrom b left n)
+unfolding powerFrom
+smallest b zero n =
+    record {
+      exponent = b;
+      power = refl;
+      at-least = omega arith;
+      at-most = omega arith;
+      enough = inr (omega arith);
+      none-smaller = λ d l k. absurd (omega arith);
+    }
+smallest b (suc left) n = by (leb n (2 ^ b)) refl (smallest (suc b) left n)
+  where
+    by : (t : Bool) → leb n (2 ^ b) ≡ t → Smallest (suc b) (suc b + left) n (powerFrom (suc b) left n)
+        → Smallest b (b + suc left) n (cond t (2 ^ b) (powerFrom (suc b) left n))
+    by true e rest =
+        record {
+          exponent = b;
+          power = refl;
+          at-least = omega arith;
+          at-most = omega arith;
+          enough = inl (leb-true n (2 ^ b) e);
+          none-smaller = λ d l k. absurd (omega arith);
+        }
+    by false e rest =
+        let below = leb-false n (2 ^ b) e in
+        record {
+          exponent = rest .exponent;
+          power = rest .power;
+          at-least = omega (arith, rest .at-least);
+          at-most = omega (arith, rest .at-most);
+          enough = elim (rest .enough) [ inl h ↦ inl h | inr h ↦ inr (omega (arith, h)) ];
+          none-smaller =
+              λ d l k.
+              elim (decLt b d) [
+                | yes h ↦ rest .none-smaller d h k
+                | no h ↦ subst (λ (c : ℕ). 2 ^ c < n) (omega arith) below
+              ];
+        }
+
+-- growing, for twice the keys; shrinking, for the keys
+pub growing-smallest : (keys : ℕ) → Smallest 0 (0 + largestExponent) (keys * 2) (suggested true keys)
+unfolding suggested
+growing-smallest keys = smallest 0 largestExponent (keys * 2)
+
+pub shrinking-smallest : (keys : ℕ) → Smallest 0 (0 + largestExponent) keys (suggested false keys)
+unfolding suggested
+shrinking-smallest keys = smallest 0 largestExponent keys

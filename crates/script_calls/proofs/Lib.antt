@@ -1,3 +1,0 @@
--- From what a call of the store answers and the line that is written to what the definitions say of a call.
-pub mod Room
-pub mod Running

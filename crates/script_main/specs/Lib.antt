@@ -1,0 +1,2 @@
+-- What came of reading the script.
+pub mod Input

@@ -1,0 +1,35 @@
+-- `search::lookup::search_chain` meets its contract: the search from here is the search from the head.
+-- Assumes nothing.
+use borrow.Author.Needs.{needs}
+use native.Mathlib.Omega.{arith}
+use Rattle.model.proofs.Chains.{budget-left, in-range}
+use Rattle.search.proofs.Searching.{Searching, searching-start, searching-end, searching-out, searching-hit, searching-hit-bad, searching-next}
+use Rattle.search.proofs.lookup.search_chain.Statement.{statement}
+use Rattle.search.proofs.lookup.search_chain.Tie as tie
+
+abbrev Inv-loop : tie.InvT-loop
+Inv-loop entries capacity budget head key table at₀ before₀ left₀ at before left =
+    Searching entries capacity budget head key table at before left
+
+abbrev μ-loop : tie.MeasureT-loop
+μ-loop entries capacity budget head key table at₀ before₀ left₀ at before left = left
+
+pub search-chain-spec : {M : Type 1} → statement M
+search-chain-spec =
+    tie.close
+    (tie.spec
+    Inv-loop
+    μ-loop
+    (λ c. search searching-start)
+    (λ c. search searching-out)
+    (λ c κs. omega (arith, in-range))
+    (λ c. search budget-left)
+    (λ c κs. omega (arith, in-range))
+    (λ c κs. search needs)
+    (λ c. search needs)
+    (λ c. search needs)
+    (λ c. search searching-hit-bad)
+    (λ c. search searching-hit)
+    (λ c. omega (arith, budget-left))
+    (λ c. search searching-next)
+    (λ c. search searching-end))

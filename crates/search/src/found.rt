@@ -1,0 +1,153 @@
+// The entry that holds a key: for find, update and add. Functions below `find_entry` take numbers and no State, so that
+// they are quick where they stay calls.
+use memory::entry::key_of;
+use memory::entry::link_of;
+use memory::state::bucket_index;
+use model::State;
+ghost use mathlib.Core.Path.{_≡_};
+ghost use mathlib.Core.Bool.{true};
+ghost use Prim.Native.Nat.{_*_, _≤_};
+ghost use lib.ListN.{length};
+ghost use Rattle.model.specs.declared.Table.{Table};
+ghost use Rattle.model.specs.Memory.{chain};
+ghost use Rattle.model.specs.Calls.{searched, both};
+ghost use Rattle.memory.specs.Lent.{soundLent};
+ghost use Rattle.search.specs.Tables.{searchedIn, lookupLent, Readable};
+ghost use Rattle.search.specs.Found.{foundOf, firstOf, asFound, bothFound};
+
+// A lookup's answer without the way to the entry.
+pub enum Found {
+    Damaged,
+    Absent,
+    At(u32),
+}
+
+// An entry once it is found, and else the one that is met, if its key is the same. 0 is none.
+fn first_of(found: u32, same: bool, met: u32) -> u32
+    ensures { λ r. ⌜ r ≡ firstOf found same met ⌝ }
+{
+    if (found == 0) & same { met } else { found }
+}
+
+fn as_found(found: u32) -> Found
+    ensures { λ r. ⌜ r ≡ asFound found ⌝ }
+{
+    if found == 0 {
+        Found::Absent
+    } else {
+        Found::At(found)
+    }
+}
+
+// The first entry of a chain with the key. One loop reads the whole chain: it must be sound to its end.
+fn search_entry(entries: &[u32], capacity: u32, budget: u32, head: u32, key: u32) -> Found
+    requires { ⌜ capacity * 3 ≤ length (now entries) ⌝ }
+    ensures { λ r. ⌜ ((t : Table) → r ≡ foundOf (searched (now (entries .entry)) key t 0 (chain (now (entries .entry)) capacity budget head))) ⌝ }
+{
+    let mut at = head;
+    let mut found = 0;
+    let mut left = budget;
+    while at != 0 {
+        if (left == 0) | (capacity < at) {
+            return Found::Damaged;
+        }
+        left -= 1;
+        found = first_of(found, key_of(entries, at) == key, at);
+        at = link_of(entries, at);
+    }
+    as_found(found)
+}
+
+// The key's entry in one table.
+pub fn entry_in(
+    entries: &[u32],
+    capacity: u32,
+    used: u32,
+    buckets: &[u32],
+    size: u32,
+    key: u32,
+) -> Found
+    requires { ⌜ Readable size (length (now buckets)) capacity (length (now entries)) ⌝ }
+    ensures { λ r. ⌜ ((t : Table) → r ≡ foundOf (searchedIn (now (entries .entry)) capacity used (now (buckets .entry)) size key t)) ⌝ }
+{
+    let b = bucket_index(key, size);
+    search_entry(entries, capacity, used, buckets[b], key)
+}
+
+// Both chains must be sound, and the old table's entry comes first.
+fn both_found(old: Found, new: Found) -> Found
+    ensures { λ r. ⌜ r ≡ bothFound old new ⌝ }
+{
+    match old {
+        Found::Damaged => Found::Damaged,
+        Found::Absent => new,
+        Found::At(_) => match new {
+            Found::Damaged => Found::Damaged,
+            Found::Absent => old,
+            Found::At(_) => old,
+        },
+    }
+}
+
+// The key's entry in both tables, during a rehash.
+pub fn entry_in_both(
+    old: &[u32],
+    new: &[u32],
+    entries: &[u32],
+    capacity: u32,
+    old_used: u32,
+    new_used: u32,
+    old_size: u32,
+    new_size: u32,
+    key: u32,
+) -> Found
+    requires { ⌜ Readable «old_size» (length (now old)) capacity (length (now entries)) ⌝ }
+    requires { ⌜ Readable «new_size» (length (now new)) capacity (length (now entries)) ⌝ }
+    ensures { λ r. ⌜ r ≡ foundOf (both
+        (searchedIn (now (entries .entry)) capacity «old_used» (now (old .entry)) «old_size» key Table.Old)
+        (searchedIn (now (entries .entry)) capacity «new_used» (now (new .entry)) «new_size» key Table.New)) ⌝ }
+{
+    let in_old = entry_in(entries, capacity, old_used, old, old_size, key);
+    let in_new = entry_in(entries, capacity, new_used, new, new_size, key);
+    both_found(in_old, in_new)
+}
+
+// The key's entry, in the lent buffers. The flags are read here.
+pub fn find_entry(first: &[u32], second: &[u32], entries: &[u32], s: State, key: u32) -> Found
+    requires { ⌜ soundLent (length (now first)) (length (now second)) (length (now entries)) s ≡ true ⌝ }
+    ensures { λ r. ⌜ r ≡ foundOf (lookupLent s (now (first .entry)) (now (second .entry)) (now (entries .entry)) key) ⌝ }
+{
+    if s.rehashing {
+        if s.second_is_current {
+            entry_in_both(
+                second,
+                first,
+                entries,
+                s.capacity,
+                s.old_used,
+                s.new_used,
+                s.old_size,
+                s.new_size,
+                key,
+            )
+        } else {
+            entry_in_both(
+                first,
+                second,
+                entries,
+                s.capacity,
+                s.old_used,
+                s.new_used,
+                s.old_size,
+                s.new_size,
+                key,
+            )
+        }
+    } else {
+        if s.second_is_current {
+            entry_in(entries, s.capacity, s.old_used, second, s.old_size, key)
+        } else {
+            entry_in(entries, s.capacity, s.old_used, first, s.old_size, key)
+        }
+    }
+}

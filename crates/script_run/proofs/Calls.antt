@@ -18,6 +18,7 @@ use Rattle.script_run.specs.declared.answer.Reply.{Reply}
 use Rattle.script_run.specs.declared.answer.Values.{Values}
 use Rattle.script_run.specs.Runs.{replied, valuesOf, replyOf, handed, outcome, Replies, Leaves}
 
+-- a reply's number may be put for one that it equals
 pub renumbered : (r : Reply) (k number : ℕ) (values : Values) (t : State) → r ≡ replied k values t → k ≡ number
     → r ≡ replied number values t
 renumbered r k number values t e h = e ∙ ap (λ (n : ℕ). replied n values t) h

@@ -24,6 +24,7 @@ use Rattle.script_run.specs.declared.answer.Values.{Values}
 use Rattle.script_run.specs.Runs.{replied, valuesOf, handed, handedBy, outcome, Replies, Leaves}
 use Rattle.script_run.proofs.Calls.{known-replies}
 
+-- an answer that is known, with its reply
 pub scan-replies : {a b : ScanAnswer} (s : State) (r : code.Reply) (number : ℕ) (values : Values) (t : State) → a ≡ b
     → r ≡ replied number values t → reply number (valuesOf values) t ≡ scanReply s b → handed values ≡ handedBy b
     → Replies r (scanReply s) a (handedBy a)

@@ -75,16 +75,12 @@ pub record Written (line before out : List ℕ) (length : ℕ) : Type 0 where
   pub wrote : Wrote before 0 line out length
   pub short : length ≤ lineRoom
 
--- a reply's line
-abbrev pub lineOf : Reply → List ℕ → List ℕ
-lineOf r lent = answerLine (r .number) (valuesOf (r .values) ++ take (handed (r .values)) lent)
-
--- .. and the state for the next line
+-- .. a reply's, and the state for the next line
 pub record Told (s : State) (r : Reply) (lent before out : List ℕ) (after : State) (length : ℕ) : Type 0 where
-  pub line : Written (lineOf r lent) before out length
+  pub line : Written (answerLine (r .number) (valuesOf (r .values) ++ take (handed (r .values)) lent)) before out length
   pub state : after ≡ carriedState (r .number) s (r .state)
 
--- .. and the world and the list for the next line
+-- .. any line's, and the world and the list for the next line
 pub record Runs (ran : Ran) (after : World) (lent before out : List ℕ) (length : ℕ) : Type 0 where
   pub line : Written (ran .written) before out length
   pub world : after ≡ ran .world

@@ -1,17 +1,19 @@
--- Walks: calls from cursor to cursor, each with its own live tables. How many calls one takes, and that it misses no key.
+-- One call of a walk, with any live tables, and a key on the line of reversed keys. A key that is ahead of the cursor is handed
+-- out or stays ahead, and the cursor climbs. A key that is behind stays behind, and comes again only at a smaller size.
 use mathlib.Core.Path.{_≡_, refl}
-use mathlib.Core.Logic.{_≢_, _⊎_, inl, inr, ⊎-elim, ⊎-map}
-use mathlib.Core.List.{List, [], _∷_, _++_}
+use mathlib.Core.Logic.{_≢_, _⊎_, inl, inr, ⊎-elim}
 use Prim.Native.Nat.{ℕ, _+_, _%_, _^_, _<_, _≤_}
+use native.Mathlib.Nat.{le-dest, lt-of-not-le}
 use native.Mathlib.Decide.{decLt}
 use native.Mathlib.Omega.{arith}
-use lib.ListN.{length}
+use lib.Pow.{shr-mono}
 use Rattle.cursor.specs.Reverse.{reverse, rev}
 use Rattle.cursor.specs.Next.{next}
 use Rattle.cursor.specs.Group.{Group, oneTable, twoTables}
 use Rattle.cursor.specs.Member.{In}
-use Rattle.cursor.proofs.Reversal.{reverse-lt, reverse-zero}
-use Rattle.cursor.proofs.Interval.{Interval, interval}
+use Rattle.cursor.proofs.Reversal.{reverse-lt, reverse-high, reverse-zero}
+use Rattle.cursor.proofs.NextCursor.{next-up}
+use Rattle.cursor.proofs.Interval.{Interval, interval, bucket-reversed}
 use Rattle.cursor.proofs.LargeBuckets.{two-answers, two-large}
 
 -- the live tables at a call, by the exponents of their sizes, the smaller first
@@ -37,7 +39,11 @@ abbrev pub Covers : Live → ℕ → ℕ → Type 0
 Covers (one b) v k = k % 2 ^ b ≡ groupOf (one b) v .small
 Covers (two b c) v k = (k % 2 ^ b ≡ groupOf (two b c) v .small) × In (k % 2 ^ c) (groupOf (two b c) v .large)
 
-valid-smaller : (l : Live) → Valid l → smaller l ≤ 32
+-- the key is in the cursor's bucket of the smaller table
+abbrev pub Near : Live → ℕ → ℕ → Type 0
+Near l v k = k % 2 ^ smaller l ≡ v % 2 ^ smaller l
+
+pub valid-smaller : (l : Live) → Valid l → smaller l ≤ 32
 valid-smaller (one b) h = h
 valid-smaller (two b c) h = omega arith
 
@@ -71,7 +77,7 @@ ahead-next b v k h a = go (interval 32 b v h h)
         ]
 
 -- where it is in the smaller table's bucket the call covers it
-bucket-covers : (l : Live) (v k : ℕ) → Valid l → Ahead v k → k % 2 ^ smaller l ≡ v % 2 ^ smaller l → Covers l v k
+bucket-covers : (l : Live) (v k : ℕ) → Valid l → Ahead v k → Near l v k → Covers l v k
 unfolding oneTable twoTables rev
 bucket-covers (one b) v k h a e = e
 bucket-covers (two b c) v k h a e =
@@ -88,75 +94,52 @@ call-step l v k h a =
     (λ on. inr (rw (call-answers l v h) on))
     (ahead-next (smaller l) v k (valid-smaller l h) a)
 
--- A part of a walk from cursor v to cursor w: calls with these live tables, in their order, each given the cursor that the one
--- before it answered, none of them answering 0.
-pub data Run : ℕ → List Live → ℕ → Type 0 where
-  here : {v : ℕ} → Run v [] v
-  call : {v w : ℕ} {ls : List Live} (l : Live) → Valid l → groupOf l v .answered ≢ 0 → Run (groupOf l v .answered) ls w → Run v (l ∷ ls) w
-
--- The rest of a walk from cursor v: such calls, and a last one that answers 0.
-pub data Ends : ℕ → List Live → Type 0 where
-  last : {v : ℕ} (l : Live) → Valid l → groupOf l v .answered ≡ 0 → Ends v (l ∷ [])
-  then : {v : ℕ} {ls : List Live} (l : Live) → Valid l → groupOf l v .answered ≢ 0 → Ends (groupOf l v .answered) ls → Ends v (l ∷ ls)
-
--- a whole walk
-abbrev pub Ended : List Live → Type 0
-Ended ls = Ends 0 ls
-
--- a run goes on
-pub run-append : {v w x : ℕ} {ls ms : List Live} → Run v ls w → Run w ms x → Run v (ls ++ ms) x
-run-append here s = s
-run-append (call l h ne r) s = call l h ne (run-append r s)
-
--- and ends
-pub run-ends : {v w : ℕ} {ls ms : List Live} → Run v ls w → Ends w ms → Ends v (ls ++ ms)
-run-ends here s = s
-run-ends (call l h ne r) s = then l h ne (run-ends r s)
-
--- the smaller exponent is at most m at each of the calls
-abbrev pub Within : ℕ → List Live → Type 0
-Within m [] = Unit {0}
-Within m (l ∷ ls) = (smaller l ≤ m) × Within m ls
-
 -- at a width of m bits the reversed cursor climbs with each call that does not answer 0
 pub call-climbs : (m : ℕ) (l : Live) (v : ℕ) → Valid l → smaller l ≤ m → groupOf l v .answered ≢ 0 → reverse m v < reverse m (groupOf l v .answered)
 call-climbs m l v h small ne =
     let bucket = interval m (smaller l) v small (valid-smaller l h) in
     rw (call-answers l v h) (omega (arith, bucket .within v refl, bucket .follows (rw (call-answers l v h) at ne)))
 
-run-climbs : (m : ℕ) {v w : ℕ} {ls : List Live} → Within m ls → Run v ls w → length ls + reverse m v ≤ reverse m w
-run-climbs m small here = omega arith
-run-climbs m small (call {v} {w} {ls} l h ne r) =
-    omega (arith, call-climbs m l v h (small .0) ne, run-climbs m (small .1) r)
+-- ---- behind the cursor
 
-ends-climbs : (m : ℕ) {v : ℕ} {ls : List Live} → Within m ls → Ends v ls → length ls + reverse m v ≤ 2 ^ m
-ends-climbs m small (last {v} l h z) = omega (arith, reverse-lt m v)
-ends-climbs m small (then {v} {ls} l h ne r) =
-    omega (arith, call-climbs m l v h (small .0) ne, ends-climbs m (small .1) r)
+-- in a table of size 2 ^ b the key's bucket comes before the cursor's
+abbrev pub Behind : ℕ → ℕ → ℕ → Type 0
+Behind b v k = reverse b k < reverse b v
 
--- The bound: a walk that has not ended has had fewer calls than 2 ^ m, an ended one at most as many.
-pub walk-bound : (m w : ℕ) (ls : List Live) → Within m ls → Run 0 ls w → length ls < 2 ^ m
-walk-bound m w ls small r = omega (arith, run-climbs m small r, reverse-lt m w)
+-- what is in order at a width is in order at a smaller one
+coarser : (b n x y : ℕ) → b ≤ n → reverse n x ≤ reverse n y → reverse b x ≤ reverse b y
+coarser b n x y l h =
+    let (d, e) = le-dest l in
+    rw (← reverse-high b d x, ← reverse-high b d y) (shr-mono d (rw (← e) at h))
 
-pub ended-bound : (m : ℕ) (ls : List Live) → Within m ls → Ended ls → length ls ≤ 2 ^ m
-ended-bound m ls small r = omega (arith, ends-climbs m small r)
+-- and what is strictly so, at a larger one
+finer : (b n x y : ℕ) → b ≤ n → reverse b x < reverse b y → reverse n x < reverse n y
+finer b n x y l h = lt-of-not-le (λ f. omega (arith, coarser b n y x l f))
 
--- some call covers the key, of calls with these live tables from cursor v on
-abbrev pub Covered : ℕ → List Live → ℕ → Type 0
-Covered v [] k = ⊥
-Covered v (l ∷ ls) k = Covers l v k ⊎ Covered (groupOf l v .answered) ls k
+-- a key that is behind at a size comes again only at a smaller one
+pub again-smaller : (b : ℕ) (l : Live) (v k : ℕ) → Behind b v k → Near l v k → smaller l < b
+again-smaller b l v k behind near =
+    lt-of-not-le (λ f. omega (arith, finer b (smaller l) k v f behind, bucket-reversed (smaller l) k v .0 near))
 
--- after a run a key that was ahead is covered or still ahead
-pub run-covers : {v w : ℕ} {ls : List Live} (k : ℕ) → Run v ls w → Ahead v k → Covered v ls k ⊎ Ahead w k
-run-covers k here a = inr a
-run-covers k (call {v} l h ne r) a =
-    ⊎-elim (λ c. inl (inl c)) (λ on. ⊎-map inr (λ x. x) (run-covers k r (on .1))) (call-step l v k h a)
+module _ (l : Live) (v k : ℕ) (h : Valid l) (on : groupOf l v .answered ≢ 0) where
+  abbrev w : ℕ
+  w = groupOf l v .answered
 
--- once the walk has ended it is covered
-pub ends-covers : {v : ℕ} {ls : List Live} (k : ℕ) → Ends v ls → Ahead v k → Covered v ls k
-ends-covers k (last {v} l h z) a = ⊎-elim inl (λ on. absurd (on .0 z)) (call-step l v k h a)
-ends-covers k (then {v} l h ne r) a = ⊎-elim inl (λ on. inr (ends-covers k r (on .1))) (call-step l v k h a)
+  -- a key whose bucket is the cursor's, or comes before it, is behind the cursor answered
+  not-after : reverse (smaller l) k ≤ reverse (smaller l) v → Behind (smaller l) w k
+  not-after le =
+      rw (call-answers l v h) (omega (arith, next-up (smaller l) v (valid-smaller l h) (rw (call-answers l v h) at on)))
 
--- Coverage: an ended walk has handed out the buckets of every key, at one call at least.
-pub walk-covers : (ls : List Live) → Ended ls → (k : ℕ) → Covered 0 ls k
-walk-covers ls r k = ends-covers k r (ahead-zero k)
+  -- so is one that the call hands out, ..
+  pub handed-behind : Near l v k → Behind (smaller l) w k
+  handed-behind near = not-after (omega (arith, bucket-reversed (smaller l) k v .0 near))
+
+  -- .. and one that was behind, ..
+  pub behind-call : (b : ℕ) → b ≤ 32 → Behind b v k → Behind (smaller l) w k
+  behind-call b fits behind =
+      not-after (coarser (smaller l) 32 k v (valid-smaller l h) (omega (arith, finer b 32 k v fits behind)))
+
+  -- .. which is so at its own size too
+  pub behind-stays : (b : ℕ) → b ≤ 32 → Behind b v k → Behind b w k
+  behind-stays b fits behind =
+      omega (arith, coarser b 32 v w fits (omega (arith, call-climbs 32 l v h (valid-smaller l h) on)))

@@ -15,7 +15,7 @@ use Rattle.cursor.specs.Member.{In}
 use Rattle.cursor.specs.Next.{next}
 use Rattle.cursor.specs.Group.{oneTable, twoTables}
 use Rattle.cursor.proofs.LargeBuckets.{LargeBuckets, two-large}
-use Rattle.cursor.proofs.Walks.{Live, smaller, Valid, groupOf, Covers, call-answers}
+use Rattle.cursor.proofs.Walks.{Live, smaller, Valid, groupOf, Covers, Near, call-answers}
 use Rattle.model.specs.declared.Table.{Table}
 use Rattle.model.specs.Keys.{hash, bucketOf}
 use Rattle.model.specs.Limits.{largestExponent, legalSize}
@@ -65,7 +65,8 @@ tells-in-group i cursor key =
 -- ---- the laws
 
 -- Of tables by the exponents of their sizes, as the laws of the cursor have them: the smaller size, the cursor answered, and
--- the places of a group: live buckets, none twice, among them that of each key which the group covers.
+-- the places of a group: live buckets, none twice, among them that of each key which the group covers, and only of keys that
+-- are in the cursor's bucket of the smaller table.
 pub record GroupLaws (t : Tables) : Type 0 where
   pub live : Live
   pub valid : Valid live
@@ -73,6 +74,8 @@ pub record GroupLaws (t : Tables) : Type 0 where
   pub answers : (cursor : ℕ) → group t cursor .answered ≡ groupOf live cursor .answered
   pub covers : (cursor key : ℕ) → Covers live cursor key → (unmoved : List ℕ)
       → In (placeIn t unmoved key) (groupPlaces t cursor)
+  pub near : (cursor key : ℕ) (unmoved : List ℕ) → In (placeIn t unmoved key) (groupPlaces t cursor)
+      → Near live cursor key
   pub buckets : (cursor : ℕ) → Buckets (sizes t) (groupPlaces t cursor)
 
 one-laws : (b : ℕ) → b ≤ 32 → GroupLaws (Tables.one (2 ^ b))
@@ -84,6 +87,7 @@ one-laws b fits =
       smaller-size = refl;
       answers = λ cursor. refl;
       covers = λ cursor key same unmoved. inl (ap (Place.bucket Table.Old) same);
+      near = λ cursor key unmoved i. ⊎-elim (λ e. cc) (λ j. absurd j) i;
       buckets =
           λ cursor.
           record {
@@ -169,6 +173,30 @@ module _ (b c : ℕ) (less : b < c) (fits : c ≤ 32) where
     two-covers key (small, some) Table.New Table.New = inl (ap (Place.bucket Table.New) small)
     two-covers key (small, some) Table.New Table.Old = inr (in-map (Place.bucket Table.Old) (key % 2 ^ c) large some)
 
+    -- in the smaller table or in the larger one, a key of the group is in the smaller bucket
+    near-small : (key : ℕ) (t : Table) → In (Place.bucket t (key % 2 ^ b)) (places t) → Near (Live.two b c) cursor key
+    unfolding smallFirst twoTables
+    near-small key t (inl e) = cc
+    near-small key t (inr i) =
+        let (n, j, e) = of-map (Place.bucket (opposite t)) _ large i in absurd (apart t _ n e)
+
+    near-large : (key : ℕ) (t : Table) → In (Place.bucket (opposite t) (key % 2 ^ c)) (places t)
+        → Near (Live.two b c) cursor key
+    unfolding smallFirst twoTables
+    near-large key t (inl e) = absurd (apart t _ _ (sym e))
+    near-large key t (inr i) =
+        let (n, j, e) = of-map (Place.bucket (opposite t)) _ large i in
+        let same : n ≡ key % 2 ^ c = cc in
+        swept .only key (rw same at j) .0
+
+    two-near : (key : ℕ) (t u : Table) → In (Place.bucket u (bucketOf key (sizeIn (tables t) u))) (places t)
+        → Near (Live.two b c) cursor key
+    unfolding bucketOf hash ranked sizeIn oldNew opposite
+    two-near key Table.Old Table.Old i = near-small key Table.Old i
+    two-near key Table.Old Table.New i = near-large key Table.Old i
+    two-near key Table.New Table.New i = near-small key Table.New i
+    two-near key Table.New Table.Old i = near-large key Table.New i
+
   two-laws : (t : Table) → GroupLaws (tables t)
   unfolding placeIn
   two-laws t =
@@ -180,6 +208,7 @@ module _ (b c : ℕ) (less : b < c) (fits : c ≤ 32) where
         smaller-size = sym (ranked-smaller (2 ^ b) (2 ^ c) l t);
         answers = λ cursor. rw (ranked-group (2 ^ b) (2 ^ c) l t cursor);
         covers = λ cursor key h unmoved. rw (order cursor) (two-covers cursor key h t _);
+        near = λ cursor key unmoved i. two-near cursor key t _ (rw (order cursor) at i);
         buckets = λ cursor. rw (order cursor) (two-buckets cursor t);
       }
 

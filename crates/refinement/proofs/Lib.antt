@@ -24,6 +24,7 @@ pub mod BucketEntries
 pub mod GroupEntries
 pub mod WalkCalls
 pub mod Contents
+pub mod Trails
 pub mod Walks
 -- sequences, and demands 2 and 3
 pub mod Histories

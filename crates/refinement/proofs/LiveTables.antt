@@ -59,7 +59,7 @@ module _ (s : State) (current other entries : ℕ) (h : Sound s current other en
 
 -- Of the ideal: after a start, and after any call.
 
-start-legal : (l : Lengths) (capacity size : ℕ) → startNumber l capacity size ≡ 0 → legalSize size ≡ true
+pub start-legal : (l : Lengths) (capacity size : ℕ) → startNumber l capacity size ≡ 0 → legalSize size ≡ true
 unfolding startNumber
 start-legal l capacity size =
     by (legalCapacity capacity) (legalSize size) (cond (longEnough capacity size (l .first) (l .entries)) 0 1)

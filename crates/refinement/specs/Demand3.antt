@@ -4,9 +4,7 @@
 use Prim.Native.Nat.{ℕ, zero, suc, _*_, _≤_, _<_, max, min}
 use mathlib.Core.Path.{_≡_}
 use mathlib.Core.Bool.{Bool, true, false, _&&_, cond, not}
-use mathlib.Core.List.{List, [], _∷_}
-use mathlib.Core.Logic.{_⊎_}
-use mathlib.Core.Option.{some}
+use mathlib.Core.List.{List, [], _∷_, _++_}
 use lib.ListN.{length, take, drop, getD}
 use lib.Dec.{leb, eqb}
 use Rattle.cursor.specs.Member.{In, Distinct, any, keep}
@@ -18,7 +16,7 @@ use Rattle.model.specs.Memory.{Place}
 use Rattle.model.specs.Answers.{Reply, reply}
 use Rattle.model.specs.Calls.{longEnough, acceptable, suggested, oldNew}
 use Rattle.model.specs.Walk.{Tables, tablesOf, smallerOf, groupPlaces}
-use Rattle.model.specs.Sequences.{World, ReadCall, Call, Outcome, carry, run, Event, events, Pair, PlainMap, keysOf, valueFor, mapDoes}
+use Rattle.model.specs.Sequences.{World, ReadCall, Call, Outcome, carry, run, Event, events, Pair, PlainMap, keysOf, mapDoes}
 use Rattle.refinement.specs.Worlds.{current, UndamagedAt, Held, Holds}
 use Rattle.refinement.specs.Demand2.{nextCursor, HandsOut}
 
@@ -178,11 +176,23 @@ Answered l i [] = Unit {0}
 Answered l i (e ∷ es) = AsPredicted l i e × Answered l (predict l i (e .call) .state) es
 
 -- Walks. A walk is some of the walk calls: the first is given cursor 0, each further one the cursor that its last answered
--- call answered, and the first 0 answered ends it. Its visits are its answered calls, with the ideal before each.
+-- call answered, and the first 0 answered ends it. Its visits are its answered calls.
 
+-- the cursor given, the size of the smaller live table, the keys that the map has then, and those that are handed out
 pub record Visit : Type 0 where
-  pub before : Ideal
-  pub at : Event
+  pub cursor : ℕ
+  pub size : ℕ
+  pub held : List ℕ
+  pub handed : List ℕ
+
+unfoldable pub visit : ℕ → Ideal → Event → Visit
+visit cursor i e =
+    record {
+      cursor = cursor;
+      size = smallerOf (i .tables);
+      held = keysOf (i .plain .pairs);
+      handed = keysOf (handedOut e);
+    }
 
 pub data Walk (l : Lengths) : ℕ → Ideal → List Event → List Visit → Bool → Type 0 where
   over : {due : ℕ} {i : Ideal} {es : List Event} → Walk l due i es [] false
@@ -191,30 +201,31 @@ pub data Walk (l : Lengths) : ℕ → Ideal → List Event → List Visit → Bo
   onward : {due : ℕ} {i : Ideal} {e : Event} {es : List Event} {visits : List Visit} {ended : Bool} (lent : List ℕ)
       → e .call ≡ Call.scan due lent → e .number ≡ 0 → (getD (e .values) 0 0 ≡ 0 → ⊥)
       → Walk l (getD (e .values) 0 0) (predict l i (e .call) .state) es visits ended
-      → Walk l due i (e ∷ es) (record { before = i; at = e } ∷ visits) ended
+      → Walk l due i (e ∷ es) (visit due i e ∷ visits) ended
   last : {due : ℕ} {i : Ideal} {e : Event} {es : List Event} (lent : List ℕ)
       → e .call ≡ Call.scan due lent → e .number ≡ 0 → getD (e .values) 0 0 ≡ 0
-      → Walk l due i (e ∷ es) (record { before = i; at = e } ∷ []) true
+      → Walk l due i (e ∷ es) (visit due i e ∷ []) true
 
 -- the largest size that the smaller live table had at any visit
 unfoldable pub largest : List Visit → ℕ
 largest [] = 0
-largest (v ∷ vs) = max (smallerOf (v .before .tables)) (largest vs)
+largest (v ∷ vs) = max (v .size) (largest vs)
 
 unfoldable pub HeldAtEach : ℕ → List Visit → Type 0
 HeldAtEach key [] = Unit {0}
-HeldAtEach key (v ∷ vs) = ((value : ℕ) × (valueFor key (v .before .plain .pairs) ≡ some value)) × HeldAtEach key vs
+HeldAtEach key (v ∷ vs) = In key (v .held) × HeldAtEach key vs
 
-unfoldable pub HandedOutAtSome : ℕ → List Visit → Type 0
-HandedOutAtSome key [] = ⊥
-HandedOutAtSome key (v ∷ vs) = In key (keysOf (handedOut (v .at))) ⊎ HandedOutAtSome key vs
+-- all that the visits hand out, one after the other
+unfoldable pub keysHanded : List Visit → List ℕ
+keysHanded [] = []
+keysHanded (v ∷ vs) = v .handed ++ keysHanded vs
 
 -- at most as many answered calls as that largest size, fewer while it has not ended; and once it has ended, every key held
 -- at each of them has been handed out
 pub record WalkHolds (visits : List Visit) (ended : Bool) : Type 0 where
   pub bound : ended ≡ true → length visits ≤ largest visits
   pub bound-so-far : ended ≡ false → 0 < length visits → length visits < largest visits
-  pub covers : ended ≡ true → (key : ℕ) → HeldAtEach key visits → HandedOutAtSome key visits
+  pub covers : ended ≡ true → (key : ℕ) → HeldAtEach key visits → In key (keysHanded visits)
 
 -- The store has what the ideal has: the pairs, the live tables, the current buffer, the next bucket to move, and each key in
 -- the table that the ideal says; and the buffers are as long as they were.

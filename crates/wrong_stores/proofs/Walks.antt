@@ -15,7 +15,7 @@ use Rattle.wrong_stores.specs.Walks.{allThenEnd, allThenNone, handsEithe
 use Rattle.wrong_stores.proofs.Start.{computing, room, add, at, apart, differ, neither, no-look}
 
 -- all that an answered walk call of specs/Walks computes with
-unfoldable handing : Unit {0}
+unfoldable pub handing : Unit {0}
 unfolding computing wrong.entriesUpTo wrong.entriesOf wrong.allEntries wrong.handing wrong.handingOut
 handing = tt
 
@@ -92,10 +92,9 @@ backwards-excluded d =
 pub upwards-excluded : Demand3 upwards → ⊥
 unfolding handing upwards wrong.inRehash wrong.byGroup wrong.upwardsFrom
 upwards-excluded d =
-    neither (λ h. h) (neither (λ h. h) (λ h. h))
-    (at d 4 refl (add 1 10 ∷ Call.scan 0 room ∷ Call.resize 1 ∷ Call.scan 2 room ∷ []) .walks _ true
+    at d 4 refl (add 1 10 ∷ Call.scan 0 room ∷ Call.resize 1 ∷ Call.scan 2 room ∷ []) .walks _ true
     (other (onward room refl refl (eqb-false 2 0 refl) (other (last room refl refl refl))))
-    .covers refl 1 ((10, refl), ((10, refl), tt)))
+    .covers refl 1 (inl refl, (inl refl, tt))
 
 -- `walks`, `bound`: two calls at a smaller size of 1, and ended; ..
 pub nextOfLarger-excluded : Demand3 nextOfLarger → ⊥

@@ -26,8 +26,11 @@ pub mod WalkCalls
 pub mod Contents
 pub mod Trails
 pub mod Walks
--- sequences, and demands 2 and 3
+pub mod Counts
+pub mod HandOuts
+-- sequences, demands 2 and 3, and what follows from demand 3
 pub mod Histories
 pub mod Demand2
 pub mod Demand3
+pub mod ExactlyOnce
 pub mod Tally

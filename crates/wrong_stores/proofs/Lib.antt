@@ -3,6 +3,7 @@ pub mod Start
 pub mod Starts
 pub mod KeyCalls
 pub mod Walks
+pub mod HandOuts
 pub mod Rehashes
 pub mod ReadCalls
 pub mod Refusals

@@ -3,7 +3,7 @@
 -- Assumes nothing.
 use Prim.Native.Nat.{ℕ, zero, suc, _<_}
 use mathlib.Core.Path.{_≡_, refl, sym, _∙_, ap}
-use mathlib.Core.Bool.{false}
+use mathlib.Core.Bool.{Bool, false}
 use mathlib.Core.Logic.{_⊎_, inl, inr}
 use mathlib.Core.List.{List}
 use lib.ListN.{replicate, getD}
@@ -24,13 +24,15 @@ use Rattle.model.specs.Answers as answers
 use Rattle.model.specs.Calls as calls
 use Rattle.model.specs.Walk as walk
 use Rattle.model.specs.Sequences as sequences
-use Rattle.model.specs.Sequences.{World, KeyCall, ReadCall, Call, Outcome, carry}
+use Rattle.model.specs.Sequences.{World, KeyCall, ReadCall, Call, Outcome, carry, events}
 use Rattle.refinement.specs.Worlds as worlds
 use Rattle.refinement.specs.Worlds.{current, other, Held}
 use Rattle.refinement.specs.Demand1 as demand1
 use Rattle.refinement.specs.Demand2 as demand2
 use Rattle.refinement.specs.Demand3 as demand3
-use Rattle.refinement.specs.Demand3.{Demand3, SequenceHolds, lengthsOf, begun, startNumber}
+use Rattle.refinement.specs.Demand3.{Demand3, SequenceHolds, lengthsOf, begun, startNumber, Visit, Walk}
+use Rattle.refinement.specs.ExactlyOnce as once
+use Rattle.refinement.specs.ExactlyOnce.{ExactlyOnce, HandOuts}
 use Rattle.wrong_stores.specs.OneCall as one
 use Rattle.wrong_stores.specs.OneCall.{byCall, byReadCall}
 
@@ -92,7 +94,7 @@ theHistories = tt
 
 -- the demands, and what they say of a world
 unfoldable pub theStatements : Unit {0}
-unfolding worlds.current worlds.other worlds.UndamagedAt demand1.BadState demand1.nth demand1.headOf demand1.ChainAt demand1.SoundChain demand1.Damaged demand1.liveTables demand1.keyPlaces demand1.OnChain demand1.KeyHeld demand1.Full demand1.FreeListDamaged demand1.EmptyFrom demand1.StepDamaged demand1.places demand1.KeysOn demand1.GroupDamaged demand1.Short demand1.row demand1.keyRows demand1.rows demand1.Decides demand1.Leaves demand1.keyZeros demand1.LeavesAll demand2.groupEntries demand2.nextCursor demand2.HandsOut demand3.lengthsOf demand3.ideal demand3.begun demand3.among demand3.tableOf demand3.sizeIn demand3.startNumber demand3.startAnswer demand3.keyAnswer demand3.resizeAnswer demand3.lowest demand3.stepAnswer demand3.isBucket demand3.inGroup demand3.groupPairs demand3.scanAnswer demand3.readAnswer demand3.predict demand3.replay demand3.pairsIn demand3.handedOut demand3.visit demand3.Answered demand3.largest demand3.HeldAtEach demand3.keysHanded
+unfolding worlds.current worlds.other worlds.UndamagedAt demand1.BadState demand1.nth demand1.headOf demand1.ChainAt demand1.SoundChain demand1.Damaged demand1.liveTables demand1.keyPlaces demand1.OnChain demand1.KeyHeld demand1.Full demand1.FreeListDamaged demand1.EmptyFrom demand1.StepDamaged demand1.places demand1.KeysOn demand1.GroupDamaged demand1.Short demand1.row demand1.keyRows demand1.rows demand1.Decides demand1.Leaves demand1.keyZeros demand1.LeavesAll demand2.groupEntries demand2.nextCursor demand2.HandsOut demand3.lengthsOf demand3.ideal demand3.begun demand3.among demand3.tableOf demand3.sizeIn demand3.startNumber demand3.startAnswer demand3.keyAnswer demand3.resizeAnswer demand3.lowest demand3.stepAnswer demand3.isBucket demand3.inGroup demand3.groupPairs demand3.scanAnswer demand3.readAnswer demand3.predict demand3.replay demand3.pairsIn demand3.handedOut demand3.visit demand3.Answered demand3.largest demand3.HeldAtEach demand3.keysHanded once.times once.NotShrinking once.shrinks once.least
 theStatements = tt
 
 unfoldable pub computing : Unit {0}
@@ -104,6 +106,13 @@ pub at : {does : World → Call → Outcome} → Demand3 does → (size : ℕ) �
     → (calls : List Call) → SequenceHolds does (lengthsOf zeros) (started does size) (begun 3 size) calls
 unfolding zeros started
 at d size fits calls = d .sequence zeros 3 size (d .begins zeros 3 size ∙ fits) calls
+
+-- and so for a walk of that history
+pub walk-at : {does : World → Call → Outcome} → ExactlyOnce does → (size : ℕ) → does zeros (Call.init 3 size) .reply .number ≡ 0
+    → (calls : List Call) {visits : List Visit} {ended : Bool}
+    → Walk (lengthsOf zeros) 0 (begun 3 size) (events does (started does size) calls) visits ended → HandOuts visits ended
+unfolding started
+walk-at d size answered calls {visits} {ended} w = d .walks zeros 3 size answered calls visits ended w
 
 -- Two things that some number tells apart; two lists, by the number at a place.
 

@@ -1,22 +1,22 @@
 -- Wrong stores by an answered walk call.
-use Prim.Native.Nat.{ℕ, zero, suc, _+_, _*_, _/_, _%_}
+use Prim.Native.Nat.{ℕ, zero, suc, _+_, _-_, _*_, _/_, _%_, max}
 use mathlib.Core.Bool.{Bool, true, false, _||_, cond}
 use mathlib.Core.List.{List, [], _∷_, _++_, reverse}
 use mathlib.Core.Option.{some}
-use lib.ListN.{getD, set}
-use lib.Dec.{ltb}
+use lib.ListN.{length, getD, set}
+use lib.Dec.{ltb, leb, eqb}
 use Rattle.cursor.specs.Member.{any, keep}
 use Rattle.cursor.specs.Next.{next}
-use Rattle.cursor.specs.Group.{Group, betweenZero}
+use Rattle.cursor.specs.Group.{Group, betweenZero, twoTables}
 use Rattle.model.specs.declared.Table.{Table}
 use Rattle.model.specs.Keys.{bucketOf}
-use Rattle.model.specs.Memory.{keyOf, sizeOf, Place, entriesAt}
+use Rattle.model.specs.Memory.{keyOf, sizeOf, keysHeld, Place, entriesAt}
 use Rattle.model.specs.Walk.{tablesOf, smallFirst, groupPlaces, chainsAt, scanned}
 use Rattle.model.specs.Sequences.{World, Call, Outcome, keptScan, perform}
 use Rattle.refinement.specs.Worlds.{current, other}
 use Rattle.refinement.specs.Demand2.{groupEntries}
 use Rattle.refinement.specs.Demand3.{isBucket}
-use Rattle.wrong_stores.specs.OneCall.{Change, butScan, ifDone, answering, listing}
+use Rattle.wrong_stores.specs.OneCall.{Change, butScan, ifDone, answering, listing, leaving}
 
 -- Other entries than those of the group.
 
@@ -149,6 +149,50 @@ nextOfLarger =
     butScan
     (inRehash
     (λ small large cursor. record { small = cursor % small; large = cursor % large ∷ []; answered = next large cursor }))
+
+-- a group whose first bucket of the larger table stands twice
+unfoldable pub headTwice : List ℕ → List ℕ
+headTwice [] = []
+headTwice (b ∷ bs) = b ∷ b ∷ bs
+
+unfoldable pub handsLargerTwice : World → Call → Outcome
+handsLargerTwice =
+    butScan
+    (inRehash
+    (λ small large cursor.
+    let g = twoTables small large cursor in
+    record { small = g .small; large = headTwice (g .large); answered = g .answered }))
+
+-- with one table and with two, the cursor made from the one given and the one that ours answers
+unfoldable pub answeringNext : (World → ℕ → ℕ → ℕ) → World → Call → Outcome
+answeringNext choose =
+    butScan
+    (λ cursor lent w o.
+    ifDone (answering (choose w cursor (getD (o .reply .values) 0 0) ∷ getD (o .reply .values) 1 0 ∷ []) o) o)
+
+-- Starts over in the middle of the line, where the next cursor is 1: it goes back to bucket 0 by a cursor with a bit above the
+-- table's, which it keeps from there to the end.
+unfoldable pub overAgain : ℕ → ℕ → ℕ → ℕ
+overAgain size cursor next = cond (ltb cursor size) (cond (eqb next 1) size next) (cond (eqb next 0) 0 (size + next))
+
+unfoldable pub startsOver : World → Call → Outcome
+startsOver = answeringNext (λ w cursor next. overAgain (w .state .«old_size») cursor next)
+
+-- never ends: answers 1 in place of 0
+unfoldable pub neverEnds : World → Call → Outcome
+neverEnds = answeringNext (λ w cursor next. max 1 next)
+
+-- Passes over what is added while a walk goes on: at cursor 0 it notes the number of keys held, in the last place of the second
+-- bucket buffer, and then hands out no entry with a higher number. Entries are taken in order, if none was freed.
+unfoldable pub passingOver : ℕ → List ℕ → Change
+passingOver zero lent w o =
+    leaving (o .first) (set (o .second) (length (o .second) - 1) (keysHeld (w .state))) (o .entries) o
+passingOver (suc c) lent w o =
+    let noted = getD (w .second) (length (w .second) - 1) 0 in
+    handing w (getD (o .reply .values) 0 0) lent (keep (λ n. leb n noted) (groupEntries w (suc c)))
+
+unfoldable pub passesOver : World → Call → Outcome
+passesOver = butScan (λ cursor lent w o. ifDone (passingOver cursor lent w o) o)
 
 -- skips empty buckets: goes on, at most so many times, while nothing is handed out and the walk has not ended
 unfoldable pub skipping : ℕ → World → List ℕ → Outcome → Outcome

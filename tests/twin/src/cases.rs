@@ -24,6 +24,7 @@ pub enum Answer {
 
 pub fn all() -> Vec<Case> {
     let mut cases = specified();
+    cases.extend(walks());
     cases.extend(states());
     cases.extend(bad_and_odd_lines());
     cases.extend(whole_scripts());
@@ -237,6 +238,90 @@ fn specified() -> Vec<Case> {
             ],
         ),
     ]
+}
+
+/// How often a walk hands out a key when the table changes its size between
+/// two of the walk's calls.
+fn walks() -> Vec<Case> {
+    vec![
+        dialogue(
+            "shrunk from 4 to 2 to 1: a key comes three times",
+            &[
+                ("N 4 4", "0"),
+                ("A 0 7", "0"),
+                ("C 0", "0 2 1 0 7"),
+                ("R 2", "0"),
+                ("S", "0 1 1"),
+                ("S", "0 0 0"),
+                ("C 2", "0 1 1 0 7"),
+                ("R 1", "0"),
+                ("S", "0 1 1"),
+                ("S", "0 0 0"),
+                ("C 1", "0 0 1 0 7"),
+            ],
+        ),
+        behind_the_seventh_call(
+            "grown from 8 to 16 behind the seventh call: no key comes twice",
+            &[
+                ("R 16", "0"),
+                ("S", "0 2 1"),
+                ("S", "0 2 1"),
+                ("S", "0 0 0"),
+                ("C 7", "0 15 1 7 70"),
+                ("C 15", "0 0 1 15 150"),
+            ],
+        ),
+        behind_the_seventh_call(
+            "growing from 8 to 16 behind the seventh call: no key comes twice",
+            &[("R 16", "0"), ("S", "0 2 1"), ("C 7", "0 0 2 15 150 7 70")],
+        ),
+        behind_the_seventh_call(
+            "grown from 8 to 16 behind the eighth call: the walk has ended",
+            &[
+                ("C 7", "0 0 2 15 150 7 70"),
+                ("R 16", "0"),
+                ("S", "0 2 1"),
+                ("S", "0 2 1"),
+                ("S", "0 0 0"),
+            ],
+        ),
+        dialogue(
+            "keys added ahead of a walk come, and one behind it does not",
+            &[
+                ("N 8 4", "0"),
+                ("A 0 10", "0"),
+                ("C 0", "0 2 1 0 10"),
+                ("A 2 20", "0"),
+                ("A 4 40", "0"),
+                ("C 2", "0 1 1 2 20"),
+                ("A 1 11", "0"),
+                ("D 0", "0"),
+                ("A 0 11", "0"),
+                ("C 1", "0 3 1 1 11"),
+                ("A 7 70", "0"),
+                ("C 3", "0 0 1 7 70"),
+            ],
+        ),
+    ]
+}
+
+/// A walk of size 8 that is due at 7, and the lines that follow.
+fn behind_the_seventh_call(name: &str, rest: &[(&str, &str)]) -> Case {
+    let walk = [
+        ("N 8 8", "0"),
+        ("A 3 30", "0"),
+        ("A 11 110", "0"),
+        ("A 7 70", "0"),
+        ("A 15 150", "0"),
+        ("C 0", "0 4 0"),
+        ("C 4", "0 2 0"),
+        ("C 2", "0 6 0"),
+        ("C 6", "0 1 0"),
+        ("C 1", "0 5 0"),
+        ("C 5", "0 3 0"),
+        ("C 3", "0 7 2 11 110 3 30"),
+    ];
+    dialogue(name, &[&walk, rest].concat())
 }
 
 /// Calls in every state of the store: none, resting, moving, renewed.

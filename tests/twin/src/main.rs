@@ -3,7 +3,7 @@
 //! It runs the program under test on fixed and on random scripts, each script
 //! in a process of its own, and compares every byte of the output with the
 //! answer of its own model. The model in turn is watched from outside by the
-//! walk's promise and the plain map.
+//! walk's promises and the plain map.
 //!
 //! ```text
 //! cargo run --release -- PATH-TO-PROGRAM [SEED] [COUNT]
@@ -95,21 +95,25 @@ impl Plan {
     fn run(&self) -> Result<(), String> {
         println!("twin: seed {}, {} random scripts", self.seed, self.count);
         let mut scripts = 0;
-        let mut ended = 0;
-        let mut resized = 0;
+        let mut sum = Tally::default();
         let random = (0..self.count).map(|number| {
             let script = random::script(random::script_seed(self.seed, number));
             cases::modelled(&format!("random script {number}"), script)
         });
         for case in cases::all().into_iter().chain(random) {
-            let tally = self
+            sum += self
                 .check(&case)
                 .map_err(|failure| self.report(&case, failure))?;
             scripts += 1;
-            ended += tally.ended;
-            resized += tally.resized;
         }
-        println!("twin: {ended} walks kept their promise, {resized} of them through a resize");
+        println!(
+            "twin: {} walks kept their promises, {} of them through a resize, {} as a table shrank",
+            sum.ended, sum.resized, sum.shrunk
+        );
+        println!(
+            "twin: {} keys came more than once as a table shrank, {} were added ahead of a walk",
+            sum.repeated, sum.late
+        );
         println!("twin: {scripts} scripts agree, seed {}", self.seed);
         Ok(())
     }

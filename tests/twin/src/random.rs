@@ -378,7 +378,7 @@ impl Generator {
 mod tests {
     use super::*;
     use crate::program::replies;
-    use crate::walk::Witness;
+    use crate::walk::{Tally, Witness};
     use std::collections::BTreeMap;
 
     #[test]
@@ -390,12 +390,12 @@ mod tests {
     }
 
     /// Lazy scripts would agree with any program: every answer that a script
-    /// can bring about has to come up often, and so do walks through resizes.
+    /// can bring about has to come up often, and so do walks through resizes,
+    /// with keys that come again as a table shrinks or are added ahead.
     #[test]
     fn scripts_reach_every_answer() {
         let mut answers: BTreeMap<u32, usize> = BTreeMap::new();
-        let mut ended = 0;
-        let mut resized = 0;
+        let mut sum = Tally::default();
         let mut longest = 0;
         for number in 0..300 {
             let script = script(script_seed(1, number));
@@ -406,15 +406,16 @@ mod tests {
                 let answer = exchange.reply.map_or_else(|refusal| refusal as u32, |_| 0);
                 *answers.entry(answer).or_default() += 1;
             }
-            ended += witness.tally().ended;
-            resized += witness.tally().resized;
+            sum += witness.tally();
         }
         assert_eq!(
             answers.keys().copied().collect::<Vec<_>>(),
             [0, 1, 3, 4, 5, 6, 7, 8, 10]
         );
         assert!(answers.values().all(|&count| count > 200), "{answers:?}");
-        assert!(ended > 1000 && resized > 300, "{ended}, {resized}");
+        assert!(sum.ended > 1000 && sum.resized > 300, "{sum:?}");
+        assert!(sum.shrunk > 300 && sum.repeated > 300, "{sum:?}");
+        assert!(sum.late > 1000, "{sum:?}");
         assert!(longest <= MAX_SCRIPT && longest > 20_000, "{longest}");
     }
 }

@@ -1,6 +1,7 @@
 //! A witness that follows a run from outside, knowing only the commands and
 //! their replies, and says when a promise of the request is broken: demand 3,
-//! and of each walk call demand 2.
+//! how often a walk hands out a key and which of the keys that come while it
+//! goes on, and of each walk call demand 2.
 //!
 //! It has nothing in common with the store. The limits and the numbers of the
 //! answers stand here once more, from the specification; the plain map, the live sizes
@@ -11,6 +12,7 @@
 use crate::line::{self, number_at, part, place};
 use crate::program::{Command, Exchange, Reply};
 use std::collections::BTreeMap;
+use std::ops::AddAssign;
 
 /// The numbers of the answers.
 const DONE: u32 = 0;
@@ -59,26 +61,60 @@ struct Held {
     in_new: bool,
 }
 
+/// The sizes that the smaller live table had at the calls of a walk.
+struct Sizes {
+    last: u32,
+    largest: u32,
+    least: u32,
+    /// At how many calls it was smaller than at the call before.
+    shrinks: u32,
+}
+
 /// A walk that began at cursor 0 and was handed each cursor it was answered.
 struct Walk {
     /// The cursor that its next call is to be given.
     due: u32,
     calls: u32,
-    /// The largest size that the smaller live table had at any of its calls.
-    bound: u32,
-    /// The places of the keys held at each call so far and not handed out yet.
+    sizes: Sizes,
+    /// The places of the keys handed out so far, sorted. A key that came more
+    /// than once stands there as often.
+    handed: Vec<u64>,
+    /// The places of the keys that are still to be handed out, sorted: from one
+    /// of its calls on, whose cursor the key was not behind, it was held at
+    /// each call and handed out by none.
     owed: Vec<u64>,
+    /// How many of the adds the walk has looked through.
+    heard: usize,
+    /// How many keys came to be owed after its first call.
+    late: usize,
     /// The tables of its first call, and whether a later call saw others.
     first: Live,
     resized: bool,
 }
 
-/// How many walks were seen through to their end.
+/// How many walks were seen through to their end, and what they met.
 #[derive(Clone, Copy, Debug, Default)]
 pub struct Tally {
     pub ended: usize,
     /// Those of them whose calls did not all see the same tables.
     pub resized: usize,
+    /// Those with a call at which the smaller live table was smaller than at
+    /// the call before.
+    pub shrunk: usize,
+    /// How many keys these handed out twice or more.
+    pub repeated: usize,
+    /// How many keys were added ahead of a walk, and owed from then on.
+    pub late: usize,
+}
+
+impl AddAssign for Tally {
+    fn add_assign(&mut self, other: Tally) {
+        self.ended += other.ended;
+        self.resized += other.resized;
+        self.shrunk += other.shrunk;
+        self.repeated += other.repeated;
+        self.late += other.late;
+    }
 }
 
 #[derive(Default)]
@@ -86,6 +122,8 @@ pub struct Witness {
     capacity: u32,
     /// The plain map, in the order of the keys' places on the line.
     held: BTreeMap<u64, Held>,
+    /// The places of all keys added so far, in the order of the adds.
+    added: Vec<u64>,
     /// `None` before the first start that was answered.
     live: Option<Live>,
     walks: Vec<Walk>,
@@ -155,6 +193,7 @@ impl Witness {
         }
         let in_new = live.new.is_some();
         self.held.insert(place(key), Held { key, value, in_new });
+        self.added.push(place(key));
         expect(reply, DONE, &[])
     }
 
@@ -280,36 +319,122 @@ impl Witness {
         handed: &[u64],
     ) -> Result<(), String> {
         if cursor == 0 && self.walks.len() < MAX_WALKS {
-            self.walks.push(Walk {
-                due: 0,
-                calls: 0,
-                bound: 0,
-                owed: self.held.keys().copied().collect(),
-                first: live,
-                resized: false,
-            });
+            // No key is behind cursor 0.
+            let owed = self.held.keys().copied().collect();
+            self.walks.push(Walk::begin(live, owed, self.added.len()));
         }
         for walk in self.walks.iter_mut().filter(|walk| walk.due == cursor) {
             walk.due = next;
             walk.calls += 1;
-            walk.bound = walk.bound.max(live.smaller());
             walk.resized |= walk.first != live;
-            let held = &self.held;
-            walk.owed
-                .retain(|place| handed.binary_search(place).is_err() && held.contains_key(place));
+            walk.sizes.meet(live.smaller());
+            walk.owe(place(cursor), &self.held, &self.added);
+            walk.settle(handed, &self.held);
+            walk.count(handed)?;
             walk.check()?;
         }
         // No walk that goes on is due at 0.
         for ended in self.walks.iter().filter(|walk| walk.due == 0) {
-            self.tally.ended += 1;
-            self.tally.resized += usize::from(ended.resized);
+            self.tally += ended.tally();
         }
         self.walks.retain(|walk| walk.due != 0);
         Ok(())
     }
 }
 
+impl Sizes {
+    /// Those of a walk whose first call is to see this one.
+    fn begin(size: u32) -> Self {
+        Sizes {
+            last: size,
+            largest: size,
+            least: size,
+            shrinks: 0,
+        }
+    }
+
+    fn meet(&mut self, size: u32) {
+        self.shrinks += u32::from(size < self.last);
+        self.last = size;
+        self.largest = self.largest.max(size);
+        self.least = self.least.min(size);
+    }
+
+    /// How often a walk may have handed out a key. Two promises bound it: once
+    /// and once more for each call that shrank, and once and once more for each
+    /// halving that leads from the largest size to the least. A third, at most
+    /// once where no call shrank, is a case of the first.
+    fn most(&self) -> usize {
+        let halvings = self.largest.ilog2() - self.least.ilog2();
+        1 + self.shrinks.min(halvings) as usize
+    }
+}
+
 impl Walk {
+    /// A walk whose first call is to see these tables.
+    fn begin(first: Live, owed: Vec<u64>, heard: usize) -> Self {
+        Walk {
+            due: 0,
+            calls: 0,
+            sizes: Sizes::begin(first.smaller()),
+            handed: Vec::new(),
+            owed,
+            heard,
+            late: 0,
+            first,
+            resized: false,
+        }
+    }
+
+    /// The walk owes each held key that is not behind the cursor of its call.
+    ///
+    /// Only the keys added since its last call are looked at. The calls before
+    /// this one have passed `check_group`: none went back along the line, and
+    /// none handed out a key from its next cursor on. So a key that is ahead
+    /// now, and was held at the last call, was ahead then and is owed already.
+    fn owe(&mut self, cursor: u64, held: &BTreeMap<u64, Held>, added: &[u64]) {
+        let is_due = |place: &&u64| cursor <= **place && held.contains_key(place);
+        for place in added[self.heard..].iter().filter(is_due) {
+            if let Err(spot) = self.owed.binary_search(place) {
+                self.owed.insert(spot, *place);
+                self.late += 1;
+            }
+        }
+        self.heard = added.len();
+    }
+
+    /// A key that the call hands out, or that is not held at it, is owed no more.
+    fn settle(&mut self, handed: &[u64], held: &BTreeMap<u64, Held>) {
+        self.owed
+            .retain(|place| handed.binary_search(place).is_err() && held.contains_key(place));
+    }
+
+    /// Counts the call's keys, and looks that none has come too often.
+    fn count(&mut self, handed: &[u64]) -> Result<(), String> {
+        let Some(first) = handed.first() else {
+            return Ok(());
+        };
+        // The walk goes along the line. So few of the keys handed out before
+        // lie further on than this call's first, and only there one can have
+        // come again. The bound never falls: the others need no second look.
+        let from = self.handed.partition_point(|place| place < first);
+        self.handed.extend(handed);
+        let end = &mut self.handed[from..];
+        end.sort();
+        let most = self.sizes.most();
+        if let Some(same) = end.windows(most + 1).find(|keys| keys[0] == keys[most]) {
+            let (key, times) = (number_at(same[0]), same.len());
+            return Err(format!(
+                "key {key} comes {times} times or more in a walk, with {most} as its bound"
+            ));
+        }
+        Ok(())
+    }
+
+    /// That nothing is owed at the end is the promise of the keys held at each
+    /// call, and that of the keys that come later. With what `count` looks at,
+    /// it is also "exactly once": a key held at each call has come, and where
+    /// no call shrank it has not come twice.
     fn check(&self) -> Result<(), String> {
         let ended = self.due == 0;
         if ended && !self.owed.is_empty() {
@@ -318,13 +443,25 @@ impl Walk {
         }
         // A walk that goes on needs one more call at least.
         let least = if ended { self.calls } else { self.calls + 1 };
-        if least > self.bound {
+        let bound = self.sizes.largest;
+        if least > bound {
             return Err(format!(
-                "a walk needs {least} calls or more, with {} as its bound",
-                self.bound
+                "a walk needs {least} calls or more, with {bound} as its bound"
             ));
         }
         Ok(())
+    }
+
+    /// What the walk counts for once it has ended.
+    fn tally(&self) -> Tally {
+        let keys = self.handed.chunk_by(|place, next| place == next);
+        Tally {
+            ended: 1,
+            resized: usize::from(self.resized),
+            shrunk: usize::from(self.sizes.shrinks > 0),
+            repeated: keys.filter(|times| times.len() > 1).count(),
+            late: self.late,
+        }
     }
 }
 
@@ -382,14 +519,48 @@ mod tests {
         }
     }
 
-    #[test]
-    fn the_model_keeps_its_promises() {
-        let script = "N 8 4\nA 1 10\nA 6 60\nC 0\nR 8\nC 2\nS\nC 1\nS\nS\nC 3\nC 7\n";
+    /// The witness of a script that the model answers.
+    fn witness(script: &str) -> Witness {
         let mut witness = Witness::default();
         for exchange in replies(script.as_bytes()) {
             witness.observe(&exchange).unwrap();
         }
-        assert_eq!((witness.tally().ended, witness.tally().resized), (1, 1));
+        witness
+    }
+
+    /// Behind a script come walk calls that are not looked at for themselves.
+    /// Each has the size of the only live table, its cursor, the next cursor
+    /// and its keys.
+    fn walked(script: &str, calls: &[(u32, u32, u32, &[u32])]) -> Result<(), String> {
+        let mut witness = witness(script);
+        calls.iter().try_for_each(|&(old, cursor, next, keys)| {
+            let live = Live { old, new: None };
+            let mut handed: Vec<u64> = keys.iter().copied().map(place).collect();
+            handed.sort_unstable();
+            witness.advance_walks(live, cursor, next, &handed)
+        })
+    }
+
+    /// The calls before the last break no promise, and the last one does.
+    fn expect_broken(script: &str, calls: &[(u32, u32, u32, &[u32])], message: &str) {
+        let (_, before) = calls.split_last().unwrap();
+        assert_eq!(walked(script, before), Ok(()), "{script}");
+        let error = walked(script, calls).unwrap_err();
+        assert!(error.contains(message), "{script}: {error}");
+    }
+
+    #[test]
+    fn the_model_keeps_its_promises() {
+        let script = "N 8 4\nA 1 10\nA 6 60\nC 0\nR 8\nC 2\nS\nC 1\nS\nS\nC 3\nC 7\n";
+        let tally = witness(script).tally();
+        assert_eq!((tally.ended, tally.resized, tally.shrunk), (1, 1, 0));
+        // The second call of this walk sees a smaller table, and hands out key 0
+        // again. Key 3 comes ahead of the walk, key 4 behind it, and key 7 has
+        // gone by the next call.
+        let script = "N 8 4\nA 0 10\nC 0\nR 2\nS\nS\nA 3 30\nC 2\nA 4 40\nA 7 70\nD 7\nC 1\n";
+        let tally = witness(script).tally();
+        assert_eq!((tally.ended, tally.resized, tally.shrunk), (1, 1, 1));
+        assert_eq!((tally.repeated, tally.late), (1, 1));
     }
 
     #[test]
@@ -399,16 +570,144 @@ mod tests {
             &[0, 2, 6, 60, 1, 10],
             &[(&[0, 1, 6, 60], "without keys [1]")],
         );
-        // The walk alone, with calls that are not looked at for themselves: the
-        // first one leaves key 2 out, and the second one ends the walk.
-        let mut witness = Witness::default();
-        for exchange in replies(b"N 8 2\nA 2 20\n") {
-            witness.observe(&exchange).unwrap();
-        }
-        let live = witness.live.unwrap();
-        witness.advance_walks(live, 0, 1, &[]).unwrap();
-        let error = witness.advance_walks(live, 1, 0, &[]).unwrap_err();
-        assert!(error.contains("without keys [2]"), "{error}");
+        // The first call leaves key 2 out, and the second one ends the walk.
+        expect_broken(
+            "N 8 2\nA 2 20\n",
+            &[(2, 0, 1, &[]), (2, 1, 0, &[])],
+            "without keys [2]",
+        );
+    }
+
+    /// Where no call of a walk sees a smaller table than the call before, no
+    /// key comes twice, and at the end each key held throughout has come.
+    #[test]
+    fn a_key_that_did_not_come_exactly_once_is_noticed() {
+        let script = "N 8 2\nA 0 10\nA 1 11\n";
+        assert_eq!(walked(script, &[(2, 0, 1, &[0]), (2, 1, 0, &[1])]), Ok(()));
+        let never = [(2, 0, 1, &[0][..]), (2, 1, 0, &[])];
+        expect_broken(script, &never, "without keys [1]");
+        let due = "key 0 comes 2 times or more in a walk, with 1 as its bound";
+        let again = [(2, 0, 1, &[0][..]), (2, 1, 0, &[0, 1])];
+        expect_broken(script, &again, due);
+        // In one call, by a call that does not end the walk, in a table that has
+        // grown, and once the key was deleted and added again.
+        expect_broken(script, &[(2, 0, 1, &[0, 0])], due);
+        let kept = "N 8 4\nA 0 10\nC 0\n";
+        expect_broken(kept, &[(4, 2, 1, &[0])], due);
+        expect_broken(kept, &[(8, 2, 6, &[0])], due);
+        let renewed = "N 8 4\nA 0 10\nC 0\nD 0\nA 0 11\n";
+        expect_broken(renewed, &[(4, 2, 1, &[0])], due);
+        // With two live tables the smaller one counts: of 4 and 8 it is still 4,
+        // of 4 and 2 it is 2, and there the key may come again.
+        let mut growing = witness(kept);
+        let live = |new| Live {
+            old: 4,
+            new: Some(new),
+        };
+        let error = growing.advance_walks(live(8), 2, 1, &[0]).unwrap_err();
+        assert!(error.contains(due), "{error}");
+        let mut shrinking = witness(kept);
+        assert_eq!(shrinking.advance_walks(live(2), 2, 1, &[0]), Ok(()));
+    }
+
+    /// A key comes at most once more for each call that shrank, and for each
+    /// halving between the largest size and the least.
+    #[test]
+    fn a_key_that_came_too_often_is_noticed() {
+        let script = "N 8 8\nA 0 10\n";
+        let due = "key 0 comes 3 times or more in a walk, with 2 as its bound";
+        // One call shrank, by three halvings.
+        let one = [
+            (8, 0, 4, &[0][..]),
+            (1, 4, 2, &[0]),
+            (1, 2, 6, &[]),
+            (1, 6, 0, &[0]),
+        ];
+        expect_broken(script, &one, due);
+        // Two calls shrank, between sizes that one halving lies between. With
+        // one more halving the key may come three times.
+        let two = |least| {
+            [
+                (8, 0, 4, &[0][..]),
+                (4, 4, 2, &[0]),
+                (8, 2, 6, &[]),
+                (least, 6, 0, &[0]),
+            ]
+        };
+        expect_broken(script, &two(4), due);
+        assert_eq!(walked(script, &two(2)), Ok(()));
+        // Where a table has grown back, what came before still counts.
+        let grown = [(8, 0, 4, &[0][..]), (4, 4, 2, &[0]), (8, 2, 6, &[0])];
+        expect_broken(script, &grown, due);
+    }
+
+    /// Both bounds are attained: at sizes 4, 2 and 1 key 0 comes three times.
+    #[test]
+    fn a_key_may_come_once_more_for_each_halving() {
+        let script = "N 4 4\nA 0 7\nC 0\nR 2\nS\nS\nC 2\nR 1\nS\nS\nC 1\n";
+        let tally = witness(script).tally();
+        assert_eq!((tally.ended, tally.shrunk, tally.repeated), (1, 1, 1));
+        let sizes = [(4, 0, 2, &[0][..]), (2, 2, 1, &[0]), (1, 1, 3, &[0])];
+        let due = "key 0 comes 4 times or more in a walk, with 3 as its bound";
+        let more = [&sizes[..], &[(1, 3, 0, &[0])]].concat();
+        expect_broken("N 4 4\nA 0 7\n", &more, due);
+    }
+
+    /// A key that is held from one of the calls on, and is not behind the
+    /// cursor of that call, comes by the end.
+    #[test]
+    fn a_later_key_that_was_passed_over_is_noticed() {
+        expect_noticed(
+            "N 8 4\nA 0 7\nC 0\nA 3 30\nC 2\nC 1\nC 3\n",
+            &[0, 1, 3, 30],
+            &[(&[0, 0], "without keys [3]")],
+        );
+        // The rest of a walk that is due at 2, with nothing handed out.
+        let rest = [(4, 2, 1, &[][..]), (4, 1, 3, &[]), (4, 3, 0, &[])];
+        let added = |key: u32| format!("N 8 4\nA 0 7\nC 0\nA {key} 70\n");
+        // The first place that is not behind the cursor, and the last that is.
+        expect_broken(&added(2), &rest, "without keys [2]");
+        assert_eq!(walked(&added(4_294_967_292), &rest), Ok(()));
+        assert_eq!(place(4_294_967_292) + 1, place(2));
+        // More than one, and one that was added during a move.
+        let more = "N 8 4\nA 0 7\nC 0\nA 3 30\nA 2 20\n";
+        expect_broken(more, &rest, "without keys [2, 3]");
+        let moving = "N 8 4\nA 0 7\nR 8\nC 0\nA 3 30\n";
+        expect_broken(moving, &rest, "without keys [3]");
+        // Deleted and added again between two calls, or with a call between.
+        let renewed = "N 8 4\nA 0 7\nA 3 30\nC 0\nD 3\nA 3 31\n";
+        expect_broken(renewed, &rest, "without keys [3]");
+        let back = "N 8 4\nA 0 7\nA 3 30\nC 0\nD 3\nC 2\nA 3 31\n";
+        expect_broken(back, &rest[1..], "without keys [3]");
+        // In a store that was started anew only its own keys are owed.
+        let anew = "N 8 4\nA 0 7\nA 3 30\nC 0\nN 8 4\nA 1 10\n";
+        expect_broken(anew, &rest, "without keys [1]");
+    }
+
+    #[test]
+    fn a_later_key_is_owed_no_longer_than_it_is_held() {
+        let rest = [(4, 1, 3, &[][..]), (4, 3, 0, &[])];
+        let deleted = "N 8 4\nA 0 7\nC 0\nA 3 30\nC 2\nD 3\n";
+        assert_eq!(walked(deleted, &rest), Ok(()));
+        // Back again, but behind the cursor by then.
+        let back = "N 8 4\nA 0 7\nA 2 20\nC 0\nD 2\nC 2\nA 2 21\n";
+        assert_eq!(walked(back, &rest), Ok(()));
+    }
+
+    /// That one walk has handed a later key out does not serve another.
+    #[test]
+    fn a_later_key_is_owed_by_each_walk() {
+        let script = "N 8 4\nA 0 7\nC 0\nC 2\nC 0\nA 3 30\n";
+        let calls = [
+            // The walk that is due at 1, to its end.
+            (4, 1, 3, &[][..]),
+            (4, 3, 0, &[3]),
+            // The walk that is due at 2.
+            (4, 2, 1, &[]),
+            (4, 1, 3, &[]),
+            (4, 3, 0, &[]),
+        ];
+        expect_broken(script, &calls, "without keys [3]");
     }
 
     #[test]

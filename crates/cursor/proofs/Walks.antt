@@ -139,7 +139,7 @@ module _ (l : Live) (v k : ℕ) (h : Valid l) (on : groupOf l v .answered ≢ 0)
   behind-call b fits behind =
       not-after (coarser (smaller l) 32 k v (valid-smaller l h) (omega (arith, finer b 32 k v fits behind)))
 
-  -- .. which is so at its own size too
+  -- .. which also stays behind at the size at which it was
   pub behind-stays : (b : ℕ) → b ≤ 32 → Behind b v k → Behind b w k
   behind-stays b fits behind =
       omega (arith, coarser b 32 v w fits (omega (arith, call-climbs 32 l v h (valid-smaller l h) on)))

@@ -17,7 +17,7 @@ module _ (key : ℕ) where
   same k = eqb k key
 
   abbrev pub count : List ℕ → ℕ
-  count ks = length (keep (λ k. eqb k key) ks)
+  count ks = length (keep same ks)
 
   pub count-append : (ks js : List ℕ) → count (ks ++ js) ≡ count ks + count js
   unfolding keep

@@ -137,6 +137,7 @@ module _ (key : ℕ) where
       let more = behind-times v (bits h) (few h) (h .size) rest (still-behind h on p fits behind) in
       omega (arith, again-shrunk u p power h behind)
 
+  -- any key is handed out at most once more
   most-times : {due : ℕ} {visits : List Visit} {ended : Bool} → Trail due visits ended → total visits ≤ 1 + shrinks visits
   unfolding total shrinks
   most-times Trail.over = omega arith
@@ -149,10 +150,10 @@ module _ (key : ℕ) where
 
   -- ---- halvings
 
-  -- a key that is behind at size 2 ^ p is handed out at most once for each halving from there to the least size, 2 ^ m
+  -- a key that is behind at size 2 ^ p is handed out only at half that size or less, ..
   again-lower : (m p : ℕ) → m ≤ p → {v : Visit} {due answered : ℕ} → Visited v due answered → Behind p due key
       → 2 ^ m ≤ v .size → countAt v + m ≤ p
-  again-lower m p low {v} h behind under =
+  again-lower m p low {v} h behind above =
       elim (decLt 0 (countAt v)) [
         | yes some ↦
             let size = h .size in
@@ -160,35 +161,37 @@ module _ (key : ℕ) where
         | no none ↦ omega arith
       ]
 
+  -- .. and so at most once for each halving from there to the least size, 2 ^ m
   behind-halvings : (m p : ℕ) → m ≤ p → p ≤ 32 → {due : ℕ} {visits : List Visit} {ended : Bool} → Trail due visits ended
       → Behind p due key → NotUnder (2 ^ m) visits → total visits + m ≤ p
   unfolding total NotUnder
-  behind-halvings m p low fits Trail.over behind under = omega arith
-  behind-halvings m p low fits (Trail.last v h) behind under = omega (arith, again-lower m p low h behind (under .0))
-  behind-halvings m p low fits (Trail.onward v h on rest) behind under =
+  behind-halvings m p low fits Trail.over behind above = omega arith
+  behind-halvings m p low fits (Trail.last v h) behind above = omega (arith, again-lower m p low h behind (above .0))
+  behind-halvings m p low fits (Trail.onward v h on rest) behind above =
       elim (decLt 0 (countAt v)) [
         | yes some ↦
             let size = h .size in
-            let lower = exponent-le m (bits h) (omega (arith, under .0)) in
-            let more = behind-halvings m (bits h) lower (few h) rest (now-behind h on some) (under .1) in
+            let lower = exponent-le m (bits h) (omega (arith, above .0)) in
+            let more = behind-halvings m (bits h) lower (few h) rest (now-behind h on some) (above .1) in
             omega (arith, once h, again h p behind some)
-        | no none ↦ omega (arith, behind-halvings m p low fits rest (stays-behind h on p fits behind) (under .1))
+        | no none ↦ omega (arith, behind-halvings m p low fits rest (stays-behind h on p fits behind) (above .1))
       ]
 
+  -- any key is handed out at most once more, from the largest size on, 2 ^ top
   most-halvings : (m top : ℕ) → m ≤ top → {due : ℕ} {visits : List Visit} {ended : Bool} → Trail due visits ended
       → largest visits ≤ 2 ^ top → NotUnder (2 ^ m) visits → total visits + m ≤ 1 + top
   unfolding total largest NotUnder
-  most-halvings m top low Trail.over within under = omega arith
-  most-halvings m top low (Trail.last v h) within under = omega (arith, once h)
-  most-halvings m top low (Trail.onward v h on rest) within under =
+  most-halvings m top low Trail.over within above = omega arith
+  most-halvings m top low (Trail.last v h) within above = omega (arith, once h)
+  most-halvings m top low (Trail.onward v h on rest) within above =
       elim (decLt 0 (countAt v)) [
         | yes some ↦
             let size = h .size in
-            let lower = exponent-le m (bits h) (omega (arith, under .0)) in
+            let lower = exponent-le m (bits h) (omega (arith, above .0)) in
             let upper = exponent-le (bits h) top (omega arith) in
-            let more = behind-halvings m (bits h) lower (few h) rest (now-behind h on some) (under .1) in
+            let more = behind-halvings m (bits h) lower (few h) rest (now-behind h on some) (above .1) in
             omega (arith, once h)
-        | no none ↦ omega (arith, most-halvings m top low rest (omega arith) (under .1))
+        | no none ↦ omega (arith, most-halvings m top low rest (omega arith) (above .1))
       ]
 
   -- the exponents of the largest and the least size tell the halvings between them
@@ -199,10 +202,10 @@ module _ (key : ℕ) where
   halvings-hold {visits = v ∷ vs} t n h =
       let (m, low) = least-power v vs (powers t) in
       let (top, high) = largest-power v vs (powers t) in
-      let under = not-under (2 ^ m) (v ∷ vs) (omega arith) in
-      let lower = exponent-le m top (omega (arith, under .0)) in
+      let above = not-under (2 ^ m) (v ∷ vs) (omega arith) in
+      let lower = exponent-le m top (omega (arith, above .0)) in
       let upper = exponent-le top (n + m) (rw (pow-add 2 n m, low, high) h) in
-      omega (arith, most-halvings m top lower t (omega arith) under)
+      omega (arith, most-halvings m top lower t (omega arith) above)
 
 -- ---- a walk from one of its visits on
 

@@ -100,7 +100,7 @@ module _ (l : Lengths) (i : Ideal) (e : Event) (legal : Legal (i .tables)) (a : 
         only =
             λ key out.
             let (p, there, same) = of-map (λ (p : Pair). p .key) key (handedOut e) out in
-            let (in-map, test) = of-keep ofGroup p (i .plain .pairs) (handed .only p there) in
+            let (paired, test) = of-keep ofGroup p (i .plain .pairs) (handed .only p there) in
             rw same (laws .near due (p .key) (i .unmoved) (told (tells-in-group i due (p .key)) test));
         all =
             λ key held covers.

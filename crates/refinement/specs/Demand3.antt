@@ -178,7 +178,8 @@ Answered l i (e ∷ es) = AsPredicted l i e × Answered l (predict l i (e .call)
 -- Walks. A walk is some of the walk calls: the first is given cursor 0, each further one the cursor that its last answered
 -- call answered, and the first 0 answered ends it. Its visits are its answered calls.
 
--- the cursor given, the size of the smaller live table, the keys that the map has then, and those that are handed out
+-- of one such call, by the ideal before it: the cursor given, the size of the smaller live table, the keys held; and the keys
+-- handed out
 pub record Visit : Type 0 where
   pub cursor : ℕ
   pub size : ℕ

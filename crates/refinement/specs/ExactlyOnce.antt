@@ -1,5 +1,5 @@
--- How often a walk hands out a key, and which of the keys that come while it goes on: for any meaning of the ten calls, of
--- every walk of every sequence (SPECIFICATION, "How often a walk hands out a key").
+-- How often a walk hands out a key, and which of the keys that come meanwhile it must hand out: for any meaning of the ten
+-- calls, of every walk of every sequence (SPECIFICATION, "How often a walk hands out a key").
 use Prim.Native.Nat.{ℕ, _+_, _*_, _^_, _≤_, min}
 use mathlib.Core.Path.{_≡_}
 use mathlib.Core.Bool.{Bool, true, cond}
@@ -38,9 +38,9 @@ pub record HandOuts (visits : List Visit) (ended : Bool) : Type 0 where
   pub at-most-once : NotShrinking visits → Distinct (keysHanded visits)
   -- .. and by the end each key held at each visit exactly once
   pub exactly-once : NotShrinking visits → ended ≡ true → (key : ℕ) → HeldAtEach key visits → times key visits ≡ 1
-  -- in any walk a key is handed out at most once, and once more for each visit that shrinks; ..
+  -- in any walk a key is handed out at most once more than the number of visits that shrink; ..
   pub doubles : (key : ℕ) → times key visits ≤ 1 + shrinks visits
-  -- .. and at most once, and once more for each halving from the largest size to the least
+  -- .. and at most once more than the halvings that lead from the largest size to the least, or below
   pub halvings : (n : ℕ) → largest visits ≤ 2 ^ n * least visits → (key : ℕ) → times key visits ≤ 1 + n
   -- a key held from one of the visits on to the end, whose reversal is not before that of the cursor given then, is handed
   -- out from that visit on

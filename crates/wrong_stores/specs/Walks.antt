@@ -73,6 +73,18 @@ rest (n ∷ ns) = ns
 unfoldable pub leavesOut : World → Call → Outcome
 leavesOut = handingOut (λ w cursor ns. rest ns)
 
+-- Passes over what is added while a walk goes on: at cursor 0 it notes the number of keys held, in the last place of the second
+-- bucket buffer, and then hands out no entry with a higher number. Entries are taken in order, if none was freed.
+unfoldable pub passingOver : ℕ → List ℕ → Change
+passingOver zero lent w o =
+    leaving (o .first) (set (o .second) (length (o .second) - 1) (keysHeld (w .state))) (o .entries) o
+passingOver (suc c) lent w o =
+    let noted = getD (w .second) (length (w .second) - 1) 0 in
+    handing w (getD (o .reply .values) 0 0) lent (keep (λ n. leb n noted) (groupEntries w (suc c)))
+
+unfoldable pub passesOver : World → Call → Outcome
+passesOver = butScan (λ cursor lent w o. ifDone (passingOver cursor lent w o) o)
+
 -- hands the first pair out again in place of the second
 unfoldable pub firstTwice : List ℕ → List ℕ
 firstTwice [] = []
@@ -102,7 +114,7 @@ losesValues = butScan (λ cursor lent w o. ifDone (listing (keysOnly (getD (o .r
 unfoldable pub writesBeyond : World → Call → Outcome
 writesBeyond = butScan (λ cursor lent w o. ifDone (listing (set (o .lent) (getD (o .reply .values) 1 0 * 2) 0) o) o)
 
--- Another next cursor. During a rehash, a group made from the smaller and the larger size; with one table, as ours.
+-- Another group during a rehash, made from the smaller and the larger size; with one table, as ours.
 
 unfoldable pub byGroup : World → List ℕ → Table → Table → Group → Outcome
 byGroup w lent small large g =
@@ -111,14 +123,14 @@ byGroup w lent small large g =
     (chainsAt (w .state) (current w) (other w) (w .entries) (smallFirst small large g)))
 
 unfoldable pub inRehash : (ℕ → ℕ → ℕ → Group) → ℕ → List ℕ → Change
-inRehash twoTables cursor lent w o =
+inRehash groupFor cursor lent w o =
     let old = w .state .«old_size» in
     let new = w .state .«new_size» in
     elim (w .state .rehashing) [
       | true ↦ ifDone
           (cond (ltb old new)
-          (byGroup w lent Table.Old Table.New (twoTables old new cursor))
-          (byGroup w lent Table.New Table.Old (twoTables new old cursor)))
+          (byGroup w lent Table.Old Table.New (groupFor old new cursor))
+          (byGroup w lent Table.New Table.Old (groupFor new old cursor)))
           o
       | false ↦ o
     ]
@@ -163,7 +175,7 @@ handsLargerTwice =
     let g = twoTables small large cursor in
     record { small = g .small; large = headTwice (g .large); answered = g .answered }))
 
--- with one table and with two, the cursor made from the one given and the one that ours answers
+-- Another next cursor, made from the one given and the one that ours answers.
 unfoldable pub answeringNext : (World → ℕ → ℕ → ℕ) → World → Call → Outcome
 answeringNext choose =
     butScan
@@ -181,18 +193,6 @@ startsOver = answeringNext (λ w cursor next. overAgain (w .state .«old_size»)
 -- never ends: answers 1 in place of 0
 unfoldable pub neverEnds : World → Call → Outcome
 neverEnds = answeringNext (λ w cursor next. max 1 next)
-
--- Passes over what is added while a walk goes on: at cursor 0 it notes the number of keys held, in the last place of the second
--- bucket buffer, and then hands out no entry with a higher number. Entries are taken in order, if none was freed.
-unfoldable pub passingOver : ℕ → List ℕ → Change
-passingOver zero lent w o =
-    leaving (o .first) (set (o .second) (length (o .second) - 1) (keysHeld (w .state))) (o .entries) o
-passingOver (suc c) lent w o =
-    let noted = getD (w .second) (length (w .second) - 1) 0 in
-    handing w (getD (o .reply .values) 0 0) lent (keep (λ n. leb n noted) (groupEntries w (suc c)))
-
-unfoldable pub passesOver : World → Call → Outcome
-passesOver = butScan (λ cursor lent w o. ifDone (passingOver cursor lent w o) o)
 
 -- skips empty buckets: goes on, at most so many times, while nothing is handed out and the walk has not ended
 unfoldable pub skipping : ℕ → World → List ℕ → Outcome → Outcome

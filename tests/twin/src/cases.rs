@@ -260,7 +260,7 @@ fn walks() -> Vec<Case> {
                 ("C 1", "0 0 1 0 7"),
             ],
         ),
-        behind_the_seventh_call(
+        due_at_seven(
             "grown from 8 to 16 behind the seventh call: no key comes twice",
             &[
                 ("R 16", "0"),
@@ -271,11 +271,11 @@ fn walks() -> Vec<Case> {
                 ("C 15", "0 0 1 15 150"),
             ],
         ),
-        behind_the_seventh_call(
+        due_at_seven(
             "growing from 8 to 16 behind the seventh call: no key comes twice",
             &[("R 16", "0"), ("S", "0 2 1"), ("C 7", "0 0 2 15 150 7 70")],
         ),
-        behind_the_seventh_call(
+        due_at_seven(
             "grown from 8 to 16 behind the eighth call: the walk has ended",
             &[
                 ("C 7", "0 0 2 15 150 7 70"),
@@ -306,7 +306,7 @@ fn walks() -> Vec<Case> {
 }
 
 /// A walk of size 8 that is due at 7, and the lines that follow.
-fn behind_the_seventh_call(name: &str, rest: &[(&str, &str)]) -> Case {
+fn due_at_seven(name: &str, rest: &[(&str, &str)]) -> Case {
     let walk = [
         ("N 8 8", "0"),
         ("A 3 30", "0"),

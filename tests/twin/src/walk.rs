@@ -1,7 +1,7 @@
 //! A witness that follows a run from outside, knowing only the commands and
 //! their replies, and says when a promise of the request is broken: demand 3,
-//! how often a walk hands out a key and which of the keys that come while it
-//! goes on, and of each walk call demand 2.
+//! how often a walk hands out a key and which of the keys that come meanwhile
+//! it must hand out, and of each walk call demand 2.
 //!
 //! It has nothing in common with the store. The limits and the numbers of the
 //! answers stand here once more, from the specification; the plain map, the live sizes

@@ -22,7 +22,7 @@ use Rattle.refinement.specs.Worlds.{current, other, UndamagedAt, Held, H
 use Rattle.refinement.specs.Demand3.{Lengths, lengthsOf, Ideal, ideal, among, tableOf, Matches}
 use Rattle.invariant.proofs.Lists.{in-map, of-map, in-keep, of-keep, distinct-keep}
 use Rattle.invariant.proofs.Sums.{gathered, in-gathered, of-gathered}
-use Rattle.invariant.proofs.Shape.{IsBucket, Shape, facts}
+use Rattle.invariant.proofs.Shape.{IsBucket, Shape}
 use Rattle.invariant.proofs.Places.{LiveTable, table-live}
 use Rattle.invariant.proofs.States.{live-kept}
 use Rattle.invariant.proofs.ToUndamaged.{entries-at, shape-undamaged}

@@ -1,7 +1,7 @@
 -- What every call answers and leaves, in one walk over its definition: the number of the first row that is given; where it
 -- is refused all that was there, and where it is answered the lengths of the buffers.
 -- Assumes nothing.
-use Prim.Native.Nat.{ℕ, zero, suc, _*_, _-_, _<_, _≤_}
+use Prim.Native.Nat.{ℕ, zero, suc, _*_, _<_, _≤_}
 use mathlib.Core.Path.{_≡_, refl, sym, subst, _∙_}
 use mathlib.Core.Bool.{Bool, true, false, cond, and-assoc}
 use mathlib.Core.List.{List, [], _∷_}

@@ -1,7 +1,7 @@
 -- Find, update, add and delete on a store that agrees with the ideal: each answers as the plain map does, and the store agrees
 -- with the map after it. The step of the induction for them follows, and demand 2's first half.
 -- Assumes nothing.
-use Prim.Native.Nat.{ℕ, suc, _+_, _-_, _<_}
+use Prim.Native.Nat.{ℕ, suc, _+_, _-_}
 use mathlib.Core.Path.{_≡_, refl, sym, ap, subst, _∙_}
 use mathlib.Core.Logic.{_⊎_, inl, inr}
 use mathlib.Core.Bool.{Bool, true, false, cond}
@@ -22,15 +22,15 @@ use Rattle.model.specs.declared.AddAnswer.{AddAnswer}
 use Rattle.model.specs.declared.DeleteAnswer.{DeleteAnswer}
 use Rattle.model.specs.Answers.{Reply, reply, errorNumber, findReply, updateReply, addReply, deleteReply}
 use Rattle.model.specs.Memory.{Place, Live, sizeOf, keysHeld, keyPlace, valueOf}
-use Rattle.model.specs.Calls.{After, writing, lookup, found, updated, added, deleted, removed, target}
+use Rattle.model.specs.Calls.{After, writing, lookup, found, updated, added, deleted, target}
 use Rattle.model.specs.Calls as calls
 use Rattle.model.specs.Sequences.{Outcome, World, KeyCall, Call, kept, left, given, perform, carry, Pair, PlainMap, keysOf, valueFor, withValue, without, withPairs, mapAnswer, mapDoes}
 use Rattle.model.proofs.Tests.{told, tested}
 use Rattle.refinement.specs.Worlds.{current, other, UndamagedAt, Holds}
 use Rattle.refinement.specs.Demand2.{AnswersAs}
-use Rattle.refinement.specs.Demand3.{Lengths, lengthsOf, Ideal, ideal, among, keyAnswer, predict}
+use Rattle.refinement.specs.Demand3.{Lengths, Ideal, ideal, among, keyAnswer, predict}
 use Rattle.invariant.proofs.Lists.{in-keep, of-keep, distinct-keep, keep-all}
-use Rattle.invariant.proofs.Shape.{IsBucket, shape-sound, facts}
+use Rattle.invariant.proofs.Shape.{IsBucket, shape-sound}
 use Rattle.invariant.proofs.Places.{key-bucket, key-live}
 use Rattle.invariant.proofs.FromUndamaged.{undamaged-shape}
 use Rattle.invariant.proofs.StoreAfter.{HeldIn, StoreAfter}
@@ -42,7 +42,7 @@ use Rattle.invariant.proofs.CallAnswers.{find-held, update-held, add-held, dele
 use Rattle.refinement.proofs.Orientation.{soundAt, reads-sound, left-reply, left-world}
 use Rattle.refinement.proofs.Refusals.{refused-keeps, find-keeps}
 use Rattle.refinement.proofs.PlainMaps.{pair, value-key, key-value, value-new, value-not-new, distinct-new, value-changed, value-not-changed, keys-changed, length-changed, value-taken, value-not-taken, length-taken, distinct-taken, tells-among}
-use Rattle.refinement.proofs.Agreement.{AgreesOn, Agrees, Steps, leaves, Says, agrees-undamaged, agrees-holds, holds-agrees, after-agrees, kept-agrees}
+use Rattle.refinement.proofs.Agreement.{Agrees, Steps, leaves, Says, agrees-undamaged, agrees-holds, holds-agrees, after-agrees, kept-agrees}
 
 not-new : (b c : ℕ) → Place.bucket Table.Old b ≡ Place.bucket Table.New c → ⊥
 not-new b c e = let z : _≡_ {A = ℕ} 0 1 = cc in omega arith

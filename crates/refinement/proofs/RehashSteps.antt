@@ -20,13 +20,13 @@ use Rattle.model.specs.declared.Table.{Table}
 use Rattle.model.specs.Answers.{Reply, reply, errorNumber, stepReply}
 use Rattle.model.specs.Keys.{bucketOf}
 use Rattle.model.specs.Memory.{Place, Live, headAt, sizeOf, bucketsOf, keysHeld, keyPlace}
-use Rattle.model.specs.Calls.{After, writing, stateOf, oldNew, retabled, finished, movedChain, stepped}
+use Rattle.model.specs.Calls.{After, stateOf, oldNew, retabled, finished, movedChain, stepped}
 use Rattle.model.specs.Calls as calls
 use Rattle.model.specs.Walk.{Tables, tablesBy, tablesOf}
-use Rattle.model.specs.Sequences.{valueFor, World, Call, left, given, perform}
+use Rattle.model.specs.Sequences.{valueFor, World, Call, given, perform}
 use Rattle.model.proofs.Linked.{Linked}
 use Rattle.refinement.specs.Worlds.{current, other}
-use Rattle.refinement.specs.Demand3.{Lengths, Ideal, ideal, lowest, stepAnswer, predict}
+use Rattle.refinement.specs.Demand3.{Lengths, Ideal, ideal, stepAnswer, predict}
 use Rattle.invariant.proofs.Lists.{in-keep, of-keep, distinct-keep}
 use Rattle.invariant.proofs.Shape.{IsBucket, Shape, shape-sound}
 use Rattle.invariant.proofs.Places.{same, LiveTable, key-bucket, key-live}
@@ -38,7 +38,7 @@ use Rattle.invariant.proofs.RehashEnd.{swappedTable, swappedPlace, finished-sha
 use Rattle.invariant.proofs.CallAnswers.{step-none, step-finishes, step-moves}
 use Rattle.refinement.proofs.Orientation.{worldBy, soundAt, left-reply, left-world}
 use Rattle.refinement.proofs.Refusals.{refused-keeps}
-use Rattle.refinement.proofs.Agreement.{HeldAt, AgreesOn, Agrees, Steps, leaves, Says, after-agrees, retabled-agrees, kept-agrees, turned-agrees}
+use Rattle.refinement.proofs.Agreement.{HeldAt, AgreesOn, Agrees, Steps, leaves, after-agrees, retabled-agrees, kept-agrees, turned-agrees}
 use Rattle.refinement.proofs.MovedKeys.{lowestOf, called-for, none-unmoved, some-unmoved, lowest-first, moved-count}
 
 -- ---- the end of the rehash

@@ -13,7 +13,7 @@ use Rattle.model.specs.Answers.{Reply, reply}
 use Rattle.model.specs.Memory.{keysHeld}
 use Rattle.model.specs.Calls.{acceptable}
 use Rattle.model.specs.Walk.{Tables, smallerOf}
-use Rattle.model.specs.Sequences.{World, KeyCall, ReadCall, Call, Outcome, carry, run, Event, event, events, PlainMap, keysOf, valueFor, withPairs, mapAnswer, mapDoes}
+use Rattle.model.specs.Sequences.{World, KeyCall, ReadCall, Call, Outcome, carry, run, Event, event, events, keysOf, valueFor, withPairs, mapAnswer, mapDoes}
 use Rattle.cursor.specs.Next.{next}
 use Rattle.refinement.specs.Demand2.{nextCursor}
 use Rattle.refinement.specs.Demand3.{Lengths, lengthsOf, Ideal, ideal, begun, startNumber, startAnswer, keyAnswer, resizeAnswer, stepAnswer, groupPairs, scanAnswer, readAnswer, predict, replay, Answered, Demand3}

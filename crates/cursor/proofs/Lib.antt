@@ -1,5 +1,5 @@
--- The theory of the walk's cursor, over the size: what reversal is, what the next cursor is, what a call hands out, and what
--- a walk of many calls does.
+-- The theory of the walk's cursor, for every size: what reversal is, what the next cursor is, what a call hands out, and what
+-- it does with a key ahead of the cursor or behind it.
 pub mod Reversal
 pub mod NextCursor
 pub mod Loop

@@ -1,4 +1,4 @@
--- From the definitions of model to the demands.
+-- From the definitions of model to the statements of specs/.
 
 -- from the calls' buffers to the world
 pub mod Orientation

@@ -1,4 +1,4 @@
--- Each wrong store refuted: a demand does not hold of it.
+-- Each wrong store refuted: one of the statements does not hold of it.
 pub mod Start
 pub mod Starts
 pub mod KeyCalls

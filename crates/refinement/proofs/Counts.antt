@@ -12,6 +12,10 @@ use borrow.Author.Tests.{eqb-true, eq-eqb}
 use Rattle.cursor.specs.Member.{In, Distinct, keep}
 use Rattle.invariant.proofs.Lists.{in-keep, of-keep, distinct-keep, distinct-fits}
 
+-- a list with a member is not empty
+pub in-filled : {A : Type 0} (x : A) (xs : List A) → In x xs → 0 < length xs
+in-filled x (y ∷ ys) i = omega arith
+
 module _ (key : ℕ) where
   abbrev same : ℕ → Bool
   same k = eqb k key
@@ -45,10 +49,7 @@ module _ (key : ℕ) where
           subst (λ x. In x ks) (eqb-true k key e) there
 
   pub in-count : (ks : List ℕ) → In key ks → 0 < count ks
-  in-count ks i = filled (keep same ks) (in-keep same key ks i (eq-eqb key key refl))
-    where
-      filled : (js : List ℕ) → In key js → 0 < length js
-      filled (k ∷ js) i = omega arith
+  in-count ks i = in-filled key (keep same ks) (in-keep same key ks i (eq-eqb key key refl))
 
 -- no repeats, if each number is in it once at most
 pub counts-distinct : (ks : List ℕ) → ((key : ℕ) → count key ks ≤ 1) → Distinct ks

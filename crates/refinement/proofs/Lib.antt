@@ -24,9 +24,9 @@ pub mod BucketEntries
 pub mod GroupEntries
 pub mod WalkCalls
 pub mod Contents
+pub mod Counts
 pub mod Trails
 pub mod Walks
-pub mod Counts
 pub mod HandOuts
 -- sequences, demands 2 and 3, and what follows from demand 3
 pub mod Histories

@@ -17,6 +17,7 @@ use Rattle.model.proofs.Tests.{told, tested}
 use Rattle.refinement.specs.Demand2.{nextCursor}
 use Rattle.refinement.specs.Demand3.{Lengths, Ideal, inGroup, groupPairs, scanAnswer, predict, handedOut, AsPredicted, Answered, Visit, visit, Walk}
 use Rattle.invariant.proofs.Lists.{in-map, of-map, in-keep, of-keep}
+use Rattle.refinement.proofs.Counts.{in-filled}
 use Rattle.refinement.proofs.LiveTables.{Legal, predict-legal}
 use Rattle.refinement.proofs.GroupPlaces.{GroupLaws, group-laws, tells-in-group}
 
@@ -46,10 +47,6 @@ unfolding nextCursor
 next-kept zero n (inl h) = absurd (omega arith)
 next-kept zero n (inr h) = absurd (h refl)
 next-kept (suc keys) n h = refl
-
--- a list with a member has a length
-some-pairs : (ps : List Pair) (p : Pair) → In p ps → 0 < length ps
-some-pairs (q ∷ ps) p i = omega arith
 
 -- a reply chosen by a test is the first, if the number is 0 and the second's is not
 chosen : (t : Bool) (r q : Reply Ideal) → cond t r q .number ≡ 0 → (q .number ≡ 0 → ⊥) → cond t r q ≡ r
@@ -95,7 +92,7 @@ module _ (l : Lengths) (i : Ideal) (e : Event) (legal : Legal (i .tables)) (a : 
         next-held =
             λ key held.
             let (p, there, same) = of-map (λ (p : Pair). p .key) key (i .plain .pairs) held in
-            kept (inl (some-pairs (i .plain .pairs) p there));
+            kept (inl (in-filled p (i .plain .pairs) there));
         once = handed .none-twice;
         only =
             λ key out.

@@ -2,7 +2,7 @@
 -- it does with a key ahead of the cursor or behind it.
 pub mod Reversal
 pub mod NextCursor
-pub mod Loop
+pub mod ByteTable
 pub mod HighBits
 pub mod Interval
 pub mod Sweep

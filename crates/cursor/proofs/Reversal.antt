@@ -31,7 +31,7 @@ unfolding reverse
 one-bit x = rw (mul-one, add-zero)
 
 -- one bit more
-pub reverse-last : (n x : ℕ) → reverse (suc n) x ≡ reverse n x * 2 + x / 2 ^ n % 2
+reverse-last : (n x : ℕ) → reverse (suc n) x ≡ reverse n x * 2 + x / 2 ^ n % 2
 reverse-last n x = rw (← add-one n, reverse-split, one-bit)
 
 -- only the lowest bits count

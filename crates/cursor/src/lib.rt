@@ -1,35 +1,46 @@
 // The cursor of a walk (Redis SCAN): it counts in reverse binary order, so that a table that grows
 // or shrinks under a walk neither hides a bucket from it nor sends it back to the start.
 ghost use mathlib.Core.Path.{_≡_};
-ghost use Prim.Native.Nat.{ℕ, _^_};
-ghost use Rattle.cursor.specs.Reverse.{rev};
+ghost use Prim.Native.Nat.{ℕ, _%_, _^_, _<_};
+ghost use lib.ListN.{getD};
+ghost use Rattle.cursor.specs.Reverse.{reverse, rev};
 ghost use Rattle.cursor.specs.Next.{next};
+use crate::byte_table::REVERSED_BYTES;
 use std::num::wrapping_add_u32;
 use std::num::wrapping_sub_u32;
 
-// The 32 bits of x in the opposite order. Each turn moves the lowest bit that is left over to the
-// end of what is reversed so far.
-pub fn reverse_bits(x: u32) -> u32
+mod byte_table;
+
+// What is listed for the lowest byte of x.
+fn reverse_byte(reversals: &[u8; 256], x: u32) -> u8
+    ensures { λ r. ⌜ r ≡ getD (now (reversals .entry)) (x % 256) 0 ⌝ }
+{
+    reversals[(x % 256) as usize]
+}
+
+// The 32 bits of x in the opposite order, by the reversals of all bytes: the lowest byte, reversed,
+// becomes the highest.
+fn reverse_bits(reversals: &[u8; 256], x: u32) -> u32
+    requires { ⌜ ((i : ℕ) → i < 256 → getD (now reversals) i 0 ≡ reverse 8 i) ⌝ }
     ensures { λ r. ⌜ r ≡ rev x ⌝ }
 {
-    let mut reversed: u32 = 0;
-    let mut rest = x;
-    let mut done: u32 = 0;
-    while done < 32 {
-        reversed = reversed * 2 + rest % 2;
-        rest = rest / 2;
-        done += 1;
-    }
-    reversed
+    let first = reverse_byte(reversals, x) as u32;
+    let second = reverse_byte(reversals, x >> 8) as u32;
+    let third = reverse_byte(reversals, x >> 16) as u32;
+    let fourth = reverse_byte(reversals, x >> 24) as u32;
+    ((first * 256 + second) * 256 + third) * 256 + fourth
 }
 
 // The next cursor for a table of that size, a power of two. With all bits above the table's set to
 // one, the carry of the reversed count runs through them into the bits that name the bucket. The
-// high bits are those of the size's negative, so no division is needed.
+// high bits are those of the size's negative, so no division is needed. A function that names a
+// constant array builds it anew on its stack: it is named here, once, and lent to both reversals.
 pub fn next_cursor(size: u32, cursor: u32) -> u32
     ensures { λ r. ⌜ ((b : ℕ) → size ≡ 2 ^ b → r ≡ next size cursor) ⌝ }
 {
+    let reversals = REVERSED_BYTES;
     let high = cursor | wrapping_sub_u32(0, size);
-    let counted = wrapping_add_u32(reverse_bits(high), 1);
-    reverse_bits(counted)
+    let reversed = reverse_bits(&reversals, high);
+    let counted = wrapping_add_u32(reversed, 1);
+    reverse_bits(&reversals, counted)
 }

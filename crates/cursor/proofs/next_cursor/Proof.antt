@@ -1,6 +1,10 @@
--- `cursor::next_cursor` meets its contract: what its steps give are the premises of one law. The number after `fits` lets the
--- search try every way, so that a refusal of other code says that none is left. Assumes nothing.
+-- `cursor::next_cursor` meets its contract: what its steps give are the premises of one law. Where the list of reversed bytes is
+-- lent, antt computes the test over the whole of it. The number after `fits` lets the search try every way, so that a refusal
+-- of other code says that none is left. Assumes nothing.
+use mathlib.Core.Path.{refl}
 use borrow.Author.Needs.{needs}
+use Rattle.cursor.specs.Reverse.{reverse}
+use Rattle.cursor.proofs.ByteTable.{tested}
 use Rattle.cursor.proofs.HighBits.{next-computed}
 use Rattle.cursor.proofs.next_cursor.Statement.{statement}
 use Rattle.cursor.proofs.next_cursor.Tie as tie
@@ -9,5 +13,6 @@ returns : tie.Need-returns
 returns c = search next-computed fits 20000
 
 pub next-cursor-spec : {M : Type 1} → statement M
+unfolding reverse
 next-cursor-spec =
-    tie.close (tie.spec (search needs) (search needs) (search needs) (search needs) returns)
+    tie.close (tie.spec (search needs) (λ c κs. tested _ refl) (search needs) (λ c κs. tested _ refl) returns)

@@ -1,5 +1,5 @@
--- A word's reversal by the reversals of all bytes. One test, computed over the whole list, says that it has at each place the
--- reversal of the place's eight bits, and one law carries it to each place; one law adds a byte to what is reversed so far.
+-- A word's reversal, looked up byte by byte in a list. One computed test, that the list is that of the reversals of 0 to 255,
+-- gives each place its reversal (`tested`); one law adds a byte to what is reversed so far (`byte-more`).
 use mathlib.Core.Path.{_≡_, _∙_, ap}
 use mathlib.Core.List.{List, [], _∷_}
 use Prim.Native.Nat.{ℕ, zero, suc, _+_, _*_, _/_, _%_, _^_, _<_}
@@ -9,23 +9,23 @@ use lib.ListN.{getD}
 use Rattle.cursor.specs.Reverse.{reverse, rev}
 use Rattle.cursor.proofs.Reversal.{reverse-split, reverse-mod}
 
--- at each place of a list the reversal of the place's eight bits
+-- at each place below 256 the reversal of the place's eight bits, as `reverse_bits` requires it
 abbrev pub ReversesBytes : List ℕ → Type 0
 ReversesBytes bytes = (i : ℕ) → i < 256 → getD bytes i 0 ≡ reverse 8 i
 
 -- the reversals of i, i + 1 and so on, n of them
-abbrev pub reversals : ℕ → ℕ → List ℕ
-reversals i zero = []
-reversals i (suc n) = reverse 8 i ∷ reversals (suc i) n
+abbrev pub reversalsFrom : ℕ → ℕ → List ℕ
+reversalsFrom i zero = []
+reversalsFrom i (suc n) = reverse 8 i ∷ reversalsFrom (suc i) n
 
 -- each of them, at its place
-reversal-at : (i n k : ℕ) → k < n → getD (reversals i n) k 0 ≡ reverse 8 (i + k)
+reversal-at : (i n k : ℕ) → k < n → getD (reversalsFrom i n) k 0 ≡ reverse 8 (i + k)
 reversal-at i zero k h = absurd (omega arith)
 reversal-at i (suc n) zero h = rw add-zero
 reversal-at i (suc n) (suc k) h = rw (add-suc, ← suc-add i k) (reversal-at (suc i) n k (le-of-suc-le-suc h))
 
 -- the test, and what it says of each place
-pub tested : (bytes : List ℕ) → bytes ≡ reversals 0 256 → ReversesBytes bytes
+pub tested : (bytes : List ℕ) → bytes ≡ reversalsFrom 0 256 → ReversesBytes bytes
 tested bytes e i h = rw e (reversal-at 0 256 i h ∙ ap (reverse 8) (zero-add i))
 
 -- the reversal of a number's lowest byte, looked up

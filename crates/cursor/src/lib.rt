@@ -11,7 +11,7 @@ use std::num::wrapping_sub_u32;
 
 mod byte_table;
 
-// What is listed for the lowest byte of x.
+// The lowest byte of x, looked up.
 fn reverse_byte(reversals: &[u8; 256], x: u32) -> u8
     ensures { λ r. ⌜ r ≡ getD (now (reversals .entry)) (x % 256) 0 ⌝ }
 {
@@ -34,7 +34,8 @@ fn reverse_bits(reversals: &[u8; 256], x: u32) -> u32
 // The next cursor for a table of that size, a power of two. With all bits above the table's set to
 // one, the carry of the reversed count runs through them into the bits that name the bucket. The
 // high bits are those of the size's negative, so no division is needed. A function that names a
-// constant array builds it anew on its stack: it is named here, once, and lent to both reversals.
+// constant array builds it on its stack each time it runs, so the reversed bytes are named once,
+// here, and lent to both reversals.
 pub fn next_cursor(size: u32, cursor: u32) -> u32
     ensures { λ r. ⌜ ((b : ℕ) → size ≡ 2 ^ b → r ≡ next size cursor) ⌝ }
 {

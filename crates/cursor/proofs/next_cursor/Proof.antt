@@ -1,6 +1,6 @@
--- `cursor::next_cursor` meets its contract: what its steps give are the premises of one law. Where the list of reversed bytes is
--- lent, antt computes the test over the whole of it. The number after `fits` lets the search try every way, so that a refusal
--- of other code says that none is left. Assumes nothing.
+-- `cursor::next_cursor` meets its contract: what its steps give are the premises of one law. At each of the two calls that are
+-- lent the list of reversed bytes antt computes the test of the whole list. The number after `fits` lets the search try every
+-- way, so that a refusal of other code says that none is left. Assumes nothing.
 use mathlib.Core.Path.{refl}
 use borrow.Author.Needs.{needs}
 use Rattle.cursor.specs.Reverse.{reverse}

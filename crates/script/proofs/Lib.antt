@@ -6,3 +6,4 @@ mod Ends
 pub mod Digits
 pub mod Writing
 pub mod Answering
+pub mod Limit

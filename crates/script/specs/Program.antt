@@ -4,12 +4,22 @@ use Prim.Native.Nat.{ℕ, _*_}
 use mathlib.Core.Bool.{cond}
 use mathlib.Core.List.{List, [], _∷_, _++_}
 use lib.ListN.{length, getD, take, replicate}
-use lib.Dec.{ltb}
+use lib.Dec.{leb, ltb}
 use Rattle.model.specs.Calls.{noState}
 use Rattle.model.specs.Sequences.{KeyCall, Call, World, world, Outcome, perform, carry}
 use Rattle.script.specs.declared.line.Command.{Command}
 use Rattle.script.specs.Lines.{command, linesOf}
 use Rattle.script.specs.Answers.{answerLine, badLine}
+
+-- the largest capacity and the largest table size that the program takes; its buffers have room for just these, and for the
+-- pairs of as many keys
+unfoldable pub programLimit : ℕ
+programLimit = 4096
+
+-- A capacity or a size as the store is asked for it. One above the limit is asked for as 0, which is neither: so it is refused,
+-- and just where the store refuses a number that is neither.
+unfoldable pub limited : ℕ → ℕ
+limited n = cond (leb n programLimit) n 0
 
 -- what a line or some lines write, and what they leave: the world, and the list that walk calls are lent
 pub record Ran : Type 0 where
@@ -34,12 +44,12 @@ walked w call = let o = perform w call in answered w o (handedOut o) (o .lent)
 
 unfoldable pub runCommand : World → List ℕ → Command → Ran
 runCommand w lent Command.Bad = record { written = answerLine badLine []; world = w; lent = lent }
-runCommand w lent (Command.Init capacity size) = called w lent (Call.init capacity size)
+runCommand w lent (Command.Init capacity size) = called w lent (Call.init (limited capacity) (limited size))
 runCommand w lent (Command.Add key value) = called w lent (Call.on key (KeyCall.add value))
 runCommand w lent (Command.Update key value) = called w lent (Call.on key (KeyCall.update value))
 runCommand w lent (Command.Delete key) = called w lent (Call.on key KeyCall.delete)
 runCommand w lent (Command.Find key) = called w lent (Call.on key KeyCall.find)
-runCommand w lent (Command.Resize size) = called w lent (Call.resize size)
+runCommand w lent (Command.Resize size) = called w lent (Call.resize (limited size))
 runCommand w lent Command.RehashStep = called w lent Call.rehashStep
 runCommand w lent (Command.Scan cursor) = walked w (Call.scan cursor lent)
 
@@ -59,15 +69,11 @@ runLines w lent (line ∷ lines) = let r = runLine w lent line in andThen r (run
 unfoldable pub longestScript : ℕ
 longestScript = 65536
 
--- the program's buffers have room for a table of this size, as many entries, and as many pairs of a walk call
-unfoldable pub programRoom : ℕ
-programRoom = 4096
-
 unfoldable pub firstWorld : World
-firstWorld = world noState (replicate programRoom 0) (replicate programRoom 0) (replicate (programRoom * 3) 0)
+firstWorld = world noState (replicate programLimit 0) (replicate programLimit 0) (replicate (programLimit * 3) 0)
 
 unfoldable pub runScript : List ℕ → List ℕ
 runScript script =
     cond (ltb longestScript (length script))
     (answerLine badLine [])
-    (runLines firstWorld (replicate (programRoom * 2) 0) (linesOf script) .written)
+    (runLines firstWorld (replicate (programLimit * 2) 0) (linesOf script) .written)

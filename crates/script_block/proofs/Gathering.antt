@@ -20,7 +20,7 @@ use Rattle.script.specs.declared.line.NextLine.{NextLine}
 use Rattle.script.specs.Lines.{linesOf}
 use Rattle.script.specs.Answers.{put}
 use Rattle.script.specs.Places.{linesFrom, Reaches}
-use Rattle.script.specs.Program.{Ran, andThen, runLine, runLines, programRoom}
+use Rattle.script.specs.Program.{Ran, andThen, runLine, runLines, programLimit}
 use Rattle.script_run.specs.Runs.{pairRoom, lineRoom, Runs}
 use Rattle.script_block.specs.Blocks.{RunsBlock}
 use Rattle.script_block.specs.Turns.{blockRoom, Room, RunsInto}
@@ -111,7 +111,7 @@ pub record Gathering (script : List ℕ) (s : State) (first second entries lent 
 
 pub room-left : (block : List ℕ) (filled : ℕ) (lent : List ℕ) → filled ≤ blockRoom - lineRoom → length block ≡ blockRoom
     → length lent ≡ pairRoom → Room block filled lent
-unfolding programRoom
+unfolding programLimit
 room-left block filled lent r b p = record { answer = omega arith; pairs = omega arith }
 
 module _ (script : List ℕ) (next : ℕ) (found : NextLine) (end : ℕ) (reaches : Reaches (length script) next found)

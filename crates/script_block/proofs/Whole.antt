@@ -7,7 +7,7 @@ use lib.ListN.{length, take, drop, drop-of-length-le, replicate}
 use borrow.Author.Tests.{le-ltb}
 use Rattle.model.specs.Sequences.{World}
 use Rattle.script.specs.Lines.{linesOf, split, closed, lineFeed}
-use Rattle.script.specs.Program.{Ran, andThen, runLines, runScript, longestScript, programRoom, firstWorld}
+use Rattle.script.specs.Program.{Ran, andThen, runLines, runScript, longestScript, programLimit, firstWorld}
 use Rattle.script_block.specs.Blocks.{RunsBlock, Blocks}
 use Rattle.script_block.proofs.Lines.{lines-both}
 
@@ -39,6 +39,6 @@ blocks-answer (Blocks.more block filled ran blocks) = block-then _ _ _ _ _ _ _ b
 
 -- what a program writes that begins with no store and takes block after block is what the script is to be answered with
 pub script-answered : (script written : List ℕ) → length script ≤ longestScript
-    → Blocks script firstWorld (replicate (programRoom * 2) 0) 0 written → written ≡ runScript script
+    → Blocks script firstWorld (replicate (programLimit * 2) 0) 0 written → written ≡ runScript script
 unfolding runScript
 script-answered script written h b = rw (le-ltb longestScript (length script) h) (blocks-answer b)

@@ -5,6 +5,7 @@ use libc::STDOUT_FILENO;
 use script_block::BLOCK_ROOM;
 use script_block::run_block;
 use script_run::answer::PAIR_ROOM;
+use script_run::answer::PROGRAM_LIMIT;
 ghost use Prim.Native.Nat.{_≤_};
 ghost use lib.ListN.{length};
 ghost use Rattle.script_main.specs.Input.{Within};
@@ -12,10 +13,8 @@ ghost use Rattle.script_main.specs.Input.{Within};
 // The bytes of the longest script.
 const LONGEST_SCRIPT: usize = 65536;
 
-// The most buckets of a table and the most entries of a store, each entry three numbers.
-const BUCKET_ROOM: usize = 4096;
-
-const ENTRY_ROOM: usize = 12288;
+// Three numbers for each entry.
+const ENTRY_ROOM: usize = PROGRAM_LIMIT * 3;
 
 // Writes the front of a block, and answers whether that could be done. If not it says why.
 fn write_front(block: &[u8], filled: usize) -> bool
@@ -51,8 +50,8 @@ fn write_answers(
 }
 
 fn run_script(script: &[u8]) {
-    let mut first = [0u32; BUCKET_ROOM];
-    let mut second = [0u32; BUCKET_ROOM];
+    let mut first = [0u32; PROGRAM_LIMIT];
+    let mut second = [0u32; PROGRAM_LIMIT];
     let mut entries = [0u32; ENTRY_ROOM];
     let mut pairs = [0u32; PAIR_ROOM];
     let mut block = [0u8; BLOCK_ROOM];

@@ -1,17 +1,19 @@
 -- From what a call of the store answers to its reply, and from that to what the definitions say of the call.
 -- Assumes nothing.
 use Prim.Native.Nat.{ℕ}
-use mathlib.Core.Path.{_≡_, sym, ap, _∙_}
+use mathlib.Core.Path.{_≡_, sym, ap, ap₂, _∙_}
 use mathlib.Core.Bool.{cond}
 use mathlib.Core.List.{List, [], _∷_}
 use native.Mathlib.Omega.{arith}
 use lib.ListN.{take}
 use Rattle.model.specs.declared.State.{State}
 use Rattle.model.specs.declared.FindAnswer.{FindAnswer}
+use Rattle.model.specs.declared.InitAnswer.{InitAnswer}
+use Rattle.model.specs.declared.ResizeAnswer.{ResizeAnswer}
 use Rattle.model.specs.declared.StepAnswer.{StepAnswer}
-use Rattle.model.specs.Answers.{reply, findReply, stepReply}
+use Rattle.model.specs.Answers.{reply, initReply, findReply, resizeReply, stepReply}
 use Rattle.model.specs.Answers as answers
-use Rattle.model.specs.Calls.{After}
+use Rattle.model.specs.Calls.{After, init, resize}
 use Rattle.model.specs.Sequences.{World, world, Outcome, kept, left}
 use Rattle.script.specs.Program.{answered}
 use Rattle.script_run.specs.declared.answer.Reply.{Reply}
@@ -55,6 +57,23 @@ module _ (w : World) (lent : List ℕ) (r : Reply) where
   unfolding left outcome
   left-leaves {A} {a} {x} {y} {z} f d c q =
       plain-leaves (left f d) x y z (ap (λ (q : answers.Reply State). outcome q x y z) (q .reply) ∙ ap (left f) c) (q .handed)
+
+-- a start and a resize, for numbers that are known
+
+module _ (s : State) (first second entries lent : List ℕ) (r : Reply) (x y z : List ℕ) where
+  pub init-leaves : (a : InitAnswer) (capacity size n m : ℕ) → n ≡ capacity → m ≡ size
+      → After.after a x y z ≡ init first second entries n m → Replies r initReply a 0
+      → Leaves (answered (world s first second entries) (left initReply (init first second entries capacity size)) [] lent)
+      (world s first second entries) r x y z lent
+  init-leaves a capacity size n m e f c q =
+      left-leaves (world s first second entries) lent r initReply _ (c ∙ ap₂ (init first second entries) e f) q
+
+  pub resize-leaves : (a : ResizeAnswer) (size n : ℕ) → n ≡ size
+      → After.after a x y z ≡ resize s first second entries n → Replies r (resizeReply s) a 0
+      → Leaves (answered (world s first second entries) (left (resizeReply s) (resize s first second entries size)) [] lent)
+      (world s first second entries) r x y z lent
+  resize-leaves a size n e c q =
+      left-leaves (world s first second entries) lent r (resizeReply s) _ (c ∙ ap (resize s first second entries) e) q
 
 -- a find, which only reads
 pub find-leaves : (s : State) (first second entries lent : List ℕ) (r : Reply) (a d : FindAnswer) → a ≡ d

@@ -9,13 +9,13 @@ use Rattle.model.specs.Answers.{reply}
 use Rattle.model.specs.Answers as answers
 use Rattle.model.specs.Sequences.{World, Outcome, carriedState}
 use Rattle.script.specs.Answers.{answerLine, Wrote}
-use Rattle.script.specs.Program.{Ran, answered, programRoom}
+use Rattle.script.specs.Program.{Ran, answered, programLimit}
 use Rattle.script_run.specs.declared.answer.Reply.{Reply}
 use Rattle.script_run.specs.declared.answer.Values.{Values}
 
 -- the places of the list that walk calls are lent
 abbrev pub pairRoom : ℕ
-pairRoom = programRoom * 2
+pairRoom = programLimit * 2
 
 -- room for 0 and the line feed, then a cursor, a number of keys and the pairs, each number with its space
 abbrev pub lineRoom : ℕ

@@ -11,8 +11,11 @@ ghost use Rattle.model.specs.Answers.{errorNumber};
 ghost use Rattle.script.specs.Answers.{answerLine};
 ghost use Rattle.script_run.specs.Runs.{replied, valuesOf, handed, Room, Written, Told};
 
-// The places that a walk call is lent: two for each of 4,096 keys.
-pub const PAIR_ROOM: usize = 8192;
+// The largest capacity and the largest table size that the program takes. Its buffers have room for just these.
+pub const PROGRAM_LIMIT: usize = 4096;
+
+// The places that a walk call is lent: two for each key.
+pub const PAIR_ROOM: usize = PROGRAM_LIMIT * 2;
 
 // The bytes of the longest answer: 0 and the line feed, then a cursor, a number of keys and the pairs, each number with
 // its space.

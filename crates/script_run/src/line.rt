@@ -1,5 +1,6 @@
 // One line, by what it says.
 use crate::answer::LineAnswer;
+use crate::answer::PROGRAM_LIMIT;
 use crate::answer::Reply;
 use crate::answer::Values;
 use crate::answer::numbered;
@@ -23,11 +24,21 @@ use dict_tables::resize::resize;
 use model::State;
 use script::line::Command;
 use script::line::parse_line;
+ghost use mathlib.Core.Path.{_≡_};
 ghost use Prim.Native.Nat.{_≤_};
 ghost use lib.ListN.{length};
 ghost use Rattle.model.specs.Sequences.{world};
+ghost use Rattle.script.specs.Program as program;
 ghost use Rattle.script.specs.Program.{runCommand, runLine};
 ghost use Rattle.script_run.specs.Runs.{pairRoom, lineRoom, Leaves, Runs};
+
+// A capacity or a size as the store is asked for it. One above the program's limit is asked for as 0, so that the store
+// refuses it, and in its own order.
+fn limited(n: u32) -> u32
+    ensures { λ r. ⌜ r ≡ program.limited n ⌝ }
+{
+    if n as usize <= PROGRAM_LIMIT { n } else { 0 }
+}
 
 // The call that a line names. A bad line calls nothing, and is answered 10.
 fn run_command(
@@ -46,7 +57,7 @@ fn run_command(
     match command {
         Command::Bad => numbered(10, Values::None, s),
         Command::Init { capacity, size } => {
-            init_reply(init(first, second, entries, capacity, size))
+            init_reply(init(first, second, entries, limited(capacity), limited(size)))
         }
         Command::Add { key, value } => add_reply(s, add(first, second, entries, s, key, value)),
         Command::Update { key, value } => {
@@ -54,7 +65,7 @@ fn run_command(
         }
         Command::Delete(key) => delete_reply(s, delete(first, second, entries, s, key)),
         Command::Find(key) => find_reply(s, find(first, second, entries, s, key)),
-        Command::Resize(size) => resize_reply(s, resize(first, second, entries, s, size)),
+        Command::Resize(size) => resize_reply(s, resize(first, second, entries, s, limited(size))),
         Command::RehashStep => step_reply(s, rehash_step(first, second, entries, s)),
         Command::Scan(cursor) => scan_reply(s, scan(first, second, entries, pairs, s, cursor)),
     }

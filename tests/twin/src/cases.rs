@@ -26,6 +26,7 @@ pub fn all() -> Vec<Case> {
     let mut cases = specified();
     cases.extend(walks());
     cases.extend(states());
+    cases.extend(outside_the_limits());
     cases.extend(bad_and_odd_lines());
     cases.extend(whole_scripts());
     cases.extend(large());
@@ -202,12 +203,16 @@ fn specified() -> Vec<Case> {
                 ("N 1 4097", "6"),
                 ("N 1 2147483648", "6"),
                 ("N 1 4294967295", "6"),
+                ("R 4096", "6"),
+                ("R 8192", "6"),
                 ("N 1 1", "0"),
                 ("R 4095", "6"),
                 ("R 8192", "6"),
                 ("R 0", "6"),
                 ("R 1", "6"),
                 ("R 4096", "0"),
+                ("S", "0 0 0"),
+                ("R 8192", "6"),
             ],
         ),
         dialogue(
@@ -347,25 +352,6 @@ fn states() -> Vec<Case> {
             ],
         ),
         dialogue(
-            "a refused N keeps the old store",
-            &[
-                ("N 4 4", "0"),
-                ("A 1 10", "0"),
-                ("N 0 4", "6"),
-                ("N 4097 4", "6"),
-                ("N 4 5", "6"),
-                ("F 1", "0 10"),
-                ("R 8", "0"),
-                ("A 5 50", "0"),
-                ("N 4 8192", "6"),
-                ("C 1", "0 3 2 1 10 5 50"),
-                ("S", "0 1 1"),
-                ("N 4 0", "6"),
-                ("S", "0 0 0"),
-                ("S", "8"),
-            ],
-        ),
-        dialogue(
             "a second good N is a new store",
             &[
                 ("N 1 4", "0"),
@@ -416,6 +402,28 @@ fn states() -> Vec<Case> {
                 ("S", "8"),
                 ("R 2", "6"),
                 ("R 4", "0"),
+            ],
+        ),
+        dialogue(
+            "moves to 4,096 buckets in either buffer",
+            &[
+                ("N 1 1", "0"),
+                ("A 4095 7", "0"),
+                ("R 4096", "0"),
+                ("S", "0 1 1"),
+                ("S", "0 0 0"),
+                ("C 4095", "0 0 1 4095 7"),
+                ("R 2", "0"),
+                ("S", "0 1 1"),
+                ("S", "0 0 0"),
+                ("R 1", "0"),
+                ("S", "0 1 1"),
+                ("S", "0 0 0"),
+                ("R 4096", "0"),
+                ("S", "0 1 1"),
+                ("S", "0 0 0"),
+                ("C 4095", "0 0 1 4095 7"),
+                ("C 4094", "0 1 0"),
             ],
         ),
         dialogue(
@@ -531,6 +539,80 @@ fn states() -> Vec<Case> {
             ],
         ),
     ]
+}
+
+/// Lines with a capacity or a size that the program refuses, be it legal for the
+/// library or not. Each comes in every state of the store.
+fn outside_the_limits() -> Vec<Case> {
+    let starts = [
+        "N 0 4",
+        "N 4097 4",
+        "N 5000 4",
+        "N 65536 4",
+        "N 65537 4",
+        "N 4 0",
+        "N 4 5",
+        "N 4 4095",
+        "N 4 8192",
+        "N 4 65536",
+        "N 4 131072",
+        "N 65536 65536",
+        "N 4294967295 4294967295",
+    ];
+    let resizes = [
+        "R 0", "R 4095", "R 4097", "R 5000", "R 8192", "R 65536", "R 65537", "R 131072",
+    ];
+    let starts = starts.into_iter().map(refused_start);
+    let resizes = resizes.into_iter().map(refused_resize);
+    starts.chain(resizes).collect()
+}
+
+/// A refused start keeps the store that there was, and a move under way.
+fn refused_start(line: &str) -> Case {
+    dialogue(
+        &format!("{line} keeps the old store"),
+        &[
+            (line, "6"),
+            ("F 1", "1"),
+            ("N 2 4", "0"),
+            ("A 1 10", "0"),
+            (line, "6"),
+            ("F 1", "0 10"),
+            ("R 8", "0"),
+            ("A 5 50", "0"),
+            (line, "6"),
+            ("C 1", "0 3 2 1 10 5 50"),
+            ("S", "0 1 1"),
+            (line, "6"),
+            ("S", "0 0 0"),
+            (line, "6"),
+            ("S", "8"),
+            ("C 1", "0 5 1 1 10"),
+            ("A 2 20", "5"),
+        ],
+    )
+}
+
+/// A resize tells of a state of zeros first, then of a move, and then of its size.
+fn refused_resize(line: &str) -> Case {
+    dialogue(
+        &format!("{line} in every state of the store"),
+        &[
+            (line, "1"),
+            ("N 4 4", "0"),
+            ("A 1 10", "0"),
+            (line, "6"),
+            ("S", "8"),
+            ("R 8", "0"),
+            (line, "7"),
+            ("S", "0 1 1"),
+            (line, "7"),
+            ("S", "0 0 0"),
+            (line, "6"),
+            ("S", "8"),
+            ("C 1", "0 5 1 1 10"),
+        ],
+    )
 }
 
 /// Single lines between good ones. None of them changes the store.

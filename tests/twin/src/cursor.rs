@@ -74,7 +74,7 @@ mod tests {
 
     #[test]
     fn every_walk_visits_every_bucket_once() {
-        for exponent in 0..=12 {
+        for exponent in 0..=16 {
             let size = 1 << exponent;
             let mut visited = walk(size);
             assert_eq!(visited.pop(), Some(0));

@@ -74,7 +74,7 @@ mod tests {
 
     #[test]
     fn a_bucket_is_a_part() {
-        for parts in [1, 2, 4, 64, 4096] {
+        for parts in [1, 2, 4, 64, 4096, 65_536] {
             for cursor in 0..100 {
                 let part = part(place(cursor), parts);
                 for key in numbers() {
@@ -88,10 +88,11 @@ mod tests {
     /// The model reckons another way, and comes to the same.
     #[test]
     fn the_model_goes_along_the_line() {
-        for small in [1, 2, 4, 32, 1024] {
-            for large in [2 * small, 4 * small, 4096]
+        for small in [1, 2, 4, 32, 1024, 16_384] {
+            // Sizes further apart make groups too long for a quick test.
+            for large in [2 * small, 4 * small, 4096, 65_536]
                 .into_iter()
-                .filter(|&n| n <= 4096)
+                .filter(|&large| small < large && large <= 4096 * small)
             {
                 for cursor in numbers() {
                     let at = place(cursor);

@@ -5,6 +5,11 @@ use crate::store::{Refusal, Store};
 /// The longest script that is read; a longer one is a single bad line.
 pub const MAX_SCRIPT: usize = 65_536;
 
+/// The entries that the program has room for, and the buckets in each of its two
+/// buffers: the largest capacity and the largest size of its store. The limits of
+/// the library are higher.
+pub const ROOM: u32 = 4096;
+
 #[derive(Clone, Copy, Debug, PartialEq, Eq)]
 pub enum Command {
     Start { capacity: u32, size: u32 },
@@ -109,7 +114,7 @@ impl Program {
     pub fn run(&mut self, command: Command) -> Reply {
         if let Command::Start { capacity, size } = command {
             // A refused start leaves through `?` and keeps the old store.
-            self.store = Some(Store::start(capacity, size)?);
+            self.store = Some(start(capacity, size)?);
             return Ok(Vec::new());
         }
         let store = self.store.as_mut().ok_or(Refusal::BadState)?;
@@ -120,7 +125,7 @@ impl Program {
             Command::Update { key, value } => store.update(key, value)?,
             Command::Delete { key } => store.delete(key)?,
             Command::Find { key } => results.push(store.find(key)?),
-            Command::Resize { size } => store.resize(size)?,
+            Command::Resize { size } => resize(store, size)?,
             Command::Step => {
                 let step = store.step()?;
                 results.extend([step.moved as u32, u32::from(step.moving)]);
@@ -137,6 +142,23 @@ impl Program {
         }
         Ok(results)
     }
+}
+
+/// Starts a store that fits into the program's buffers.
+fn start(capacity: u32, size: u32) -> Result<Store, Refusal> {
+    if capacity > ROOM || size > ROOM {
+        return Err(Refusal::BadSize);
+    }
+    Store::start(capacity, size)
+}
+
+/// Begins a move to a table that fits into the program's buffers.
+fn resize(store: &mut Store, size: u32) -> Result<(), Refusal> {
+    // A move under way is told before any size is looked at.
+    if size > ROOM && !store.is_moving() {
+        return Err(Refusal::BadSize);
+    }
+    store.resize(size)
 }
 
 /// One line of a script, read, and its reply.

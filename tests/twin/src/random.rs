@@ -3,7 +3,7 @@
 //! The generator runs the model beside the script that it writes, because a
 //! walk has to be handed the cursors that its calls are answered.
 
-use crate::program::{Command, Program, MAX_SCRIPT};
+use crate::program::{Command, Program, MAX_SCRIPT, ROOM};
 use crate::store::{Aim, MAX_SIZE};
 
 /// The splitmix64 generator: small, quick, and good enough for scripts.
@@ -86,6 +86,20 @@ const MOODS: [Mood; 5] = [
     [1, 20, 60, 20, 60, 10, 20, 10, 20, 6],
     // Anything, wrong lines above all.
     [8, 20, 10, 10, 10, 20, 20, 20, 20, 60],
+];
+
+/// Capacities and sizes that the program has no room for. Some are legal for the
+/// library: a program that forgot its own limit would be found out by them.
+const BEYOND: [u32; 9] = [
+    ROOM + 1,
+    5000,
+    2 * ROOM,
+    MAX_SIZE / 2,
+    MAX_SIZE,
+    MAX_SIZE + 1,
+    2 * MAX_SIZE,
+    1 << 31,
+    u32::MAX,
 ];
 
 /// The keys of a script: few, and often of the same buckets.
@@ -270,12 +284,15 @@ impl Generator {
     }
 
     fn capacity(&mut self) -> u32 {
-        let near = 1 + self.random.below(self.keys.count);
-        if self.random.one_in(12) {
-            return self.random.pick(&[0, 4097, 5000, u32::MAX]);
+        if self.random.one_in(48) {
+            return 0;
         }
+        if self.random.one_in(16) {
+            return self.random.pick(&BEYOND);
+        }
+        let near = 1 + self.random.below(self.keys.count);
         self.random
-            .pick(&[1, 2, 5, near, near, near, 4095, 4096, 4096])
+            .pick(&[1, 2, 5, near, near, near, ROOM - 1, ROOM, ROOM])
     }
 
     fn start_size(&mut self) -> u32 {
@@ -287,14 +304,16 @@ impl Generator {
 
     fn legal_size(&mut self) -> u32 {
         // Small tables mostly: a walk of a large one fills a whole script.
-        let exponents = if self.random.one_in(12) { 13 } else { 6 };
-        1 << self.random.below(exponents)
+        let largest = if self.random.one_in(12) { ROOM } else { 32 };
+        1 << self.random.below(largest.ilog2() + 1)
     }
 
     fn illegal_size(&mut self) -> u32 {
+        if self.random.one_in(2) {
+            return self.random.pick(&BEYOND);
+        }
         let any = self.random.any();
-        self.random
-            .pick(&[0, 3, 5, 6, 12, 4095, 4097, 8192, 1 << 31, u32::MAX, any])
+        self.random.pick(&[0, 3, 5, 6, 12, ROOM - 1, any])
     }
 
     /// A size for a resize, by the size and the keys of the present store.
@@ -302,20 +321,20 @@ impl Generator {
         let legal = self.legal_size();
         let illegal = self.illegal_size();
         let Some(store) = self.program.store() else {
-            return legal;
+            return self.random.pick(&[legal, illegal]);
         };
         let size = store.size();
-        let doubled = (2 * size).min(MAX_SIZE);
+        let doubled = (2 * size).min(ROOM);
         let choices = [
             legal,
             legal,
             doubled,
             doubled,
-            (4 * size).min(MAX_SIZE),
+            (4 * size).min(ROOM),
             (size / 2).max(1),
             (size / 2).max(1),
             (size / 4).max(1),
-            store.suggested_size(Aim::Grow),
+            store.suggested_size(Aim::Grow).min(ROOM),
             store.suggested_size(Aim::Shrink),
             size,
             illegal,
@@ -377,7 +396,8 @@ impl Generator {
 #[cfg(test)]
 mod tests {
     use super::*;
-    use crate::program::replies;
+    use crate::program::{lines, replies};
+    use crate::store::{is_legal_capacity, is_legal_size, Store};
     use crate::walk::{Tally, Witness};
     use std::collections::BTreeMap;
 
@@ -389,6 +409,11 @@ mod tests {
         assert_ne!(script(script_seed(1, 2)), script(script_seed(2, 1)));
     }
 
+    /// Many, since most keys that come more than once are those of a few long scripts.
+    fn thousand_scripts() -> impl Iterator<Item = Vec<u8>> {
+        (0..1000).map(|number| script(script_seed(1, number)))
+    }
+
     /// Lazy scripts would agree with any program: every answer that a script
     /// can bring about has to come up often, and so do walks through resizes,
     /// with keys that come again as a table shrinks or are added ahead.
@@ -397,8 +422,7 @@ mod tests {
         let mut answers: BTreeMap<u32, usize> = BTreeMap::new();
         let mut sum = Tally::default();
         let mut longest = 0;
-        for number in 0..300 {
-            let script = script(script_seed(1, number));
+        for script in thousand_scripts() {
             longest = longest.max(script.len());
             let mut witness = Witness::default();
             for exchange in replies(&script) {
@@ -412,10 +436,54 @@ mod tests {
             answers.keys().copied().collect::<Vec<_>>(),
             [0, 1, 3, 4, 5, 6, 7, 8, 10]
         );
-        assert!(answers.values().all(|&count| count > 200), "{answers:?}");
-        assert!(sum.ended > 1000 && sum.resized > 300, "{sum:?}");
-        assert!(sum.shrunk > 300 && sum.repeated > 300, "{sum:?}");
-        assert!(sum.late > 1000, "{sum:?}");
+        assert!(answers.values().all(|&count| count > 700), "{answers:?}");
+        assert!(sum.ended > 3000 && sum.resized > 1000, "{sum:?}");
+        assert!(sum.shrunk > 1000 && sum.repeated > 1000, "{sum:?}");
+        assert!(sum.late > 3000, "{sum:?}");
         assert!(longest <= MAX_SCRIPT && longest > 20_000, "{longest}");
+    }
+
+    /// Whether the program's own limit is all that speaks against the line.
+    fn lacks_room(command: Command) -> bool {
+        match command {
+            Command::Start { capacity, size } => {
+                is_legal_capacity(capacity) && is_legal_size(size) && capacity.max(size) > ROOM
+            }
+            Command::Resize { size } => is_legal_size(size) && size > ROOM,
+            _ => false,
+        }
+    }
+
+    /// Such lines have to come up with no store yet, at rest and during a move,
+    /// or no script would tell the program's limit from the library's.
+    #[test]
+    fn scripts_ask_for_more_than_the_room_in_every_state() {
+        let mut refusals: BTreeMap<(Option<bool>, u8, u32), usize> = BTreeMap::new();
+        for script in thousand_scripts() {
+            let mut program = Program::default();
+            for line in lines(&script) {
+                let Some(command) = Command::parse(line) else {
+                    continue;
+                };
+                let moving = program.store().map(Store::is_moving);
+                let reply = program.run(command);
+                if lacks_room(command) {
+                    let refusal = reply.unwrap_err() as u32;
+                    *refusals.entry((moving, line[0], refusal)).or_default() += 1;
+                }
+            }
+        }
+        assert_eq!(
+            refusals.keys().copied().collect::<Vec<_>>(),
+            [
+                (None, b'N', 6),
+                (None, b'R', 1),
+                (Some(false), b'N', 6),
+                (Some(false), b'R', 6),
+                (Some(true), b'N', 6),
+                (Some(true), b'R', 7),
+            ]
+        );
+        assert!(refusals.values().all(|&count| count > 10), "{refusals:?}");
     }
 }

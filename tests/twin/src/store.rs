@@ -3,12 +3,15 @@
 //! Lent buffers, links and the free chain are left out on purpose: nothing of
 //! them shows in what the program writes. What does show is kept exactly: the
 //! order of every chain, the counts, the refusals and their order.
+//!
+//! The limits here are the library's. Those of the program are lower, and its own.
 
 use crate::cursor;
 use std::collections::VecDeque;
 
-pub const MAX_CAPACITY: u32 = 4096;
-pub const MAX_SIZE: u32 = 4096;
+pub const MAX_CAPACITY: u32 = 65_536;
+/// Of a table, and of a suggested size too.
+pub const MAX_SIZE: u32 = 65_536;
 
 /// The refusals that a script can bring about. The specification's 2 (damaged) and
 /// 9 (short) need memory that the program never lends.
@@ -156,6 +159,10 @@ impl Store {
         self.table.size()
     }
 
+    pub fn is_moving(&self) -> bool {
+        self.rehash.is_some()
+    }
+
     pub fn find(&self, key: u32) -> Result<u32, Refusal> {
         self.table
             .find(key)
@@ -201,7 +208,7 @@ impl Store {
 
     /// Begins a move to a table of `size` buckets; moves nothing yet.
     pub fn resize(&mut self, size: u32) -> Result<(), Refusal> {
-        if self.rehash.is_some() {
+        if self.is_moving() {
             return Err(Refusal::Moving);
         }
         if !is_legal_size(size) || size == self.size() {
@@ -308,15 +315,17 @@ mod tests {
 
     #[test]
     fn limits_of_start() {
-        assert!(Store::start(4096, 4096).is_ok());
-        assert!(Store::start(1, 1).is_ok());
+        for (capacity, size) in [(1, 1), (4097, 8192), (65_536, 65_536)] {
+            assert!(Store::start(capacity, size).is_ok());
+        }
         for (capacity, size) in [
-            (1, 4095),
-            (1, 8192),
+            (1, 65_535),
+            (1, 65_537),
+            (1, 131_072),
             (1, 0),
             (1, 3),
             (0, 1),
-            (4097, 1),
+            (65_537, 1),
             (u32::MAX, 1),
             (1, 1 << 31),
         ] {
@@ -337,15 +346,20 @@ mod tests {
 
     #[test]
     fn suggested_sizes() {
-        let size = |held: u32, aim| store(4096, 1, 0..held).suggested_size(aim);
-        assert_eq!((size(5, Aim::Grow), size(5, Aim::Shrink)), (16, 8));
-        assert_eq!((size(0, Aim::Grow), size(0, Aim::Shrink)), (1, 1));
-        assert_eq!((size(1, Aim::Grow), size(1, Aim::Shrink)), (2, 1));
-        assert_eq!((size(8, Aim::Grow), size(8, Aim::Shrink)), (16, 8));
-        assert_eq!(
-            (size(2049, Aim::Grow), size(2049, Aim::Shrink)),
-            (4096, 4096)
-        );
+        for (held, grown, shrunk) in [
+            (5, 16, 8),
+            (0, 1, 1),
+            (1, 2, 1),
+            (8, 16, 8),
+            (2049, 8192, 4096),
+            (32_768, 65_536, 32_768),
+            (32_769, 65_536, 65_536),
+            (65_536, 65_536, 65_536),
+        ] {
+            let store = store(65_536, 65_536, 0..held);
+            assert_eq!(store.suggested_size(Aim::Grow), grown, "{held} keys");
+            assert_eq!(store.suggested_size(Aim::Shrink), shrunk, "{held} keys");
+        }
     }
 
     #[test]
@@ -441,8 +455,34 @@ mod tests {
         let mut store = store(8, 4, []);
         assert_eq!(store.resize(4), Err(Refusal::BadSize));
         assert_eq!(store.resize(3), Err(Refusal::BadSize));
-        assert_eq!(store.resize(8192), Err(Refusal::BadSize));
-        store.resize(4096).unwrap();
+        assert_eq!(store.resize(131_072), Err(Refusal::BadSize));
+        store.resize(65_536).unwrap();
+        assert_eq!(store.resize(131_072), Err(Refusal::Moving));
         assert_eq!(store.resize(3), Err(Refusal::Moving));
+    }
+
+    /// Full, walked from end to end, and moved into one bucket.
+    #[test]
+    fn the_largest_store() {
+        let mut store = store(65_536, 65_536, 0..65_536);
+        assert_eq!(store.add(65_536, 0), Err(Refusal::Full));
+
+        let mut handed = Vec::new();
+        let mut cursor = 0;
+        for calls in 1..=65_536 {
+            let scan = store.scan(cursor);
+            handed.extend(keys(&scan));
+            cursor = scan.next;
+            assert_eq!(cursor == 0, calls == 65_536);
+        }
+        handed.sort_unstable();
+        assert!(handed.into_iter().eq(0..65_536));
+
+        store.resize(1).unwrap();
+        store.step().unwrap();
+        let scan = store.scan(0);
+        assert_eq!((scan.next, scan.entries.len()), (0, 65_536));
+        finish(&mut store);
+        assert_eq!((store.size(), store.held()), (1, 65_536));
     }
 }

@@ -3,10 +3,10 @@
 //! how often a walk hands out a key and which of the keys that come meanwhile
 //! it must hand out, and of each walk call demand 2.
 //!
-//! It has nothing in common with the store. The limits and the numbers of the
-//! answers stand here once more, from the specification; the plain map, the live sizes
-//! and which keys are in the new table it learns from calls and answers; and
-//! where a walk goes it reads off the line of `line.rs`. Left to the store is
+//! It has nothing in common with the store. The program's limits and the numbers
+//! of the answers stand here once more, from the specification; the plain map, the
+//! live sizes and which keys are in the new table it learns from calls and answers;
+//! and where a walk goes it reads off the line of `line.rs`. Left to the store is
 //! only in which order a bucket's own keys come.
 
 use crate::line::{self, number_at, part, place};
@@ -25,9 +25,10 @@ const MOVING: u32 = 7;
 const NOT_MOVING: u32 = 8;
 const BAD_LINE: u32 = 10;
 
+/// The largest capacity that a script may ask for, whatever the library allows.
 const LARGEST_CAPACITY: u32 = 4096;
 
-/// All sizes that a table may have.
+/// All sizes that a script may ask for.
 const SIZES: [u32; 13] = [1, 2, 4, 8, 16, 32, 64, 128, 256, 512, 1024, 2048, 4096];
 
 /// More walks than this are not followed at one time. Any choice of a run's
@@ -854,14 +855,20 @@ mod tests {
         for (script, wrong) in [
             ("N 4096 4096\n", Err(Refusal::BadSize)),
             ("N 4097 4096\n", Ok(vec![])),
+            ("N 65536 4096\n", Ok(vec![])),
             ("N 0 4096\n", Ok(vec![])),
             ("N 1 8192\n", Ok(vec![])),
+            ("N 1 65536\n", Ok(vec![])),
             ("N 1 4095\n", Ok(vec![])),
             ("N 1 0\n", Ok(vec![])),
             ("N 1 1\nR 4096\n", Err(Refusal::BadSize)),
             ("N 1 1\nR 8192\n", Ok(vec![])),
+            ("N 1 1\nR 65536\n", Ok(vec![])),
             ("N 1 1\nR 3\n", Ok(vec![])),
             ("N 1 1\nR 1\n", Ok(vec![])),
+            // What comes before a size that is too large.
+            ("R 8192\n", Err(Refusal::BadSize)),
+            ("N 1 1\nR 2\nR 8192\n", Err(Refusal::BadSize)),
         ] {
             assert!(forged(script, wrong).is_err(), "{script}");
         }

@@ -4,7 +4,7 @@ use Prim.Native.Nat.{suc, _-_}
 use borrow.Author.Needs.{needs}
 use native.Mathlib.Omega.{arith}
 use lib.ListN.{length}
-use Rattle.script.specs.Program.{programRoom}
+use Rattle.script.specs.Program.{programLimit}
 use Rattle.script_block.proofs.Gathering.{Gathering, gathering-start, room-left, starts, ends, turn-less, block-full, block-last, next-fits, gathering-next}
 use Rattle.script_block.proofs.run_block.Statement.{statement}
 use Rattle.script_block.proofs.run_block.Tie as tie
@@ -24,7 +24,7 @@ returns : tie.Need-returns Inv-loop μ-loop
 returns c = search block-last
 
 run-one-requires : tie.Need-run-one-requires Inv-loop μ-loop
-unfolding programRoom
+unfolding programLimit
 run-one-requires c κs = (search room-left, (search starts, search ends))
 
 add-next : tie.Need-add-next Inv-loop μ-loop
@@ -40,7 +40,7 @@ loop-again : tie.Need-loop-again Inv-loop μ-loop
 loop-again c = search gathering-next
 
 returns-2 : tie.Need-returns-2 Inv-loop μ-loop
-unfolding programRoom
+unfolding programLimit
 returns-2 c = search block-full
 
 pub run-block-spec : {M : Type 1} → statement M

@@ -3,7 +3,7 @@
 use borrow.Author.Needs.{needs}
 use Rattle.model.specs.Sequences.{world, given, perform}
 use Rattle.script.specs.Program.{called, walked, runCommand}
-use Rattle.script_run.proofs.Calls.{left-leaves, find-leaves}
+use Rattle.script_run.proofs.Calls.{left-leaves, init-leaves, resize-leaves, find-leaves}
 use Rattle.script_run.proofs.Walk.{scan-leaves}
 use Rattle.script_run.proofs.Commands.{command-leaves, bad-leaves}
 use Rattle.script_run.proofs.line.run_command.Statement.{statement}
@@ -14,7 +14,7 @@ returns c = search (command-leaves, bad-leaves)
 
 returns-2 : tie.Need-returns-2
 unfolding runCommand called perform given world
-returns-2 c = search (command-leaves, left-leaves)
+returns-2 c = search (command-leaves, init-leaves)
 
 returns-3 : tie.Need-returns-3
 unfolding runCommand called perform given world
@@ -34,7 +34,7 @@ returns-6 c = search (command-leaves, find-leaves)
 
 returns-7 : tie.Need-returns-7
 unfolding runCommand called perform given world
-returns-7 c = search (command-leaves, left-leaves)
+returns-7 c = search (command-leaves, resize-leaves)
 
 returns-8 : tie.Need-returns-8
 unfolding runCommand called perform given world
@@ -53,7 +53,6 @@ run-command-spec =
     (λ c. search needs)
     (λ c κs. search needs)
     (λ c κs. search needs)
-    (λ c. search needs)
     (λ c κs. search needs)
     (λ c κs. search needs)
     (λ c. search needs)
@@ -66,6 +65,10 @@ run-command-spec =
     (λ c κs. search needs)
     (λ c κs. search needs)
     (λ c. search needs)
+    (λ c κs. search needs)
+    (λ c κs. search needs)
+    (λ c. search needs)
+    (λ c κs. search needs)
     (λ c κs. search needs)
     (λ c κs. search needs)
     (λ c. search needs)

@@ -19,15 +19,16 @@ use Rattle.model.specs.declared.ScanAnswer.{ScanAnswer}
 use Rattle.model.specs.Keys.{bucketOf, hash}
 use Rattle.model.specs.Memory.{sizeOf, usedOf, bucketsOf, keysHeld, Place, headAt, budgetAt, chainAt, chain}
 use Rattle.model.specs.Calls.{oriented}
-use Rattle.model.specs.Walk.{AfterScan, Tables, tablesBy, tablesOf, group, smallFirst, groupPlaces, joined, chainsAt, scanned}
+use Rattle.model.specs.Walk.{AfterScan, Tables, tablesBy, tablesOf, group, smallFirst, groupPlaces, joined, chainsAt, atMost, scanned}
 use Rattle.model.specs.Walk as walk
 use Rattle.model.proofs.Soundness.{Sound}
+use Rattle.model.proofs.AtMost.{at-most-few}
 use Rattle.memory.specs.Lent.{soundLent}
 use Rattle.memory.proofs.Tested.{lent-first, lent-second}
 use Rattle.memory.proofs.Orientation.{read-first, read-second, oriented-map, reading-refused, reading-sound}
 use Rattle.scan_group.specs.Tables.{TableIn}
 use Rattle.scan_group.specs.Chains.{chains}
-use Rattle.scan_group.proofs.Chains.{joined-end}
+use Rattle.scan_group.proofs.Chains.{joined-end, chain-short}
 use Rattle.dict_scan.specs.Tables.{Holding, One, Two}
 use Rattle.dict_scan.specs.Groups.{scannedTwo, scannedBoth}
 
@@ -59,16 +60,23 @@ module _ (s : State) (entries list : List ℕ) (cursor : ℕ) where
   scannedBy : Bool → List ℕ → List ℕ → AfterScan
   scannedBy rehashing current other =
       let tables = tablesBy rehashing (s .«old_size») (s .«new_size») in
-      scanned entries list (group tables cursor .answered) (chainsAt s current other entries (groupPlaces tables cursor))
+      scanned entries list (group tables cursor .answered)
+      (atMost (keysHeld s) (chainsAt s current other entries (groupPlaces tables cursor)))
 
+  -- one chain has no more entries than its table holds keys
   scanned-resting : (current other : List ℕ)
       → scanned entries list (oneTable (s .«old_size») cursor .answered)
       (chain entries (s .capacity) (s .«old_used») (getD current (bucketOf cursor (s .«old_size»)) 0))
       ≡ scannedBy false current other
-  unfolding scannedBy tablesBy group groupPlaces oneTable usedOf bucketsOf chains bucketOf hash
+  unfolding scannedBy tablesBy group groupPlaces oneTable usedOf bucketsOf keysHeld chains bucketOf hash
   scanned-resting current other =
+      let head = getD current (bucketOf cursor (s .«old_size»)) 0 in
       ap (scanned entries list (oneTable (s .«old_size») cursor .answered))
-      (sym (joined-end _) ∙ sym (group-chains s current other entries Table.Old Table.New (oneTable (s .«old_size») cursor)))
+      (sym
+      (at-most-few (s .«old_used» + s .«new_used») (chain entries (s .capacity) (s .«old_used») head)
+      (omega (arith, chain-short entries (s .capacity) (s .«old_used») head)))
+      ∙ ap (atMost (s .«old_used» + s .«new_used»))
+      (sym (joined-end _) ∙ sym (group-chains s current other entries Table.Old Table.New (oneTable (s .«old_size») cursor))))
 
   module _ (current other : List ℕ) where
     -- the smaller table and the larger one, whichever they are
@@ -80,29 +88,32 @@ module _ (s : State) (entries list : List ℕ) (cursor : ℕ) where
         scannedTwo entries list (s .capacity) (getD (bucketsOf current other t) (bucketOf cursor (sizeOf s t)) 0)
         (bucketsOf current other u) (usedOf s t) (usedOf s u) (sizeOf s t) (sizeOf s u) cursor
 
-    in-order : (t u : Table)
+    in-order : (t u : Table) → usedOf s t + usedOf s u ≡ keysHeld s
         → inOrder t u
-        ≡ scanned entries list (groupOf t u .answered) (chainsAt s current other entries (smallFirst t u (groupOf t u)))
+        ≡ scanned entries list (groupOf t u .answered)
+        (atMost (keysHeld s) (chainsAt s current other entries (smallFirst t u (groupOf t u))))
     unfolding inOrder groupOf scannedTwo twoTables bucketOf hash
-    in-order t u =
-        ap (scanned entries list (groupOf t u .answered)) (sym (group-chains s current other entries t u (groupOf t u)))
+    in-order t u keys =
+        ap (scanned entries list (groupOf t u .answered))
+        (rw keys (ap (atMost (keysHeld s)) (sym (group-chains s current other entries t u (groupOf t u)))))
 
     scanned-rehashing : scannedBoth entries list (s .capacity) current other (s .«old_used») (s .«new_used») (s .«old_size»)
         (s .«new_size») cursor
         ≡ scannedBy true current other
-    unfolding scannedBy tablesBy group groupPlaces scannedBoth inOrder groupOf sizeOf usedOf bucketsOf
+    unfolding scannedBy tablesBy group groupPlaces scannedBoth inOrder groupOf sizeOf usedOf bucketsOf keysHeld
     scanned-rehashing = pick (ltb (s .«old_size») (s .«new_size»))
       where
         pick : (old-smaller : Bool)
             → cond old-smaller (inOrder Table.Old Table.New) (inOrder Table.New Table.Old)
             ≡ scanned entries list
             (cond old-smaller (groupOf Table.Old Table.New) (groupOf Table.New Table.Old) .answered)
+            (atMost (keysHeld s)
             (chainsAt s current other entries
             (cond old-smaller
             (smallFirst Table.Old Table.New (groupOf Table.Old Table.New))
-            (smallFirst Table.New Table.Old (groupOf Table.New Table.Old))))
-        pick true = in-order Table.Old Table.New
-        pick false = in-order Table.New Table.Old
+            (smallFirst Table.New Table.Old (groupOf Table.New Table.Old)))))
+        pick true = in-order Table.Old Table.New refl
+        pick false = in-order Table.New Table.Old (omega arith)
 
 -- The call on the lent buffers.
 
@@ -182,7 +193,6 @@ module _ (flag : Bool) (s : State) (first second entries : List ℕ) (f : s .«s
         new-in = record { legal = new .new-legal; fits = new .new-fits };
         sizes-differ = new .sizes-differ;
         entries-fit = sound .entries-fit;
-        capacity-limit = sound .capacity-limit;
         keys-fit = sound .used-fits;
       }
 

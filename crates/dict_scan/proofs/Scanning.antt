@@ -16,17 +16,17 @@ use Rattle.model.specs.declared.Error.{Error}
 use Rattle.model.specs.declared.ScanAnswer.{ScanAnswer}
 use Rattle.model.specs.Keys.{bucketOf}
 use Rattle.model.specs.Memory.{keyOf, valueOf, chain, listed}
-use Rattle.model.specs.Walk.{AfterScan, joined, pairs, scanned}
+use Rattle.model.specs.Walk.{AfterScan, joined, atMost, pairs, scanned}
+use Rattle.model.proofs.AtMost.{at-most-sound}
 use Rattle.model.proofs.Pairs.{length-pairs}
 use Rattle.memory.specs.declared.chain.ChainLength.{ChainLength}
 use Rattle.memory.specs.Length.{lengthOf}
 use Rattle.memory.proofs.Counted.{counted, uncounted}
-use Rattle.scan_group.specs.Tables.{Both}
 use Rattle.scan_group.specs.Chains.{chains, linked, allLinked}
 use Rattle.scan_group.specs.Written.{written, Writable}
 use Rattle.scan_group.proofs.Buckets.{bucketsFrom, one-answered, two-answered}
 use Rattle.scan_group.proofs.Chains.{joined-parts, linked-same, all-linked-same}
-use Rattle.dict_scan.specs.Tables.{One, Two}
+use Rattle.dict_scan.specs.Tables.{One, Both, Two}
 use Rattle.dict_scan.specs.Groups.{scannedTwo, scannedBoth}
 
 -- from the front of the list, the pairs and then what was there
@@ -101,32 +101,40 @@ module _ (entries list : List ℕ) (capacity used size head n : ℕ) (r : ChainL
 
 -- Two live tables.
 
-module _ (entries larger list : List ℕ) (capacity small-used large-used small large cursor head n : ℕ) (r : ChainLength)
-    (g : Both larger entries capacity small-used large-used small large)
-    (l : r
-    ≡ lengthOf
-    (joined (chain entries capacity small-used head) (chains entries capacity large-used larger (bucketsFrom small large cursor))))
-    (s : r ≡ ChainLength.Sound n) (h : n * 2 ≤ length list) where
-  same-group : joined (linked entries head) (allLinked entries larger (bucketsFrom small large cursor))
-      ≡ joined (chain entries capacity small-used head) (chains entries capacity large-used larger (bucketsFrom small large cursor))
-  same-group =
-      let bs = bucketsFrom small large cursor in
-      let p = joined-parts (chain entries capacity small-used head) (chains entries capacity large-used larger bs) (counted r n _ s l .0) in
-      let fit = g .larger-reads .entries-fit in
-      rw (linked-same entries capacity small-used fit (omega arith) head (p .left), all-linked-same entries capacity large-used fit (omega arith) larger bs (p .right))
+module _ (entries larger list : List ℕ) (capacity small-used large-used small large cursor head : ℕ) where
+  -- the entries of the group as they are read, and as they are written
+  abbrev pub read : Option (List ℕ)
+  read =
+      joined (chain entries capacity small-used head)
+      (chains entries capacity large-used larger (bucketsFrom small large cursor))
 
-  pub two-writable : Writable list 0 (joined (linked entries head) (allLinked entries larger (bucketsFrom small large cursor)))
-  two-writable = writable entries list 0 _ r l n s _ same-group h
+  abbrev pub walked : Option (List ℕ)
+  walked = joined (linked entries head) (allLinked entries larger (bucketsFrom small large cursor))
 
-  pub two-written : (turned : ℕ) (list′ : List ℕ) → ((c : ℕ) → small ≡ 2 ^ c → turned ≡ next small cursor)
-      → list′
-      ≡ written entries list 0 (listed (joined (linked entries head) (allLinked entries larger (bucketsFrom small large cursor))))
+  module _ (limit n : ℕ) (r : ChainLength) (g : Both larger entries capacity small-used large-used small large)
+      (l : r ≡ lengthOf (atMost limit read)) (s : r ≡ ChainLength.Sound n) (h : n * 2 ≤ length list) where
+    same-group : walked ≡ atMost limit read
+    same-group =
+        let bs = bucketsFrom small large cursor in
+        let (same, sound) = at-most-sound limit read _ (counted r n _ s l .0) in
+        let p = joined-parts (chain entries capacity small-used head) (chains entries capacity large-used larger bs) sound in
+        let fit = g .larger-reads .entries-fit in
+        rw (same, linked-same entries capacity small-used fit (omega arith) head (p .left), all-linked-same entries capacity large-used fit (omega arith) larger bs (p .right))
+
+    pub two-writable : Writable list 0 walked
+    two-writable = writable entries list 0 _ r l n s _ same-group h
+
+  pub two-written : (n : ℕ) (r : ChainLength) (turned : ℕ) (list′ : List ℕ)
+      → Both larger entries capacity small-used large-used small large
+      → r ≡ lengthOf (atMost (small-used + large-used) read) → r ≡ ChainLength.Sound n → n * 2 ≤ length list
+      → ((c : ℕ) → small ≡ 2 ^ c → turned ≡ next small cursor)
+      → list′ ≡ written entries list 0 (listed walked)
       → AfterScan.after (ScanAnswer.Scanned turned n) list′
       ≡ scannedTwo entries list capacity head larger small-used large-used small large cursor
   unfolding scannedTwo
-  two-written turned list′ t w =
+  two-written n r turned list′ g l s h t w =
       rw (two-answered larger small large cursor turned (g .larger-reads .sizes) t)
-      (scanned-written entries list _ _ r l n s list′ _ same-group h w)
+      (scanned-written entries list _ _ r l n s list′ _ (same-group (small-used + large-used) n r g l s h) h w)
 
 -- The smaller one first.
 
@@ -138,7 +146,6 @@ turned current other entries capacity old-used new-used old new g =
       new-in = g .old-in;
       sizes-differ = λ e. g .sizes-differ (sym e);
       entries-fit = g .entries-fit;
-      capacity-limit = g .capacity-limit;
       keys-fit = omega arith;
     }
 
@@ -151,8 +158,6 @@ old-smaller-reads current other entries capacity old-used new-used old new g l =
           record {
             sizes = record { small-legal = g .old-in .legal; large-in = g .new-in; smaller = l };
             entries-fit = g .entries-fit;
-            capacity-limit = g .capacity-limit;
-            used-fits = omega arith;
           };
       keys-fit = g .keys-fit;
     }

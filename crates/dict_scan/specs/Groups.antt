@@ -1,5 +1,5 @@
 -- What a walk call does with two live tables, over numbers.
-use Prim.Native.Nat.{ℕ}
+use Prim.Native.Nat.{ℕ, _+_}
 use mathlib.Core.Bool.{cond}
 use mathlib.Core.List.{List}
 use lib.ListN.{getD}
@@ -7,14 +7,16 @@ use lib.Dec.{ltb}
 use Rattle.cursor.specs.Group.{twoTables}
 use Rattle.model.specs.Keys.{bucketOf}
 use Rattle.model.specs.Memory.{chain}
-use Rattle.model.specs.Walk.{AfterScan, joined, scanned}
+use Rattle.model.specs.Walk.{AfterScan, joined, atMost, scanned}
 use Rattle.scan_group.specs.Chains.{chains}
 
 -- the chain of the smaller one's bucket has that head
 unfoldable pub scannedTwo : List ℕ → List ℕ → ℕ → ℕ → List ℕ → ℕ → ℕ → ℕ → ℕ → ℕ → AfterScan
 scannedTwo entries list capacity head larger small-used large-used small large cursor =
     let g = twoTables small large cursor in
-    scanned entries list (g .answered) (joined (chain entries capacity small-used head) (chains entries capacity large-used larger (g .large)))
+    scanned entries list (g .answered)
+    (atMost (small-used + large-used)
+    (joined (chain entries capacity small-used head) (chains entries capacity large-used larger (g .large))))
 
 -- the smaller one first
 unfoldable pub scannedBoth : List ℕ → List ℕ → ℕ → List ℕ → List ℕ → ℕ → ℕ → ℕ → ℕ → ℕ → AfterScan

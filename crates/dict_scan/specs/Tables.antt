@@ -5,9 +5,9 @@ use mathlib.Core.Bool.{Bool, true}
 use mathlib.Core.List.{List}
 use lib.ListN.{length}
 use Rattle.model.specs.declared.State.{State}
-use Rattle.model.specs.Limits.{legalSize, largestCapacity}
+use Rattle.model.specs.Limits.{legalSize}
 use Rattle.memory.specs.Lent.{soundLent}
-use Rattle.scan_group.specs.Tables.{TableIn}
+use Rattle.scan_group.specs.Tables.{TableIn, Larger}
 
 -- a sound state beside lent buffers of these lengths, some keys held, and whether a rehash is under way
 pub record Holding (first second entries : ℕ) (s : State) (rehashing : Bool) : Type 0 where
@@ -21,11 +21,15 @@ pub record One (entries : List ℕ) (capacity used size : ℕ) : Type 0 where
   pub entries-fit : capacity * 3 ≤ length entries
   pub used-fits : used ≤ capacity
 
--- two live tables
+-- two live tables, the smaller one and the larger one
+pub record Both (larger entries : List ℕ) (capacity small-used large-used small large : ℕ) : Type 0 where
+  pub larger-reads : Larger larger entries capacity small large
+  pub keys-fit : small-used + large-used ≤ capacity
+
+-- .. the old one and the new one
 pub record Two (current other entries : List ℕ) (capacity old-used new-used old new : ℕ) : Type 0 where
   pub old-in : TableIn current old
   pub new-in : TableIn other new
   pub sizes-differ : old ≡ new → ⊥
   pub entries-fit : capacity * 3 ≤ length entries
-  pub capacity-limit : capacity ≤ largestCapacity
   pub keys-fit : old-used + new-used ≤ capacity

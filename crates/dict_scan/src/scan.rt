@@ -18,8 +18,7 @@ ghost use Rattle.cursor.specs.Group.{oneTable};
 ghost use Rattle.model.specs.Memory.{chain};
 ghost use Rattle.model.specs.Walk as walk;
 ghost use Rattle.model.specs.Walk.AfterScan.{after};
-ghost use Rattle.scan_group.specs.Tables.{Both};
-ghost use Rattle.dict_scan.specs.Tables.{Holding, One, Two};
+ghost use Rattle.dict_scan.specs.Tables.{Holding, One, Both, Two};
 ghost use Rattle.dict_scan.specs.Groups.{scannedTwo, scannedBoth};
 
 // One live table: the chain of the cursor's bucket. Nothing is written before it was tested and the room is known.
@@ -52,8 +51,8 @@ fn scan_one(
     }
 }
 
-// Two live tables: the chain of the smaller one's bucket, then those of the larger one's buckets. The next cursor is that
-// of the smaller size.
+// Two live tables: the chain of the smaller one's bucket, then those of the larger one's buckets. A group with more entries
+// than keys are held is damaged. The next cursor is that of the smaller size.
 fn scan_two(
     head: u32,
     larger: &[u32],
@@ -72,6 +71,7 @@ fn scan_two(
         small large cursor ⌝ }
 {
     let next = next_cursor(small, cursor);
+    let keys = small_used + large_used;
     let length = count_group(
         head,
         larger,
@@ -79,6 +79,7 @@ fn scan_two(
         capacity,
         small_used,
         large_used,
+        keys,
         small,
         large,
         cursor,

@@ -1,12 +1,13 @@
 -- The table of cases holds: one test that is computed over the whole table, and a law that turns it into the statement at
--- each row. At size 1 it holds for every cursor, since the next cursor is below the size.
+-- each row. At size 1 it holds for every cursor, since the next cursor is below the size; and the suggested size is the largest
+-- for all numbers of keys above half of that.
 -- Assumes nothing.
-use Prim.Native.Nat.{ℕ}
+use Prim.Native.Nat.{ℕ, suc, _*_, _^_, _<_}
 use mathlib.Core.Path.{_≡_, refl, sym, ap₂, subst, _∙_}
 use mathlib.Core.Bool.{Bool, true, false, _&&_}
 use mathlib.Core.List.{List, [], _∷_}
 use native.Mathlib.Omega.{arith}
-use lib.Dec.{eqb, lit≤}
+use lib.Dec.{eqb, leb, lit≤}
 use Rattle.cursor.specs.Reverse.{rev, reverse}
 use Rattle.cursor.specs.Next.{next, setHigh, addOne}
 use Rattle.cursor.specs.Group.{Group, oneTable, twoTables, sweep, betweenZero}
@@ -14,7 +15,8 @@ use Rattle.cursor.proofs.NextCursor.{next-lt}
 use Rattle.model.specs.Limits.{largestExponent}
 use Rattle.model.specs.Calls.{suggested, powerFrom}
 use Rattle.model.specs.Cases.{Row, Gives, Walks, Holds, AllHold, cases}
-use Rattle.model.proofs.Tests.{Tells, told, tells-true, tells-same, tells-and, tells-eq}
+use Rattle.model.proofs.Tests.{Tells, told, tells-true, tells-same, tells-and, tells-eq, tells-le}
+use Rattle.model.proofs.Suggested.{growing-capped}
 
 same : List ℕ → List ℕ → Bool
 same [] [] = true
@@ -59,6 +61,8 @@ test (Row.at-two small large cursor bucket buckets next) = gives (twoTables smal
 test (Row.walk size cursors) = walks size cursors
 test (Row.at-any size next) = eqb size 1 && eqb next 0
 test (Row.suggests growing keys size) = eqb (suggested growing keys) size
+test (Row.suggests-above growing keys size) =
+    growing && leb (2 ^ largestExponent) (keys * 2) && eqb size (2 ^ largestExponent)
 
 -- one bucket: whatever the cursor, the walk ends
 one-bucket : (cursor : ℕ) → oneTable 1 cursor .answered ≡ 0
@@ -76,6 +80,12 @@ row-true (Row.at-any size next) h =
     λ cursor.
     subst (λ (n : ℕ). oneTable n cursor .answered ≡ next) (sym (each .0)) (one-bucket cursor ∙ sym (each .1))
 row-true (Row.suggests growing keys size) h = told (tells-eq (suggested growing keys) size) h
+row-true (Row.suggests-above growing keys size) h =
+    let each =
+    told (tells-and (tells-and (tells-true growing) (tells-le (2 ^ largestExponent) (keys * 2))) (tells-eq size (2 ^ largestExponent))) h in
+    λ more l.
+    subst (λ (t : Bool). suggested t more ≡ size) (sym (each .0 .0))
+    (growing-capped more (omega (arith, each .0 .1)) ∙ sym (each .1))
 
 testAll : List Row → Bool
 testAll [] = true

@@ -4,6 +4,7 @@ pub mod Power
 pub mod Fields
 pub mod Chains
 pub mod Linked
+pub mod AtMost
 pub mod Soundness
 pub mod Cases
 pub mod Lookups

@@ -1,12 +1,13 @@
 -- The suggested size: the smallest power of two that is not below the number asked for, up to the largest size.
 -- Assumes nothing.
 use Prim.Native.Nat.{ℕ, zero, suc, _+_, _*_, _^_, _≤_, _<_}
-use mathlib.Core.Path.{_≡_, refl, subst}
+use mathlib.Core.Path.{_≡_, refl, ap, subst, _∙_}
 use mathlib.Core.Bool.{Bool, true, false, cond}
 use mathlib.Core.Logic.{_⊎_, inl, inr}
 use native.Mathlib.Decide.{decLt}
 use native.Mathlib.Omega.{arith}
 use lib.Dec.{leb}
+use lib.Pow.{pow-mono}
 use borrow.Author.Tests.{leb-true, leb-false}
 use Rattle.model.specs.Limits.{largestExponent}
 use Rattle.model.specs.Calls.{powerFrom, suggested}
@@ -60,10 +61,25 @@ smallest b (suc left) n = by (leb n (2 ^ b)) refl (smallest (suc b) left n)
               ];
         }
 
+-- for a number above the largest size, that size
+capped : (e n : ℕ) → 2 ^ e < n → powerFrom 0 e n ≡ 2 ^ e
+capped e n h =
+    let s = smallest 0 e n in
+    let in-range : s .exponent ≤ e = omega (arith, s .at-most) in
+    elim (s .enough) [
+      | inl l ↦ absurd (omega (arith, s .power, pow-mono in-range))
+      | inr last ↦ s .power ∙ ap (λ b. 2 ^ b) (omega (arith, last))
+    ]
+
 -- growing, for twice the keys; shrinking, for the keys
 pub growing-smallest : (keys : ℕ) → Smallest 0 (0 + largestExponent) (keys * 2) (suggested true keys)
 unfolding suggested
 growing-smallest keys = smallest 0 largestExponent (keys * 2)
+
+-- growing, for more keys than half the largest size
+pub growing-capped : (keys : ℕ) → 2 ^ largestExponent < keys * 2 → suggested true keys ≡ 2 ^ largestExponent
+unfolding suggested
+growing-capped keys h = capped largestExponent (keys * 2) h
 
 pub shrinking-smallest : (keys : ℕ) → Smallest 0 (0 + largestExponent) keys (suggested false keys)
 unfolding suggested

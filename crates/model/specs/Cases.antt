@@ -1,18 +1,20 @@
 -- SPECIFICATION, "Cases": those that are marked to be proved, as one table with one statement over it, `AllHold cases`.
-use Prim.Native.Nat.{ℕ}
+use Prim.Native.Nat.{ℕ, _<_}
 use mathlib.Core.Path.{_≡_}
 use mathlib.Core.Bool.{Bool, true, false}
 use mathlib.Core.List.{List, [], _∷_}
 use Rattle.cursor.specs.Group.{Group, oneTable, twoTables}
 use Rattle.model.specs.Calls.{suggested}
 
--- A walk's cursor at one live table, or at two; the cursors of a whole walk; any cursor; the suggested size for some keys.
+-- A walk's cursor at one live table, or at two; the cursors of a whole walk; any cursor; the suggested size for some keys, and
+-- for any number of keys above one.
 pub data Row : Type 0 where
   at-one : (size cursor bucket next : ℕ) → Row
   at-two : (small large cursor bucket : ℕ) (buckets : List ℕ) (next : ℕ) → Row
   walk : (size : ℕ) (cursors : List ℕ) → Row
   at-any : (size next : ℕ) → Row
   suggests : (growing : Bool) (keys size : ℕ) → Row
+  suggests-above : (growing : Bool) (keys size : ℕ) → Row
 
 -- the group is that bucket of the smaller table and those of the larger, and that cursor is answered
 unfoldable pub Gives : Group → ℕ → List ℕ → ℕ → Type 0
@@ -30,6 +32,7 @@ Holds (Row.at-two small large cursor bucket buckets next) = Gives (twoTables sma
 Holds (Row.walk size cursors) = Walks size cursors
 Holds (Row.at-any size next) = (cursor : ℕ) → oneTable size cursor .answered ≡ next
 Holds (Row.suggests growing keys size) = suggested growing keys ≡ size
+Holds (Row.suggests-above growing keys size) = (more : ℕ) → keys < more → suggested growing more ≡ size
 
 unfoldable pub AllHold : List Row → Type 0
 AllHold [] = Unit {0}
@@ -48,4 +51,5 @@ cases =
     ∷ Row.at-one 4 7 3 0
     ∷ Row.suggests true 5 16
     ∷ Row.suggests false 5 8
+    ∷ Row.suggests-above true 32768 65536
     ∷ []

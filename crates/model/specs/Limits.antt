@@ -5,11 +5,11 @@ use lib.Dec.{leb, eqb}
 
 -- the largest capacity
 unfoldable pub largestCapacity : ℕ
-largestCapacity = 4096
+largestCapacity = 65536
 
 -- the largest table has 2 to this power buckets
 unfoldable pub largestExponent : ℕ
-largestExponent = 12
+largestExponent = 16
 
 unfoldable pub legalCapacity : ℕ → Bool
 legalCapacity n = leb 1 n && leb n largestCapacity

@@ -59,6 +59,11 @@ chainsAt s current other entries [] = some []
 chainsAt s current other entries (p ∷ ps) =
     joined (chainAt s current other entries p) (chainsAt s current other entries ps)
 
+-- so many entries at most: none where there are more
+unfoldable pub atMost : ℕ → Option (List ℕ) → Option (List ℕ)
+atMost most none = none
+atMost most (some ns) = cond (leb (length ns) most) (some ns) none
+
 -- What a walk call answers, and the lent list after it. The three buffers stay.
 pub data AfterScan : Type 0 where
   after : ScanAnswer → List ℕ → AfterScan
@@ -83,4 +88,4 @@ scan s first second entries lent cursor =
     cond (eqb (keysHeld s) 0)
     (AfterScan.after (ScanAnswer.Scanned 0 0) lent)
     (scanned entries lent (group (tablesOf s) cursor .answered)
-    (chainsAt s current other entries (groupPlaces (tablesOf s) cursor))))
+    (atMost (keysHeld s) (chainsAt s current other entries (groupPlaces (tablesOf s) cursor)))))

@@ -1,10 +1,10 @@
 // The types of the store: the state that its caller holds, and what each call answers. What the calls mean is in specs/.
 
 // The most entries that a store can have.
-pub const LARGEST_CAPACITY: u32 = 4096;
+pub const LARGEST_CAPACITY: u32 = 65536;
 
 // The most buckets that a table can have.
-pub const LARGEST_SIZE: u32 = 4096;
+pub const LARGEST_SIZE: u32 = 65536;
 
 // What the caller holds between calls (SPECIFICATION, "The memory"), in the order given there.
 pub struct State {

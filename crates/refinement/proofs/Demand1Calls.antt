@@ -26,15 +26,15 @@ use Rattle.model.specs.Limits.{largestExponent, legalCapacity, legalSize}
 use Rattle.model.specs.Memory.{linkOf, keyOf, bucketsOf, keysHeld, Place, chainAt}
 use Rattle.model.specs.Calls.{After, oriented, reading, writing, changed, lookup, held, found, updated, push, pushed, target, takeable, added, unlinkBucket, unlinkEntry, removed, deleted, Chains, moved, longEnough, acceptable, resized, finished, movedChain, movedFrom, stepped}
 use Rattle.model.specs.Calls as calls
-use Rattle.model.specs.Walk.{AfterScan, tablesOf, group, chainsAt, scanned}
+use Rattle.model.specs.Walk.{AfterScan, tablesOf, group, chainsAt, atMost, scanned}
 use Rattle.model.specs.Walk as walk
 use Rattle.model.specs.Sequences.{World, world, KeyCall, ReadCall, Call, Outcome, kept, keptScan, left, given, perform, carry}
-use Rattle.model.proofs.Tests.{Tells, true-not-false, tells-true, tells-and, tells-eq}
+use Rattle.model.proofs.Tests.{Tells, true-not-false, tells-true, tells-and, tells-eq, tells-le}
 use Rattle.model.proofs.Power.{legal-pos}
 use Rattle.model.proofs.Soundness.{sound-facts}
 use Rattle.model.proofs.Fields.{length-setLink, length-setKey, length-setValue, length-setEntry}
 use Rattle.refinement.specs.Worlds.{current, other}
-use Rattle.refinement.specs.Demand1.{BadState, Damaged, keyPlaces, KeyHeld, Full, FreeListDamaged, SoundChain, EmptyFrom, FirstFilled, StepDamaged, places, KeysOn, GroupDamaged, Short, Row, row, keyRows, rows, Decides, Leaves, keyZeros, LeavesAll}
+use Rattle.refinement.specs.Demand1.{BadState, Damaged, keyPlaces, KeyHeld, Full, FreeListDamaged, SoundChain, EmptyFrom, FirstFilled, StepDamaged, places, KeysOn, TooMany, GroupDamaged, Short, Row, row, keyRows, rows, Decides, Leaves, keyZeros, LeavesAll}
 use Rattle.refinement.specs.Demand3.{lengthsOf}
 use Rattle.invariant.proofs.ClearedBuckets.{length-cleared}
 use Rattle.invariant.proofs.Init.{started-buckets-length, started-entries-length}
@@ -317,26 +317,44 @@ module _ (w : World) where
 
   scan-good : (cursor : ℕ) (lent : List ℕ)
       → Good w (Call.scan cursor lent) (rows w (Call.scan cursor lent)) (perform w (Call.scan cursor lent))
-  unfolding perform rows row given walk.scan scanned scanReply reply errorNumber LeavesAll Leaves keptScan kept carry lengthsOf world places Entries GroupDamaged Short
+  unfolding perform rows row given walk.scan atMost scanned scanReply reply errorNumber LeavesAll Leaves keptScan kept carry lengthsOf world places Entries GroupDamaged TooMany Short
   scan-good cursor lent =
       read (keptScan w) _ _ (scan-refuses cursor lent Error.BadState (λ e. omega arith))
       (λ h.
       by (here chainsAt (places w cursor)) (places-say w (places w cursor)) (group (tablesOf (w .state)) cursor .answered)
       (tells-eq (keysHeld (w .state)) 0))
     where
+      damaged : GroupDamaged w cursor
+          → Good w (Call.scan cursor lent) (row 2 (GroupDamaged w cursor) ∷ row 9 (Short w cursor lent) ∷ [])
+          (keptScan w (AfterScan.after (ScanAnswer.Refused Error.Damaged) lent))
+      damaged d = Good.refused d (scan-refuses cursor lent Error.Damaged (λ e. omega arith))
+
+      -- sound chains: no more entries than keys held
+      summed : (ns : List ℕ) → ¬ Damaged w (places w cursor) → KeysOn w (places w cursor) (length ns) → (next : ℕ)
+          → 0 < keysHeld (w .state) → {t : Bool} → Tells (length ns ≤ keysHeld (w .state)) t
+          → Good w (Call.scan cursor lent) (row 2 (GroupDamaged w cursor) ∷ row 9 (Short w cursor lent) ∷ [])
+          (keptScan w (scanned (w .entries) lent next (cond t (some ns) none)))
+      summed ns sound keys next pos (Tells.holds few) =
+          Good.past
+          (λ (d : GroupDamaged w cursor).
+          elim (d .1) [
+            | inl u ↦ sound u
+            | inr (n, k, many) ↦ omega (arith, same-keys w (places w cursor) n (length ns) k keys)
+          ])
+          (gated (keptScan w) (passes-short cursor lent ns pos keys) (λ f. Good.answered refl refl)
+          (refl, (length ns, record { short = λ e. keys; else = λ g. absurd (g refl) }, refl)))
+      summed ns sound keys next pos (Tells.fails many) = damaged (pos, inr (length ns, keys, omega arith))
+
       by : (o : Option (List ℕ)) → Entries w (places w cursor) o → (next : ℕ) {t : Bool} → Tells (keysHeld (w .state) ≡ 0) t
           → Good w (Call.scan cursor lent) (row 2 (GroupDamaged w cursor) ∷ row 9 (Short w cursor lent) ∷ [])
-          (keptScan w (cond t (AfterScan.after (ScanAnswer.Scanned 0 0) lent) (scanned (w .entries) lent next o)))
+          (keptScan w
+          (cond t (AfterScan.after (ScanAnswer.Scanned 0 0) lent) (scanned (w .entries) lent next (atMost (keysHeld (w .state)) o))))
       by o h next (Tells.holds e) =
           Good.past (λ (d : GroupDamaged w cursor). omega (arith, d .0))
           (Good.past (λ (d : Short w cursor lent). omega (arith, d .0)) (Good.answered refl refl))
-      by none d next (Tells.fails f) =
-          let damaged : GroupDamaged w cursor = (omega arith, d) in
-          Good.refused damaged (scan-refuses cursor lent Error.Damaged (λ e. omega arith))
+      by none d next (Tells.fails f) = damaged (omega arith, inl d)
       by (some ns) (sound, keys) next (Tells.fails f) =
-          Good.past (λ (d : GroupDamaged w cursor). sound (d .1))
-          (gated (keptScan w) (passes-short cursor lent ns (omega arith) keys) (λ f. Good.answered refl refl)
-          (refl, (length ns, record { short = λ e. keys; else = λ g. absurd (g refl) }, refl)))
+          summed ns sound keys next (omega arith) (tells-le (length ns) (keysHeld (w .state)))
 
   -- ---- init, and the calls that only read
 

@@ -103,9 +103,13 @@ unfoldable pub KeysOn : World → List Place → ℕ → Type 0
 KeysOn w [] n = n ≡ 0
 KeysOn w (p ∷ ps) n = (count : ℕ) × (rest : ℕ) × ChainAt w p count × KeysOn w ps rest × (n ≡ count + rest)
 
+-- together they hold more entries than the store holds keys
+unfoldable pub TooMany : World → List Place → Type 0
+TooMany w places = (n : ℕ) × KeysOn w places n × (keysHeld (w .state) < n)
+
 -- with no keys held it reads no chain
 unfoldable pub GroupDamaged : World → ℕ → Type 0
-GroupDamaged w cursor = (0 < keysHeld (w .state)) × Damaged w (places w cursor)
+GroupDamaged w cursor = (0 < keysHeld (w .state)) × (Damaged w (places w cursor) ⊎ TooMany w (places w cursor))
 
 -- fewer than two places for each key to be handed out
 unfoldable pub Short : World → ℕ → List ℕ → Type 0

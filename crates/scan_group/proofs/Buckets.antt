@@ -5,7 +5,7 @@ use Prim.Native.Nat.{ℕ, zero, suc, _*_, _/_, _%_, _^_, _≤_, _<_}
 use mathlib.Core.Path.{_≡_, refl, sym, ap, _∙_}
 use mathlib.Core.Bool.{Bool, true, false, cond}
 use mathlib.Core.List.{List, [], _∷_}
-use native.Mathlib.Nat.{mod-eq-of-lt, div-le-self}
+use native.Mathlib.Nat.{mod-eq-of-lt}
 use native.Mathlib.Omega.{arith}
 use lib.Dec.{ltb}
 use lib.ListN.{length}
@@ -15,8 +15,8 @@ use Rattle.cursor.specs.Group.{betweenZero, sweep, oneTable, twoTables}
 use Rattle.cursor.proofs.NextCursor.{next-lt}
 use Rattle.cursor.proofs.Sweep.{sweep-stop, sweep-on}
 use Rattle.cursor.proofs.LargeBuckets.{sweep-unbounded, two-answers}
-use Rattle.model.specs.Limits.{legalSize, largestExponent, largestCapacity}
-use Rattle.model.proofs.Power.{power-of, exponent-lt, legal-le}
+use Rattle.model.specs.Limits.{legalSize, largestExponent}
+use Rattle.model.proofs.Power.{power-of, exponent-lt}
 use Rattle.scan_group.specs.Tables.{Sizes}
 
 -- the buckets from the cursor on
@@ -100,29 +100,6 @@ module _ (larger : List ℕ) (small large : ℕ) (h : Sizes larger small large) 
       -- one fewer are left
       pub fewer : small ≤ turned → length (bucketsFrom small large turned) < length (bucketsFrom small large at)
       fewer l = rw (split, behind-more l) (omega arith)
-
--- there are no more of them than the largest table has buckets
-few-swept : (f small large at : ℕ) → length (sweep f small large at .buckets) ≤ f
-unfolding sweep
-few-swept zero small large at = omega arith
-few-swept (suc f) small large at =
-    pick (betweenZero small large (next large at)) refl (few-swept f small large (next large at))
-  where
-    pick : (t : Bool) → betweenZero small large (next large at) ≡ t → length (sweep f small large (next large at) .buckets) ≤ f
-        → length (sweep (suc f) small large at .buckets) ≤ suc f
-    pick true e h = rw (sweep-stop f small large at e) (omega arith)
-    pick false e h = rw (sweep-on f small large at e) (omega arith)
-
--- so their entries can be counted, as long as a chain has no more of them than the largest capacity
-pub counts-fit : 2 ^ largestExponent * largestCapacity < 2 ^ 32
-unfolding largestExponent largestCapacity
-counts-fit = omega arith
-
-pub few-large : (larger : List ℕ) (small large at : ℕ) → Sizes larger small large
-    → length (bucketsFrom small large at) ≤ 2 ^ largestExponent
-unfolding twoTables legalSize
-few-large larger small large at h =
-    omega (arith, few-swept (large / small) small large at, div-le-self large small, legal-le largestExponent large (h .large-in .legal))
 
 -- a call answers the next cursor, with two live tables that of the smaller size
 pub one-answered : (size cursor turned : ℕ) → legalSize size ≡ true → ((c : ℕ) → size ≡ 2 ^ c → turned ≡ next size cursor)

@@ -6,7 +6,6 @@ use mathlib.Core.Path.{_≡_, refl, sym, ap, _∙_}
 use mathlib.Core.List.{List, [], _∷_, _++_, append-nil}
 use mathlib.Core.Option.{Option, none, some}
 use native.Mathlib.Omega.{arith}
-use native.Mathlib.Nat.{suc-mul}
 use lib.ListN.{length, getD, length-append}
 use Rattle.model.specs.Memory.{chain, listed}
 use Rattle.model.specs.Walk.{joined}
@@ -40,23 +39,6 @@ chain-short entries capacity budget head = pick (chain entries capacity budget h
     pick : (o : Option (List ℕ)) → chain entries capacity budget head ≡ o → length (listed o) ≤ budget
     pick none e = omega arith
     pick (some ns) e = read-sound entries capacity budget head ns e .1
-
-joined-short : (a b : Option (List ℕ)) → length (listed (joined a b)) ≤ length (listed a) + length (listed b)
-unfolding joined listed
-joined-short none b = omega arith
-joined-short (some ns) none = omega arith
-joined-short (some ns) (some ms) = omega (arith, length-append ns ms)
-
-pub chains-short : (entries : List ℕ) (capacity used : ℕ) (buckets bs : List ℕ)
-    → length (listed (chains entries capacity used buckets bs)) ≤ length bs * used
-unfolding chains listed
-chains-short entries capacity used buckets [] = omega arith
-chains-short entries capacity used buckets (b ∷ bs) =
-    let here = chain entries capacity used (getD buckets b 0) in
-    let more = chains-short entries capacity used buckets bs in
-    rw suc-mul
-    (omega
-    (arith, joined-short here (chains entries capacity used buckets bs), chain-short entries capacity used (getD buckets b 0), more))
 
 -- Where more is allowed, a chain that is sound is the same.
 

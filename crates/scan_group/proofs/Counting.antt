@@ -1,27 +1,24 @@
--- Counting the entries of the larger table's buckets, one chain a turn, and those of both tables.
+-- Counting the entries of the larger table's buckets, one chain a turn, and those of both tables, up to a limit.
 -- Assumes nothing.
-use Prim.Native.Nat.{ℕ, _+_, _*_, _^_, _≤_, _<_}
-use mathlib.Core.Path.{_≡_, refl, ap, _∙_}
-use mathlib.Core.List.{List}
+use Prim.Native.Nat.{ℕ, _+_, _-_, _^_, _≤_, _<_, min}
+use mathlib.Core.Path.{_≡_, refl, sym, ap, _∙_}
+use mathlib.Core.List.{List, []}
 use mathlib.Core.Option.{Option, none, some}
-use native.Mathlib.Nat.{suc-mul, mul-add, mul-le-mul, mul-le-mul-left, mul-le-mul-right}
 use native.Mathlib.Omega.{arith}
 use lib.ListN.{length, getD, length-append}
-use lib.Pow.{pow-pos}
 use mir.Syntax.{w32}
 use mir.Val.{Fits}
 use Rattle.cursor.specs.Next.{next}
 use Rattle.model.specs.Keys.{bucketOf, hash}
-use Rattle.model.specs.Limits.{largestExponent, largestCapacity}
-use Rattle.model.specs.Memory.{chain}
-use Rattle.model.specs.Walk.{joined}
+use Rattle.model.specs.Memory.{chain, listed}
+use Rattle.model.specs.Walk.{joined, atMost}
+use Rattle.model.proofs.AtMost.{at-most-few, at-most-some, at-most-joined, chain-at-most}
 use Rattle.memory.specs.declared.chain.ChainLength.{ChainLength}
 use Rattle.memory.specs.Length.{lengthOf}
 use Rattle.memory.proofs.Counted.{counted}
 use Rattle.scan_group.specs.Chains.{chains}
-use Rattle.scan_group.specs.Tables.{Larger, Both}
-use Rattle.scan_group.proofs.Buckets.{bucketsFrom, behind, split, behind-last, behind-more, counts-fit, few-large}
-use Rattle.scan_group.proofs.Chains.{chain-short, chains-short}
+use Rattle.scan_group.specs.Tables.{Larger}
+use Rattle.scan_group.proofs.Buckets.{bucketsFrom, behind, split, behind-last, behind-more}
 
 -- The lengths of two parts give that of the whole.
 
@@ -47,88 +44,134 @@ unfolding plus
 plus-more n m ChainLength.Unsound = refl
 plus-more n m (ChainLength.Sound k) = ap ChainLength.Sound (omega arith)
 
+-- A chain is read no further than what is left of the limit.
+limited : (entries : List ℕ) (capacity used left head budget : ℕ) (r : ChainLength) → budget ≡ min used left
+    → r ≡ lengthOf (chain entries capacity budget head) → r ≡ lengthOf (atMost left (chain entries capacity used head))
+limited entries capacity used left head budget r b l = rw (l, b, chain-at-most entries capacity used left head)
+
+-- A part of some entries is counted first, and what it leaves of the limit is that of the others.
+
+module _ (limit : ℕ) (a : Option (List ℕ)) (r : ChainLength) (f : r ≡ lengthOf (atMost limit a)) where
+  part-is : (n : ℕ) → r ≡ ChainLength.Sound n → (length (listed a) ≡ n) × (n ≤ limit)
+  unfolding listed
+  part-is n s =
+      let (sound, long) = counted r n (atMost limit a) s f in
+      let (same, few) = at-most-some limit a (listed (atMost limit a)) sound in
+      (ap (λ o. length (listed o)) same ∙ long, omega arith)
+
+  module _ (b : Option (List ℕ)) where
+    both : plus r (lengthOf (atMost (limit - length (listed a)) b)) ≡ lengthOf (atMost limit (joined a b))
+    both =
+        ap (λ q. plus q (lengthOf (atMost (limit - length (listed a)) b))) f
+        ∙ sym (ap lengthOf (at-most-joined limit a b) ∙ joined-length (atMost limit a) (atMost (limit - length (listed a)) b))
+
+    part-out : r ≡ ChainLength.Unsound → ChainLength.Unsound ≡ lengthOf (atMost limit (joined a b))
+    unfolding plus
+    part-out u = rw u at both
+
+    part-on : (n : ℕ) → r ≡ ChainLength.Sound n
+        → plus (ChainLength.Sound n) (lengthOf (atMost (limit - n) b)) ≡ lengthOf (atMost limit (joined a b))
+    part-on n s =
+        ap (λ k. plus (ChainLength.Sound n) (lengthOf (atMost (limit - k) b))) (sym (part-is n s .0)) ∙ (rw s at both)
+
 -- the entries counted, and those of the buckets from here on, are those of all the buckets
-pub record Counting (entries larger : List ℕ) (capacity used small large cursor at count : ℕ) : Type 0 where
-  pub same : plus (ChainLength.Sound count) (lengthOf (chains entries capacity used larger (bucketsFrom small large at)))
-      ≡ lengthOf (chains entries capacity used larger (bucketsFrom small large cursor))
-  pub few : count + length (bucketsFrom small large at) * used ≤ length (bucketsFrom small large cursor) * used
+pub record Counting (entries larger : List ℕ) (capacity used limit small large cursor at left : ℕ) : Type 0 where
+  pub fits : left ≤ limit
+  pub same : plus (ChainLength.Sound (limit - left)) (lengthOf (atMost left (chains entries capacity used larger (bucketsFrom small large at))))
+      ≡ lengthOf (atMost limit (chains entries capacity used larger (bucketsFrom small large cursor)))
 
-module _ (entries larger : List ℕ) (capacity used small large : ℕ) (g : Larger larger entries capacity used small large) where
-  few-entries : (cursor : ℕ) → length (bucketsFrom small large cursor) * used < 2 ^ 32
-  few-entries cursor =
-      let used-limit : used ≤ largestCapacity = omega arith in
-      omega (arith, counts-fit, mul-le-mul (few-large larger small large cursor (g .sizes)) used-limit)
+module _ (entries larger : List ℕ) (capacity used limit small large : ℕ) (g : Larger larger entries capacity small large)
+    (cursor : ℕ) where
+  counted-all : ChainLength
+  counted-all = lengthOf (atMost limit (chains entries capacity used larger (bucketsFrom small large cursor)))
 
-  module _ (cursor : ℕ) where
-    pub counting-start : Counting entries larger capacity used small large cursor cursor 0
-    counting-start = record { same = plus-nothing _; few = omega arith }
+  pub counting-start : Counting entries larger capacity used limit small large cursor cursor limit
+  counting-start =
+      let nothing : limit - limit ≡ 0 = omega arith in
+      record { fits = omega arith; same = rw nothing (plus-nothing _) }
 
-    module _ (at count head : ℕ) (h : Counting entries larger capacity used small large cursor at count)
-        (i : head ≡ getD larger (bucketOf at large) 0) (r : ChainLength) (l : r ≡ lengthOf (chain entries capacity used head)) where
-      -- this chain, and those behind it
-      here : plus (ChainLength.Sound count) (plus r (lengthOf (chains entries capacity used larger (behind small large at))))
-          ≡ lengthOf (chains entries capacity used larger (bucketsFrom small large cursor))
-      unfolding chains bucketOf hash
-      here = rw (l, ← joined-length, i) (rw (split larger small large (g .sizes) at) at (h .same))
+  module _ (at left head budget : ℕ) (h : Counting entries larger capacity used limit small large cursor at left)
+      (i : head ≡ getD larger (bucketOf at large) 0) (r : ChainLength) (b : budget ≡ min used left)
+      (l : r ≡ lengthOf (chain entries capacity budget head)) where
+    -- the chains behind this one
+    chains-behind : Option (List ℕ)
+    chains-behind = chains entries capacity used larger (behind small large at)
 
-      pub counting-out : r ≡ ChainLength.Unsound
-          → ChainLength.Unsound ≡ lengthOf (chains entries capacity used larger (bucketsFrom small large cursor))
-      unfolding plus
-      counting-out u = rw u at here
+    -- this one, within what is left of the limit
+    this : r ≡ lengthOf (atMost left (chain entries capacity used head))
+    this = limited entries capacity used left head budget r b l
 
-      module _ (n : ℕ) (s : r ≡ ChainLength.Sound n) where
-        left : count + n + length (behind small large at) * used ≤ length (bucketsFrom small large cursor) * used
-        left =
-            let few = rw (split larger small large (g .sizes) at, suc-mul) at (h .few) in
-            omega (arith, counted r n _ s l .1, chain-short entries capacity used head)
+    here : plus (ChainLength.Sound (limit - left)) (lengthOf (atMost left (joined (chain entries capacity used head) chains-behind)))
+        ≡ counted-all
+    unfolding counted-all chains-behind chains bucketOf hash
+    here = rw i (rw (split larger small large (g .sizes) at) at (h .same))
 
-        pub counting-fits : Fits w32 (count + n)
-        counting-fits = omega (arith, left, few-entries cursor)
+    pub counting-out : r ≡ ChainLength.Unsound
+        → ChainLength.Unsound ≡ lengthOf (atMost limit (chains entries capacity used larger (bucketsFrom small large cursor)))
+    unfolding plus counted-all
+    counting-out u = rw (← part-out left (chain entries capacity used head) r this chains-behind u) at here
 
-        on : plus (ChainLength.Sound (count + n)) (lengthOf (chains entries capacity used larger (behind small large at)))
-            ≡ lengthOf (chains entries capacity used larger (bucketsFrom small large cursor))
-        on = plus-more count n _ ∙ (rw s at here)
+    module _ (n : ℕ) (s : r ≡ ChainLength.Sound n) where
+      pub counting-fits : n ≤ left
+      counting-fits = part-is left (chain entries capacity used head) r this n s .1
 
-        module _ (turned : ℕ) (t : (c : ℕ) → large ≡ 2 ^ c → turned ≡ next large at) where
-          pub counting-end : turned < small
-              → ChainLength.Sound (count + n) ≡ lengthOf (chains entries capacity used larger (bucketsFrom small large cursor))
-          unfolding chains lengthOf plus
-          counting-end e =
-              ap ChainLength.Sound (omega arith) ∙ (rw (behind-last larger small large (g .sizes) at turned t e) at on)
+      pub counting-within : left - n ≤ limit
+      counting-within = omega (arith, h .fits)
 
-          pub counting-next : small ≤ turned → Counting entries larger capacity used small large cursor turned (count + n)
-          counting-next e =
-              let rest = behind-more larger small large (g .sizes) at turned t e in
-              record { same = rw rest at on; few = rw rest at left }
+      on : plus (ChainLength.Sound (limit - (left - n))) (lengthOf (atMost (left - n) chains-behind)) ≡ counted-all
+      on =
+          let n-fits = counting-fits in
+          let left-fits = h .fits in
+          let more : limit - (left - n) ≡ limit - left + n = omega arith in
+          rw more
+          (plus-more (limit - left) n _
+          ∙ (rw (← part-on left (chain entries capacity used head) r this chains-behind n s) at here))
+
+      module _ (turned : ℕ) (t : (c : ℕ) → large ≡ 2 ^ c → turned ≡ next large at) where
+        pub counting-end : turned < small
+            → ChainLength.Sound (limit - (left - n))
+            ≡ lengthOf (atMost limit (chains entries capacity used larger (bucketsFrom small large cursor)))
+        unfolding counted-all chains-behind chains listed lengthOf plus
+        counting-end e =
+            let none-left = behind-last larger small large (g .sizes) at turned t e in
+            ap ChainLength.Sound (omega arith) ∙ (rw (none-left, at-most-few (left - n) (some []) (omega arith)) at on)
+
+        pub counting-next : small ≤ turned → Counting entries larger capacity used limit small large cursor turned (left - n)
+        unfolding counted-all chains-behind
+        counting-next e =
+            record { fits = counting-within; same = rw (behind-more larger small large (g .sizes) at turned t e) at on }
 
 -- The smaller table's chain, and the larger one's.
 
-module _ (a b : Option (List ℕ)) (first : ChainLength) (f : first ≡ lengthOf a) where
-  pub first-out : first ≡ ChainLength.Unsound → ChainLength.Unsound ≡ lengthOf (joined a b)
-  unfolding plus
-  first-out u = rw (joined-length, ← f, u)
+module _ (entries : List ℕ) (capacity used limit head budget : ℕ) (first : ChainLength) (e : budget ≡ min used limit)
+    (f : first ≡ lengthOf (chain entries capacity budget head)) where
+  first-within : first ≡ lengthOf (atMost limit (chain entries capacity used head))
+  first-within = limited entries capacity used limit head budget first e f
 
-  module _ (n : ℕ) (s : first ≡ ChainLength.Sound n) (rest : ChainLength) (t : rest ≡ lengthOf b) where
-    pub rest-out : rest ≡ ChainLength.Unsound → ChainLength.Unsound ≡ lengthOf (joined a b)
-    unfolding plus
-    rest-out u = rw (joined-length, ← f, ← t, s, u)
+  module _ (n : ℕ) (s : first ≡ ChainLength.Sound n) where
+    pub first-fits : n ≤ limit
+    first-fits = part-is limit (chain entries capacity used head) first first-within n s .1
 
-    pub both-counted : (m : ℕ) → rest ≡ ChainLength.Sound m → ChainLength.Sound (n + m) ≡ lengthOf (joined a b)
-    unfolding plus
-    both-counted m u = rw (joined-length, ← f, ← t, s, u)
+    -- no sum is above the limit
+    pub both-fit : (b : Option (List ℕ)) (rest : ChainLength) (m : ℕ) → rest ≡ lengthOf (atMost (limit - n) b)
+        → rest ≡ ChainLength.Sound m → Fits w32 limit → Fits w32 (n + m)
+    both-fit b rest m t u fit = omega (arith, first-fits, part-is (limit - n) b rest t m u .1)
 
-pub both-fit : (entries larger : List ℕ) (capacity small-used large-used small large head cursor n m : ℕ) (first rest : ChainLength)
-    → Both larger entries capacity small-used large-used small large
-    → first ≡ lengthOf (chain entries capacity small-used head) → first ≡ ChainLength.Sound n
-    → rest ≡ lengthOf (chains entries capacity large-used larger (bucketsFrom small large cursor)) → rest ≡ ChainLength.Sound m
-    → Fits w32 (n + m)
-both-fit entries larger capacity small-used large-used small large head cursor n m first rest g f s t u =
-    let most = 2 ^ largestExponent in
-    let bs = bucketsFrom small large cursor in
-    let keys-limit : small-used + large-used ≤ largestCapacity = omega arith in
-    let few = few-large larger small large cursor (g .larger-reads .sizes) in
-    let small-most : n ≤ most * small-used =
-    omega (arith, counted first n _ s f .1, chain-short entries capacity small-used head, mul-le-mul-right small-used (pow-pos largestExponent)) in
-    let large-most : m ≤ most * large-used =
-    omega (arith, counted rest m _ u t .1, chains-short entries capacity large-used larger bs, mul-le-mul-right large-used few) in
-    omega (arith, counts-fit, mul-add most small-used large-used, mul-le-mul-left most keys-limit)
+  module _ (b : Option (List ℕ)) where
+    pub first-out : first ≡ ChainLength.Unsound
+        → ChainLength.Unsound ≡ lengthOf (atMost limit (joined (chain entries capacity used head) b))
+    first-out u = part-out limit (chain entries capacity used head) first first-within b u
+
+    module _ (n : ℕ) (s : first ≡ ChainLength.Sound n) (rest : ChainLength) (t : rest ≡ lengthOf (atMost (limit - n) b)) where
+      whole : plus (ChainLength.Sound n) rest ≡ lengthOf (atMost limit (joined (chain entries capacity used head) b))
+      whole = ap (plus (ChainLength.Sound n)) t ∙ part-on limit (chain entries capacity used head) first first-within b n s
+
+      pub rest-out : rest ≡ ChainLength.Unsound
+          → ChainLength.Unsound ≡ lengthOf (atMost limit (joined (chain entries capacity used head) b))
+      unfolding plus
+      rest-out u = rw u at whole
+
+      pub both-counted : (m : ℕ) → rest ≡ ChainLength.Sound m
+          → ChainLength.Sound (n + m) ≡ lengthOf (atMost limit (joined (chain entries capacity used head) b))
+      unfolding plus
+      both-counted m u = rw u at whole

@@ -1,10 +1,10 @@
 -- What reading the live tables asks of the sizes, the buffers and the keys held.
-use Prim.Native.Nat.{ℕ, _+_, _*_, _≤_, _<_}
+use Prim.Native.Nat.{ℕ, _*_, _≤_, _<_}
 use mathlib.Core.Path.{_≡_}
 use mathlib.Core.Bool.{true}
 use mathlib.Core.List.{List}
 use lib.ListN.{length}
-use Rattle.model.specs.Limits.{legalSize, largestCapacity}
+use Rattle.model.specs.Limits.{legalSize}
 
 -- a table of a legal size, in a buffer that is long enough
 pub record TableIn (buffer : List ℕ) (size : ℕ) : Type 0 where
@@ -18,13 +18,6 @@ pub record Sizes (larger : List ℕ) (small large : ℕ) : Type 0 where
   pub smaller : small < large
 
 -- the larger table
-pub record Larger (larger entries : List ℕ) (capacity used small large : ℕ) : Type 0 where
+pub record Larger (larger entries : List ℕ) (capacity small large : ℕ) : Type 0 where
   pub sizes : Sizes larger small large
   pub entries-fit : capacity * 3 ≤ length entries
-  pub capacity-limit : capacity ≤ largestCapacity
-  pub used-fits : used ≤ capacity
-
--- the larger table, and the keys held in both
-pub record Both (larger entries : List ℕ) (capacity small-used large-used small large : ℕ) : Type 0 where
-  pub larger-reads : Larger larger entries capacity large-used small large
-  pub keys-fit : small-used + large-used ≤ capacity

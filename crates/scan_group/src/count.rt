@@ -4,44 +4,54 @@ use cursor::next_cursor;
 use memory::chain::ChainLength;
 use memory::chain::chain_length;
 ghost use mathlib.Core.Path.{_≡_};
+ghost use Prim.Native.Nat.{min};
 ghost use Rattle.cursor.specs.Group.{twoTables};
 ghost use Rattle.model.specs.Memory.{chain};
-ghost use Rattle.model.specs.Walk.{joined};
+ghost use Rattle.model.specs.Walk.{joined, atMost};
 ghost use Rattle.memory.specs.Length.{lengthOf};
 ghost use Rattle.scan_group.specs.Chains.{chains};
-ghost use Rattle.scan_group.specs.Tables.{Larger, Both};
+ghost use Rattle.scan_group.specs.Tables.{Larger};
 
-// Those of the larger table. The next cursor of a size is below that size, so its bits between the two sizes are zero
-// once it is below the smaller one.
+fn least(a: u32, b: u32) -> u32
+    ensures { λ r. ⌜ r ≡ min a b ⌝ }
+{
+    if a < b { a } else { b }
+}
+
+// Those of the larger table, of which there may be so many. A chain is read no further than the limit leaves, so however it
+// loops, all of them together cost no more than that. The next cursor of a size is below that size, so its bits between the
+// two sizes are zero once it is below the smaller one.
 fn count_large(
     larger: &[u32],
     entries: &[u32],
     capacity: u32,
     used: u32,
+    limit: u32,
     small: u32,
     large: u32,
     cursor: u32,
 ) -> ChainLength
-    requires { ⌜ Larger (now larger) (now entries) capacity used small large ⌝ }
-    ensures { λ r. ⌜ r ≡ lengthOf (chains (now (entries .entry)) capacity used (now (larger .entry)) (twoTables small large cursor .large)) ⌝ }
+    requires { ⌜ Larger (now larger) (now entries) capacity small large ⌝ }
+    ensures { λ r. ⌜ r ≡ lengthOf (atMost limit
+        (chains (now (entries .entry)) capacity used (now (larger .entry)) (twoTables small large cursor .large))) ⌝ }
 {
     let mut at = cursor;
-    let mut count = 0;
+    let mut left = limit;
     loop {
         let head = bucket_head(larger, large, at);
-        let length = chain_length(entries, capacity, used, head);
+        let length = chain_length(entries, capacity, least(used, left), head);
         match length {
             ChainLength::Unsound => return ChainLength::Unsound,
-            ChainLength::Sound(n) => count += n,
+            ChainLength::Sound(n) => left -= n,
         }
         at = next_cursor(large, at);
         if at < small {
-            return ChainLength::Sound(count);
+            return ChainLength::Sound(limit - left);
         }
     }
 }
 
-// Those of both tables: the smaller one's chain, from its head, then the larger one's.
+// Those of both tables, of which there may be so many: the smaller one's chain, from its head, then the larger one's.
 pub fn count_group(
     head: u32,
     larger: &[u32],
@@ -49,19 +59,29 @@ pub fn count_group(
     capacity: u32,
     small_used: u32,
     large_used: u32,
+    limit: u32,
     small: u32,
     large: u32,
     cursor: u32,
 ) -> ChainLength
-    requires { ⌜ Both (now larger) (now entries) capacity «small_used» «large_used» small large ⌝ }
-    ensures { λ r. ⌜ r ≡ lengthOf (joined (chain (now (entries .entry)) capacity «small_used» head)
-        (chains (now (entries .entry)) capacity «large_used» (now (larger .entry)) (twoTables small large cursor .large))) ⌝ }
+    requires { ⌜ Larger (now larger) (now entries) capacity small large ⌝ }
+    ensures { λ r. ⌜ r ≡ lengthOf (atMost limit (joined (chain (now (entries .entry)) capacity «small_used» head)
+        (chains (now (entries .entry)) capacity «large_used» (now (larger .entry)) (twoTables small large cursor .large)))) ⌝ }
 {
-    let first = chain_length(entries, capacity, small_used, head);
+    let first = chain_length(entries, capacity, least(small_used, limit), head);
     match first {
         ChainLength::Unsound => ChainLength::Unsound,
         ChainLength::Sound(n) => {
-            let rest = count_large(larger, entries, capacity, large_used, small, large, cursor);
+            let rest = count_large(
+                larger,
+                entries,
+                capacity,
+                large_used,
+                limit - n,
+                small,
+                large,
+                cursor,
+            );
             match rest {
                 ChainLength::Unsound => ChainLength::Unsound,
                 ChainLength::Sound(m) => ChainLength::Sound(n + m),

@@ -1,19 +1,21 @@
 -- The stores of specs/Refusals are excluded, by demand 3 or by demand 1. Demand 1 is about any world: those here are made by
 -- ours from a start of one bucket.
 -- Assumes nothing.
-use Prim.Native.Nat.{zero, suc, _<_}
-use mathlib.Core.Path.{_≡_, refl, ap}
-use mathlib.Core.Logic.{inl}
+use Prim.Native.Nat.{ℕ, zero, suc, _<_, _≤_}
+use mathlib.Core.Path.{_≡_, refl, ap, subst}
+use mathlib.Core.Logic.{inl, inr}
 use mathlib.Core.List.{List, [], _∷_}
 use lib.ListN.{getD, replicate}
+use lib.Dec.{lit<, lit≤}
 use borrow.Author.Tests.{eqb-false}
 use native.Mathlib.Omega.{arith}
 use Rattle.model.specs.declared.Table.{Table}
-use Rattle.model.specs.Memory.{Place}
+use Rattle.model.specs.Memory.{Place, linkOf}
+use Rattle.model.specs.Calls.{recounted, oldNew}
 use Rattle.model.specs.Sequences.{World, world, Call, Outcome, perform, run}
-use Rattle.refinement.specs.Demand1.{Demand1, SoundChain}
+use Rattle.refinement.specs.Demand1.{Demand1, nth, Chain, SoundChain, places, TooMany}
 use Rattle.refinement.specs.Demand3.{Demand3}
-use Rattle.wrong_stores.specs.Refusals.{refusesAll, refusesResizes, overlooksDamage, losesState, writesFirst, refusesWalks, alwaysShort, roomForAll, shortMiscounts, countsRefused, writesRefused}
+use Rattle.wrong_stores.specs.Refusals.{refusesAll, refusesResizes, overlooksDamage, losesState, writesFirst, refusesWalks, alwaysShort, readAgain, sumAfterShort, sumByCapacity, sumBelowKeys, roomForAll, shortMiscounts, countsRefused, writesRefused}
 use Rattle.wrong_stores.proofs.Start.{computing, zeros, started, room, find, update, add, at, apart, differ, neither, no-look}
 
 -- Demand 3, `begins`: the start's number is fixed by the limits and the lengths.
@@ -46,6 +48,11 @@ pub roomForAll-excluded : Demand3 roomForAll → ⊥
 unfolding computing roomForAll twoKeys
 roomForAll-excluded d =
     eqb-false 9 0 refl (at d 2 refl (twoKeys (Call.scan 0 (0 ∷ 0 ∷ []))) .answers .1 .1 .0 .number)
+
+-- a group may have as many entries as there are keys held
+pub sumBelowKeys-excluded : Demand3 sumBelowKeys → ⊥
+unfolding computing sumBelowKeys
+sumBelowKeys-excluded d = eqb-false 2 0 refl (at d 1 refl (add 1 10 ∷ Call.scan 0 room ∷ []) .answers .1 .0 .number)
 
 -- Demand 3, `answers`, `values`: the number of keys comes with 9.
 pub shortMiscounts-excluded : Demand3 shortMiscounts → ⊥
@@ -80,6 +87,50 @@ overlooksDamage-excluded d =
     neither (λ h. eqb-false 3 1 refl (h .1))
     (λ h. neither (λ g. eqb-false 3 2 refl (g .1)) (λ g. g .0 (Place.bucket Table.Old 0, inl refl, loop-unsound)) (h .1))
     (d .numbers looped (find 1))
+
+-- .. and so is a group with more entries than the store holds keys: before short, and whatever the capacity.
+
+-- keys 0 and 1 in the new table's two buckets, but the state counts one
+miscounted : World
+miscounted =
+    let w = run perform (started perform 1) (add 0 10 ∷ add 1 11 ∷ Call.resize 2 ∷ Call.rehashStep ∷ []) in
+    world (recounted (w .state) (w .state .«free_head») (oldNew 0 1)) (w .first) (w .second) (w .entries)
+
+-- a chain of one entry
+alone : (head : ℕ) → 0 < head → head ≤ 3 → linkOf (miscounted .entries) head ≡ 0
+    → Chain (miscounted .entries) (miscounted .state .capacity) head 1
+unfolding computing miscounted
+alone head pos fits end =
+    record {
+      entry =
+          λ k l.
+          let first : 0 ≡ k = omega arith in
+          subst (λ (j : ℕ). (0 < nth (miscounted .entries) head j) × (nth (miscounted .entries) head j ≤ 3)) first (pos, fits);
+      end = end;
+    }
+
+two-counted : TooMany miscounted (places miscounted 0)
+unfolding computing miscounted
+two-counted =
+    let nothing : Chain (miscounted .entries) 3 0 0 = record { entry = λ k l. absurd (omega arith); end = refl } in (
+      2,
+      (0, 2, nothing, (1, 1, alone 1 (lit< tt) (lit≤ tt) refl, (1, 0, alone 2 (lit< tt) (lit≤ tt) refl, refl, refl), refl), refl),
+      lit< tt,
+    )
+
+pub sumAfterShort-excluded : Demand1 sumAfterShort → ⊥
+unfolding computing sumAfterShort readAgain miscounted
+sumAfterShort-excluded d =
+    neither (λ h. eqb-false 9 1 refl (h .1))
+    (λ h. neither (λ g. eqb-false 9 2 refl (g .1)) (λ g. g .0 (lit< tt, inr two-counted)) (h .1))
+    (d .numbers miscounted (Call.scan 0 []))
+
+pub sumByCapacity-excluded : Demand1 sumByCapacity → ⊥
+unfolding computing sumByCapacity readAgain miscounted
+sumByCapacity-excluded d =
+    neither (λ h. eqb-false 0 1 refl (h .1))
+    (λ h. neither (λ g. eqb-false 0 2 refl (g .1)) (λ g. g .0 (lit< tt, inr two-counted)) (h .1))
+    (d .numbers miscounted (Call.scan 0 room))
 
 -- Demand 1, `refusals`. A refusal leaves the state, ..
 

@@ -84,7 +84,7 @@ theMemory = tt
 
 -- the calls and what they answer
 unfoldable pub theCalls : Unit {0}
-unfolding answers.reply answers.errorNumber answers.initReply answers.findReply answers.updateReply answers.addReply answers.deleteReply answers.resizeReply answers.stepReply answers.sizeReply answers.tableReply answers.scanReply calls.sound calls.oriented calls.checked calls.reading calls.back calls.writing calls.changed calls.stateOf calls.oldNew calls.emptyState calls.recounted calls.retabled calls.cleared calls.freeLink calls.freeEntries calls.noState calls.longEnough calls.init calls.firstWith calls.searched calls.both calls.lookupIn calls.lookupWhile calls.lookup calls.held calls.found calls.find calls.updated calls.update calls.push calls.withCount calls.pushed calls.target calls.takeable calls.added calls.add calls.unlinkBucket calls.unlinkEntry calls.removed calls.deleted calls.delete calls.acceptable calls.resizing calls.resized calls.resize calls.firstFilled calls.moved calls.steppedPast calls.finished calls.movedChain calls.movedFrom calls.stepped calls.rehashStep calls.powerFrom calls.suggested calls.suggestedSize calls.currentTable walk.tablesBy walk.tablesOf walk.smallerOf walk.group walk.smallFirst walk.groupPlaces walk.joined walk.chainsAt walk.pairs walk.scanned walk.scan
+unfolding answers.reply answers.errorNumber answers.initReply answers.findReply answers.updateReply answers.addReply answers.deleteReply answers.resizeReply answers.stepReply answers.sizeReply answers.tableReply answers.scanReply calls.sound calls.oriented calls.checked calls.reading calls.back calls.writing calls.changed calls.stateOf calls.oldNew calls.emptyState calls.recounted calls.retabled calls.cleared calls.freeLink calls.freeEntries calls.noState calls.longEnough calls.init calls.firstWith calls.searched calls.both calls.lookupIn calls.lookupWhile calls.lookup calls.held calls.found calls.find calls.updated calls.update calls.push calls.withCount calls.pushed calls.target calls.takeable calls.added calls.add calls.unlinkBucket calls.unlinkEntry calls.removed calls.deleted calls.delete calls.acceptable calls.resizing calls.resized calls.resize calls.firstFilled calls.moved calls.steppedPast calls.finished calls.movedChain calls.movedFrom calls.stepped calls.rehashStep calls.powerFrom calls.suggested calls.suggestedSize calls.currentTable walk.tablesBy walk.tablesOf walk.smallerOf walk.group walk.smallFirst walk.groupPlaces walk.joined walk.chainsAt walk.atMost walk.pairs walk.scanned walk.scan
 theCalls = tt
 
 -- histories, the plain map; and ours but for one call
@@ -94,7 +94,7 @@ theHistories = tt
 
 -- the demands, and what they say of a world
 unfoldable pub theStatements : Unit {0}
-unfolding worlds.current worlds.other worlds.UndamagedAt demand1.BadState demand1.nth demand1.headOf demand1.ChainAt demand1.SoundChain demand1.Damaged demand1.liveTables demand1.keyPlaces demand1.OnChain demand1.KeyHeld demand1.Full demand1.FreeListDamaged demand1.EmptyFrom demand1.StepDamaged demand1.places demand1.KeysOn demand1.GroupDamaged demand1.Short demand1.row demand1.keyRows demand1.rows demand1.Decides demand1.Leaves demand1.keyZeros demand1.LeavesAll demand2.groupEntries demand2.nextCursor demand2.HandsOut demand3.lengthsOf demand3.ideal demand3.begun demand3.among demand3.tableOf demand3.sizeIn demand3.startNumber demand3.startAnswer demand3.keyAnswer demand3.resizeAnswer demand3.lowest demand3.stepAnswer demand3.isBucket demand3.inGroup demand3.groupPairs demand3.scanAnswer demand3.readAnswer demand3.predict demand3.replay demand3.pairsIn demand3.handedOut demand3.visit demand3.Answered demand3.largest demand3.HeldAtEach demand3.keysHanded once.times once.NotShrinking once.shrinks once.least
+unfolding worlds.current worlds.other worlds.UndamagedAt demand1.BadState demand1.nth demand1.headOf demand1.ChainAt demand1.SoundChain demand1.Damaged demand1.liveTables demand1.keyPlaces demand1.OnChain demand1.KeyHeld demand1.Full demand1.FreeListDamaged demand1.EmptyFrom demand1.StepDamaged demand1.places demand1.KeysOn demand1.TooMany demand1.GroupDamaged demand1.Short demand1.row demand1.keyRows demand1.rows demand1.Decides demand1.Leaves demand1.keyZeros demand1.LeavesAll demand2.groupEntries demand2.nextCursor demand2.HandsOut demand3.lengthsOf demand3.ideal demand3.begun demand3.among demand3.tableOf demand3.sizeIn demand3.startNumber demand3.startAnswer demand3.keyAnswer demand3.resizeAnswer demand3.lowest demand3.stepAnswer demand3.isBucket demand3.inGroup demand3.groupPairs demand3.scanAnswer demand3.readAnswer demand3.predict demand3.replay demand3.pairsIn demand3.handedOut demand3.visit demand3.Answered demand3.largest demand3.HeldAtEach demand3.keysHanded once.times once.NotShrinking once.shrinks once.least
 theStatements = tt
 
 unfoldable pub computing : Unit {0}

@@ -1,8 +1,9 @@
 -- Wrong stores by a refusal: they refuse what they ought to answer, answer what they ought to refuse, or do not leave all
 -- as it was.
-use Prim.Native.Nat.{suc, _*_}
-use mathlib.Core.Bool.{cond}
-use mathlib.Core.List.{[], _∷_}
+use Prim.Native.Nat.{ℕ, suc, _*_}
+use mathlib.Core.Bool.{_&&_, cond}
+use mathlib.Core.List.{List, [], _∷_}
+use mathlib.Core.Option.{Option}
 use lib.ListN.{length, getD, replicate}
 use lib.Dec.{leb, eqb}
 use Rattle.model.specs.declared.Error.{Error}
@@ -12,8 +13,9 @@ use Rattle.model.specs.declared.ScanAnswer.{ScanAnswer}
 use Rattle.model.specs.Memory.{keysHeld, setValue}
 use Rattle.model.specs.Answers.{reply, findReply, resizeReply}
 use Rattle.model.specs.Calls.{noState}
-use Rattle.model.specs.Walk.{AfterScan}
+use Rattle.model.specs.Walk.{AfterScan, tablesOf, group, groupPlaces, chainsAt, atMost, scanned}
 use Rattle.model.specs.Sequences.{World, Call, Outcome, kept, keptScan}
+use Rattle.refinement.specs.Worlds.{current, other}
 use Rattle.wrong_stores.specs.OneCall.{but, butFind, butUpdate, butResize, butScan, ifDone, ifRefused, answering, handingBack, listing, leaving}
 
 -- refuses every call
@@ -50,6 +52,38 @@ alwaysShort =
     butScan
     (λ cursor lent w o.
     ifDone (keptScan w (AfterScan.after (ScanAnswer.Short (getD (o .reply .values) 1 0)) lent)) o)
+
+-- What a call that ours refuses as damaged would be with another limit on the entries of its group, or with none.
+
+unfoldable pub readAgain : (World → Option (List ℕ) → Option (List ℕ)) → World → ℕ → List ℕ → Outcome
+readAgain limited w cursor lent =
+    let s = w .state in
+    let ns = chainsAt s (current w) (other w) (w .entries) (groupPlaces (tablesOf s) cursor) in
+    keptScan w (scanned (w .entries) lent (group (tablesOf s) cursor .answered) (limited w ns))
+
+-- short before it has compared the entries of the group with the keys held
+unfoldable pub sumAfterShort : World → Call → Outcome
+sumAfterShort =
+    butScan
+    (λ cursor lent w o.
+    let again = readAgain (λ w ns. ns) w cursor lent in
+    cond (eqb (o .reply .number) 2 && eqb (again .reply .number) 9) again o)
+
+-- as many entries in a group as the capacity
+unfoldable pub sumByCapacity : World → Call → Outcome
+sumByCapacity =
+    butScan
+    (λ cursor lent w o.
+    cond (eqb (o .reply .number) 2) (readAgain (λ w ns. atMost (w .state .capacity) ns) w cursor lent) o)
+
+-- damaged where the group has as many entries as there are keys held
+unfoldable pub sumBelowKeys : World → Call → Outcome
+sumBelowKeys =
+    butScan
+    (λ cursor lent w o.
+    cond (eqb (getD (o .reply .values) 1 0) (keysHeld (w .state)))
+    (keptScan w (AfterScan.after (ScanAnswer.Refused Error.Damaged) lent))
+    o)
 
 -- short unless the list has two places for every key held
 unfoldable pub roomForAll : World → Call → Outcome

@@ -4,16 +4,16 @@
 use borrow.Author.Needs.{needs}
 use lib.ListN.{length}
 use Rattle.scan_group.proofs.Buckets.{bucketsFrom, fewer}
-use Rattle.scan_group.proofs.Counting.{Counting, counting-start, counting-out, counting-fits, counting-end, counting-next}
+use Rattle.scan_group.proofs.Counting.{Counting, counting-start, counting-out, counting-fits, counting-within, counting-end, counting-next}
 use Rattle.scan_group.proofs.count.count_large.Statement.{statement}
 use Rattle.scan_group.proofs.count.count_large.Tie as tie
 
 abbrev Inv-loop : tie.InvT-loop
-Inv-loop larger entries capacity used small large cursor at₀ count₀ at count =
-    Counting entries larger capacity used small large cursor at count
+Inv-loop larger entries capacity used limit small large cursor at₀ left₀ at left =
+    Counting entries larger capacity used limit small large cursor at left
 
 abbrev μ-loop : tie.MeasureT-loop
-μ-loop larger entries capacity used small large cursor at₀ count₀ at count = length (bucketsFrom small large at)
+μ-loop larger entries capacity used limit small large cursor at₀ left₀ at left = length (bucketsFrom small large at)
 
 pub count-large-spec : {M : Type 1} → statement M
 count-large-spec =
@@ -24,11 +24,13 @@ count-large-spec =
     (λ c. search counting-start)
     (λ c κs. search needs)
     (λ c κs. search needs)
+    (λ c κs. search needs)
     (λ c. search needs)
     (λ c. search counting-out)
     (λ c. search needs)
     (λ c. search counting-fits)
     (λ c κs. search needs)
+    (λ c. search counting-within)
     (λ c. search counting-end)
     (λ c. search fewer)
     (λ c. search counting-next))

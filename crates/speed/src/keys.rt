@@ -1,9 +1,10 @@
 // The keys: a fixed sequence without a repetition, scattered so that the chains of a full table come in the lengths of
 // a table whose keys are random, from none to a handful.
 use std::num::wrapping_add_usize;
+use std::num::wrapping_sub_usize;
 
-// As many keys as the store can hold, and as many buckets.
-pub(crate) const KEYS: usize = 4096;
+// As many keys as the largest store can hold, and as many buckets.
+pub(crate) const MAX_KEYS: usize = 65536;
 
 // The generator of Park and Miller, "minimal standard": below its prime it meets every number but 0 before it repeats one.
 const MULTIPLIER: u64 = 48271;
@@ -23,25 +24,30 @@ pub(crate) fn make_keys(keys: &mut [u32]) {
     }
 }
 
-// A way through all the keys: from a place on, the same step again and again. The step is odd, so that each key gets its turn.
+// A way through all the keys: from a place on, the same step again and again. There are a power of two of them, so a mask
+// brings each place back among theirs, and the step is odd, so that each key gets its turn.
 pub(crate) struct Path {
     pub at: usize,
     pub step: usize,
+    pub mask: usize,
 }
 
-// Another way for each seed, so that a processor cannot learn the branches of one round from those of the round before.
-pub(crate) fn path_of(seed: u32) -> Path {
-    let n = seed as usize;
+// Another way for each seed, so that a processor cannot learn the branches of one round from those of the round before:
+// the place is made of the seed's lower bits, the step of its upper ones.
+pub(crate) fn path_of(keys: &[u32], seed: u32) -> Path {
+    let mask = wrapping_sub_usize(keys.len(), 1);
     Path {
-        at: n % KEYS,
-        step: n / KEYS % KEYS | 1,
+        at: seed as usize & mask,
+        step: ((seed >> 15) as usize & mask) | 1,
+        mask,
     }
 }
 
 pub(crate) fn next_place(p: Path) -> Path {
     Path {
-        at: wrapping_add_usize(p.at, p.step) % KEYS,
+        at: wrapping_add_usize(p.at, p.step) & p.mask,
         step: p.step,
+        mask: p.mask,
     }
 }
 

@@ -1,10 +1,11 @@
 // What is to be timed.
+use crate::keys::MAX_KEYS;
 use script::number::Number;
 use script::number::parse_number;
 
-// The longest order has 13 bytes, so one that reaches into the buffer's second half is bad. Behind a good one that half is
+// The longest order has 24 bytes, so one that reaches into the buffer's second half is bad. Behind a good one that half is
 // 0, and the rounds hide the state with it.
-pub(crate) const ORDER_ROOM: usize = 32;
+pub(crate) const ORDER_ROOM: usize = 64;
 
 pub(crate) enum Work {
     Adds,
@@ -12,39 +13,69 @@ pub(crate) enum Work {
     Walks,
 }
 
-pub(crate) enum Order {
-    Bad,
-    Repeat(Work, u32),
+// So many rounds on a store of so many keys.
+pub(crate) struct Order {
+    pub work: Work,
+    pub keys: u32,
+    pub rounds: u32,
 }
 
-fn repeat(letter: u8, rounds: u32) -> Order {
-    match letter {
-        b'A' => Order::Repeat(Work::Adds, rounds),
-        b'F' => Order::Repeat(Work::Finds, rounds),
-        b'W' => Order::Repeat(Work::Walks, rounds),
-        _ => Order::Bad,
+// What a text says.
+pub(crate) enum Parsed {
+    Bad,
+    Good(Order),
+}
+
+// There are as many buckets as keys: a power of two, which has one bit set.
+fn is_number_of_keys(n: u32) -> bool {
+    (u32::count_ones(n) == 1) & (n as usize <= MAX_KEYS)
+}
+
+fn order_of(letter: u8, keys: u32, rounds: u32) -> Parsed {
+    let work = match letter {
+        b'A' => Work::Adds,
+        b'F' => Work::Finds,
+        b'W' => Work::Walks,
+        _ => return Parsed::Bad,
+    };
+    if is_number_of_keys(keys) {
+        Parsed::Good(Order { work, keys, rounds })
+    } else {
+        Parsed::Bad
     }
 }
 
-// A letter, a space and a number.
-fn parse_words(text: &[u8]) -> Order {
+// Two numbers with a space between them, for the work that the letter names.
+fn parse_numbers(letter: u8, text: &[u8]) -> Parsed {
+    let end = bytes::scan::find(text, 0, text.len(), b' ');
+    if text.len() <= end {
+        return Parsed::Bad;
+    }
+    let start = end + 1;
+    let Number::Good(keys) = parse_number(&text[0..end]) else {
+        return Parsed::Bad;
+    };
+    let Number::Good(rounds) = parse_number(&text[start..]) else {
+        return Parsed::Bad;
+    };
+    order_of(letter, keys, rounds)
+}
+
+// A letter, a space and the numbers.
+fn parse_words(text: &[u8]) -> Parsed {
     if text.len() < 2 {
-        return Order::Bad;
+        return Parsed::Bad;
     }
     if text[1] != b' ' {
-        return Order::Bad;
+        return Parsed::Bad;
     }
-    let rounds = parse_number(&text[2..]);
-    match rounds {
-        Number::Bad => Order::Bad,
-        Number::Good(n) => repeat(text[0], n),
-    }
+    parse_numbers(text[0], &text[2..])
 }
 
 // The line feed may be left out.
-pub(crate) fn parse_order(text: &[u8]) -> Order {
+pub(crate) fn parse_order(text: &[u8]) -> Parsed {
     if text.len() == 0 {
-        return Order::Bad;
+        return Parsed::Bad;
     }
     let last = text.len() - 1;
     if text[last] == b'\n' {

@@ -1,9 +1,11 @@
 // The rounds of each kind of work. A call that is refused adds nothing to the sum, and so shows in it.
 use crate::keys::key_at;
+use crate::keys::make_keys;
 use crate::keys::next_key;
 use crate::keys::next_place;
 use crate::keys::path_of;
 use crate::order::ORDER_ROOM;
+use crate::order::Order;
 use crate::order::Work;
 use dict_add::add::add;
 use dict_find_update::find::find;
@@ -16,19 +18,12 @@ use model::ScanAnswer;
 use model::State;
 use std::num::wrapping_add_u32;
 
-// A full store in a table of its own size: one key to a bucket, on the average.
-const CAPACITY: u32 = 4096;
-
-const SIZE: u32 = 4096;
-
 // What the first order of the keys and the first values are made of.
 const SEED: u32 = 123456789;
 
-// A walk over one table has as many calls as that has buckets. The loop counts them, since a proved loop has to end.
-const CALLS: usize = 4096;
-
-fn new_store(first: &mut [u32], second: &mut [u32], entries: &mut [u32]) -> State {
-    let answer = init(first, second, entries, CAPACITY, SIZE);
+// A store for so many keys in a table of that size: once it is full, one key to a bucket, on the average.
+fn new_store(first: &mut [u32], second: &mut [u32], entries: &mut [u32], n: u32) -> State {
+    let answer = init(first, second, entries, n, n);
     match answer {
         InitAnswer::Ready(s) => s,
         InitAnswer::Refused(_, s) => s,
@@ -44,15 +39,15 @@ fn wide(b: u8) -> u32 {
 // own: one for all would tell the compiler that the two flags are equal.
 fn hide(s: State, padding: &[u8; ORDER_ROOM]) -> State {
     State {
-        second_is_current: s.second_is_current | (padding[16] != 0),
-        old_size: s.old_size ^ wide(padding[17]),
-        new_size: s.new_size ^ wide(padding[18]),
-        old_used: s.old_used ^ wide(padding[19]),
-        new_used: s.new_used ^ wide(padding[20]),
-        rehashing: s.rehashing | (padding[21] != 0),
-        rehash_index: s.rehash_index ^ wide(padding[22]),
-        free_head: s.free_head ^ wide(padding[23]),
-        capacity: s.capacity ^ wide(padding[24]),
+        second_is_current: s.second_is_current | (padding[32] != 0),
+        old_size: s.old_size ^ wide(padding[33]),
+        new_size: s.new_size ^ wide(padding[34]),
+        old_used: s.old_used ^ wide(padding[35]),
+        new_used: s.new_used ^ wide(padding[36]),
+        rehashing: s.rehashing | (padding[37] != 0),
+        rehash_index: s.rehash_index ^ wide(padding[38]),
+        free_head: s.free_head ^ wide(padding[39]),
+        capacity: s.capacity ^ wide(padding[40]),
     }
 }
 
@@ -81,7 +76,7 @@ fn add_all(
     seed: u32,
 ) -> State {
     let mut t = s;
-    let mut p = path_of(seed);
+    let mut p = path_of(keys, seed);
     let mut value = seed;
     let mut left = keys.len();
     while 0 < left {
@@ -98,10 +93,11 @@ fn fill(
     second: &mut [u32],
     entries: &mut [u32],
     keys: &[u32],
+    n: u32,
     seed: u32,
     padding: &[u8; ORDER_ROOM],
 ) -> State {
-    let s = hide(new_store(first, second, entries), padding);
+    let s = hide(new_store(first, second, entries, n), padding);
     add_all(first, second, entries, keys, s, seed)
 }
 
@@ -125,7 +121,7 @@ fn find_all(
     sum: u32,
 ) -> u32 {
     let mut total = sum;
-    let mut p = path_of(seed);
+    let mut p = path_of(keys, seed);
     let mut left = keys.len();
     while 0 < left {
         left -= 1;
@@ -186,7 +182,8 @@ fn walk_on(
     }
 }
 
-// The sum, with every key and value that a whole walk hands out.
+// The sum, with every key and value that a whole walk hands out. That has as many calls as the table has buckets; the loop
+// counts them, since a proved loop has to end.
 fn walk_all(
     first: &[u32],
     second: &[u32],
@@ -196,7 +193,7 @@ fn walk_all(
     sum: u32,
 ) -> u32 {
     let mut w = Walk { cursor: 0, sum };
-    let mut left = CALLS;
+    let mut left = first.len();
     while 0 < left {
         left -= 1;
         w = walk_on(first, second, entries, list, s, w);
@@ -219,16 +216,17 @@ fn one_round(
     entries: &mut [u32],
     list: &mut [u32],
     keys: &[u32],
-    work: Work,
+    order: Order,
     before: Round,
     seed: u32,
     padding: &[u8; ORDER_ROOM],
 ) -> Round {
     let s = before.state;
     let sum = before.sum;
+    let work = order.work;
     match work {
         Work::Adds => {
-            let state = fill(first, second, entries, keys, seed, padding);
+            let state = fill(first, second, entries, keys, order.keys, seed, padding);
             Round { state, sum }
         }
         Work::Finds => {
@@ -242,22 +240,22 @@ fn one_round(
     }
 }
 
-// The rounds on a full store, each with a seed of its own, and then a walk, so that the sum also tells what the store
-// has come to hold.
+// Makes the keys, then does the rounds on a full store, each with a seed of its own, and then a walk, so that the sum also
+// tells what the store has come to hold.
 pub(crate) fn all_rounds(
     first: &mut [u32],
     second: &mut [u32],
     entries: &mut [u32],
     list: &mut [u32],
-    keys: &[u32],
-    work: Work,
-    rounds: u32,
+    keys: &mut [u32],
+    order: Order,
     padding: &[u8; ORDER_ROOM],
 ) -> u32 {
-    let state = fill(first, second, entries, keys, SEED, padding);
+    make_keys(keys);
+    let state = fill(first, second, entries, keys, order.keys, SEED, padding);
     let mut last = Round { state, sum: 0 };
     let mut seed = SEED;
-    let mut left = rounds;
+    let mut left = order.rounds;
     while 0 < left {
         left -= 1;
         seed = next_key(seed);
@@ -267,7 +265,7 @@ pub(crate) fn all_rounds(
             entries,
             list,
             keys,
-            work,
+            order,
             last,
             seed,
             padding,

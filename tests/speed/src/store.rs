@@ -5,8 +5,9 @@
 //! number is tested against the capacity, and every chain's length against the
 //! keys held, before an entry is read; a lookup reads both chains to their
 //! ends, even where the first entry has the key; a walk call has tested its
-//! chains and its room before it writes. There is no `unsafe` (Cargo.toml
-//! forbids it), and the state is hidden from the compiler (`work.rs`).
+//! chains, their sum and its room before it writes. There is no `unsafe`
+//! (Cargo.toml forbids it), and the state is hidden from the compiler
+//! (`work.rs`).
 //!
 //! It is the bar for the proved store, so it is tuned within that form. Tried,
 //! and kept: a bucket by a mask, one loop to a chain's end that carries what
@@ -14,8 +15,8 @@
 //! Inlining is left to the compiler on both sides, since Rattle has no word
 //! for it. docs/COSTS.md says what a store does that leaves this form.
 
-pub const MAX_CAPACITY: u32 = 4096;
-pub const MAX_SIZE: u32 = 4096;
+pub const MAX_CAPACITY: u32 = 65536;
+pub const MAX_SIZE: u32 = 65536;
 
 /// The numbers of an entry in its buffer: link, key, value.
 const FIELDS: usize = 3;
@@ -87,7 +88,7 @@ impl Table<'_> {
     }
 }
 
-fn is_legal_size(size: u32) -> bool {
+pub fn is_legal_size(size: u32) -> bool {
     size.is_power_of_two() && size <= MAX_SIZE
 }
 
@@ -209,6 +210,8 @@ impl<'a> Store<'a> {
         })
     }
 
+    /// All chains together may have no more entries than the tables hold keys,
+    /// so each is counted no further than those before it have left.
     fn scan_two(
         &self,
         small: Table,
@@ -216,10 +219,12 @@ impl<'a> Store<'a> {
         cursor: u32,
         list: &mut [u32],
     ) -> Result<Scanned, ScanError> {
+        let held = small.used + large.used;
         let mut count = self.chain_length(small.head(cursor), small.used)?;
         let mut at = cursor;
         loop {
-            count += self.chain_length(large.head(at), large.used)?;
+            let most = large.used.min(held - count);
+            count += self.chain_length(large.head(at), most)?;
             at = next_cursor(at, large.size);
             if at < small.size {
                 break;
@@ -303,11 +308,12 @@ impl<'a> Store<'a> {
         Ok(found)
     }
 
-    fn chain_length(&self, head: u32, used: u32) -> Result<u32, Error> {
+    /// The length of a chain of at most so many entries.
+    fn chain_length(&self, head: u32, most: u32) -> Result<u32, Error> {
         let mut count = 0;
         let mut at = head;
         while at != 0 {
-            if (count == used) | (at > self.state.capacity) {
+            if (count == most) | (at > self.state.capacity) {
                 return Err(Error::Damaged);
             }
             at = self.link(at);
@@ -478,14 +484,22 @@ mod tests {
         });
     }
 
-    #[test]
-    fn two_tables_are_one_store() {
+    /// Runs `test` during a move from size 4 to 8, with a fourth key in the new
+    /// table. The group of cursor 1 has the chains of all four.
+    fn with_two_tables(test: impl FnOnce(&mut Store)) {
         with_store(|store| {
             store.second.fill(0);
             store.state.new_size = 8;
             store.state.rehashing = true;
             assert_eq!(store.add(13, 130), Ok(()));
             assert_eq!(store.state.new_used, 1);
+            test(store);
+        });
+    }
+
+    #[test]
+    fn two_tables_are_one_store() {
+        with_two_tables(|store| {
             assert_eq!(store.find(13), Ok(130));
             assert_eq!(store.find(9), Ok(90));
             let mut list = [0; 8];
@@ -493,6 +507,21 @@ mod tests {
             assert_eq!(store.scan(1, &mut list), Ok(answer));
             assert_eq!(list[..6], PAIRS);
             assert_eq!(list[6..], [13, 130]);
+            assert_eq!(store.scan(1, &mut []), Err(ScanError::Short(4)));
+        });
+    }
+
+    /// Each chain is sound by itself, but two of them are the same. That is
+    /// found before the list is too short.
+    #[test]
+    fn chains_that_pass_the_keys_held_are_damaged() {
+        with_two_tables(|store| {
+            store.second[1] = store.second[5];
+            assert_eq!(store.find(9), Ok(90));
+            assert_eq!(store.find(13), Ok(130));
+            let damaged = Err(ScanError::Refused(Error::Damaged));
+            assert_eq!(store.scan(1, &mut [0; 10]), damaged);
+            assert_eq!(store.scan(1, &mut []), damaged);
         });
     }
 }

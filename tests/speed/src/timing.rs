@@ -1,11 +1,14 @@
 //! Both programs as processes: first compared, then timed in turns.
 
-use crate::work::{Order, Work, KEYS};
+use crate::work::{Order, Work};
 use std::fmt;
 use std::io::{self, Read, Write};
 use std::path::Path;
 use std::process::{Command, Stdio};
 use std::time::{Duration, Instant};
+
+/// The numbers of keys that are timed, the second as many as a store can hold.
+const TIMED: [u32; 2] = [4096, 65536];
 
 /// How long one timed run should take, about.
 const RUN_TIME: Duration = Duration::from_millis(300);
@@ -16,19 +19,36 @@ const RUNS: usize = 11;
 /// How many runs find out how many rounds fill that time.
 const TRIALS: usize = 3;
 
-/// Rounds at which the sums are compared before anything is timed.
-const COMPARED: [u32; 6] = [0, 1, 2, 3, 10, 100];
+/// Numbers of keys, with the rounds at which the sums are compared before
+/// anything is timed.
+const COMPARED: [(u32, &[u32]); 3] = [
+    (1, &[0, 1, 2]),
+    (4096, &[0, 1, 2, 3, 10, 100]),
+    (65536, &[0, 1, 2, 3]),
+];
+
+/// An order with as many bytes as one can have.
+const LONGEST: &str = "W 0000000001 0000000001\n";
 
 /// Orders that both programs refuse.
-const BAD: [&str; 8] = [
+const BAD: [&str; 17] = [
     "",
     "A",
     "A ",
-    "X 1",
-    "A  1",
+    "A 1",
     "A 1 ",
-    "A 4294967296",
-    "F 1\n\n",
+    "X 1 1",
+    "A  1 1",
+    "A 1  1",
+    "A 1 1 ",
+    "A 1 1 1",
+    "A 1 4294967296",
+    "A 0 1",
+    "A 3 1",
+    "A 131072 1",
+    "A 4294967296 1",
+    "A 1 000000000000000000000000000000000001",
+    "F 1 1\n\n",
 ];
 
 pub enum Failure {
@@ -118,41 +138,67 @@ impl Race<'_> {
     /// Compares both programs, then times them and prints a table.
     pub fn run(&self) -> Result<(), Failure> {
         self.compare()?;
-        println!("{KEYS} keys; median and least of {RUNS} runs of each program, in turns\n");
-        println!("| work | rounds | proved, ns | least | plain Rust, ns | least | ratio | of the least |");
-        println!("|---|---|---|---|---|---|---|---|");
-        for work in Work::ALL {
-            let rounds = self.rounds_for(work)?;
-            let times = self.time(Order { work, rounds }, RUNS)?;
-            let operations = f64::from(rounds) * f64::from(KEYS);
-            print_row(work.name(), rounds, &times, operations);
+        println!("Median and least of {RUNS} runs of each program, in turns\n");
+        println!("| keys | work | rounds | proved, ns | least | plain Rust, ns | least | ratio | of the least |");
+        println!("|---|---|---|---|---|---|---|---|---|");
+        for keys in TIMED {
+            for work in Work::ALL {
+                self.print_row(work, keys)?;
+            }
         }
-        self.print_start()
+        println!();
+        TIMED
+            .into_iter()
+            .try_for_each(|keys| self.print_start(keys))
+    }
+
+    /// The times of one add, one find or one walk call.
+    fn print_row(&self, work: Work, keys: u32) -> Result<(), Failure> {
+        let rounds = self.rounds_for(work, keys)?;
+        let times = self.time(Order { work, keys, rounds }, RUNS)?;
+        let operations = f64::from(rounds) * f64::from(keys);
+        let proved = Summary::new(&times.proved, operations);
+        let plain = Summary::new(&times.plain, operations);
+        println!(
+            "| {keys} | {} | {rounds} | {:.1} | {:.1} | {:.1} | {:.1} | {:.2} | {:.2} |",
+            work.name(),
+            proved.median,
+            proved.least,
+            plain.median,
+            plain.least,
+            proved.median / plain.median,
+            proved.least / plain.least,
+        );
+        Ok(())
     }
 
     /// A run of 0 rounds, whatever the work, which the times above contain:
     /// the start of a process, one fill and one walk.
-    fn print_start(&self) -> Result<(), Failure> {
+    fn print_start(&self, keys: u32) -> Result<(), Failure> {
         let (work, rounds) = (Work::Adds, 0);
-        let times = self.time(Order { work, rounds }, RUNS)?;
+        let times = self.time(Order { work, keys, rounds }, RUNS)?;
         let milliseconds = 1e6;
         let proved = Summary::new(&times.proved, milliseconds);
         let plain = Summary::new(&times.plain, milliseconds);
         println!(
-            "\n0 rounds: proved {:.2} ms, least {:.2}; plain Rust {:.2} ms, least {:.2}",
+            "{keys} keys, 0 rounds: proved {:.2} ms, least {:.2}; plain Rust {:.2} ms, least {:.2}",
             proved.median, proved.least, plain.median, plain.least,
         );
         Ok(())
     }
 
-    /// Runs both on bad orders and on a few rounds of each kind of work.
+    /// Runs both on bad orders, on the longest one and on a few rounds of each
+    /// kind of work.
     pub fn compare(&self) -> Result<(), Failure> {
         for bad in BAD {
             self.time_once(bad)?;
         }
-        for work in Work::ALL {
-            for rounds in COMPARED {
-                self.time_once(&Order { work, rounds }.to_string())?;
+        self.time_once(LONGEST)?;
+        for (keys, rounds) in COMPARED {
+            for work in Work::ALL {
+                for &rounds in rounds {
+                    self.time_once(&Order { work, keys, rounds }.to_string())?;
+                }
             }
         }
         println!("speed: the sums agree");
@@ -172,10 +218,10 @@ impl Race<'_> {
     }
 
     /// As many rounds as take the slower program about the wanted time.
-    fn rounds_for(&self, work: Work) -> Result<u32, Failure> {
+    fn rounds_for(&self, work: Work, keys: u32) -> Result<u32, Failure> {
         let mut rounds = 64;
         loop {
-            let times = self.time(Order { work, rounds }, TRIALS)?;
+            let times = self.time(Order { work, keys, rounds }, TRIALS)?;
             let least = |times: &[Duration]| times.iter().min().copied().unwrap_or_default();
             let time = least(&times.proved).max(least(&times.plain));
             if time * 4 >= RUN_TIME {
@@ -194,18 +240,4 @@ impl Race<'_> {
         let (proved, plain) = pairs.into_iter().unzip();
         Ok(Times { proved, plain })
     }
-}
-
-fn print_row(name: &str, rounds: u32, times: &Times, operations: f64) {
-    let proved = Summary::new(&times.proved, operations);
-    let plain = Summary::new(&times.plain, operations);
-    println!(
-        "| {name} | {rounds} | {:.1} | {:.1} | {:.1} | {:.1} | {:.2} | {:.2} |",
-        proved.median,
-        proved.least,
-        plain.median,
-        plain.least,
-        proved.median / plain.median,
-        proved.least / plain.least,
-    );
 }

@@ -1,12 +1,9 @@
 //! The work that is timed, the same as that of the proved program
 //! (`crates/speed`): its orders, its keys, its rounds and its sums.
 
-use crate::store::{Scanned, Store};
+use crate::store::{is_legal_size, Scanned, Store};
 use std::fmt;
 use std::hint::black_box;
-
-/// As many keys as the store can hold, and as many buckets.
-pub const KEYS: u32 = 4096;
 
 /// What the first order of the keys and the first values are made of.
 const SEED: u32 = 123456789;
@@ -42,37 +39,48 @@ impl Work {
     }
 }
 
+/// So many rounds on a store of so many keys, in as many buckets.
 #[derive(Clone, Copy, Debug, PartialEq, Eq)]
 pub struct Order {
     pub work: Work,
+    pub keys: u32,
     pub rounds: u32,
 }
 
 impl fmt::Display for Order {
     fn fmt(&self, f: &mut fmt::Formatter) -> fmt::Result {
-        write!(f, "{} {}", self.work.letter(), self.rounds)
+        write!(f, "{} {} {}", self.work.letter(), self.keys, self.rounds)
     }
+}
+
+/// A number as a script has it: `parse` alone would take a sign and any number
+/// of zeros.
+fn parse_number(word: &str) -> Option<u32> {
+    let is_plain = word.len() <= 10 && word.bytes().all(|b| b.is_ascii_digit());
+    word.parse().ok().filter(|_| is_plain)
 }
 
 impl Order {
     fn parse(text: &str) -> Option<Order> {
         let line = text.strip_suffix('\n').unwrap_or(text);
-        let (letter, digits) = line.split_once(' ')?;
+        let words: Vec<&str> = line.split(' ').collect();
+        let [letter, keys, rounds] = words[..] else {
+            return None;
+        };
         let work = Work::ALL
             .into_iter()
             .find(|work| work.letter().to_string() == letter)?;
-        // `parse` alone would take a sign and any number of zeros.
-        let plain = digits.len() <= 10 && digits.bytes().all(|b| b.is_ascii_digit());
-        let rounds = digits.parse().ok().filter(|_| plain)?;
-        Some(Order { work, rounds })
+        let keys = parse_number(keys).filter(|&keys| is_legal_size(keys))?;
+        let rounds = parse_number(rounds)?;
+        Some(Order { work, keys, rounds })
     }
 
     fn run(self) -> u32 {
-        let size = KEYS as usize;
+        let size = self.keys as usize;
         let (mut first, mut second) = (vec![0; size], vec![0; size]);
         let (mut entries, mut list) = (vec![0; size * 3], vec![0; size * 2]);
         let mut store = Store::new(&mut first, &mut second, &mut entries);
-        let keys: Vec<u32> = numbers(1).take(size).collect();
+        let keys = make_keys(self.keys);
 
         fill(&mut store, &keys, SEED);
         let seeds = numbers(SEED).take(self.rounds as usize);
@@ -106,14 +114,19 @@ fn numbers(seed: u32) -> impl Iterator<Item = u32> {
     })
 }
 
-/// Every key once: from one place on, the same odd step again and again, both
-/// made of the seed.
+fn make_keys(count: u32) -> Vec<u32> {
+    numbers(1).take(count as usize).collect()
+}
+
+/// Every key once, of a power of two of them: from one place on, the same odd
+/// step again and again, both made of the seed.
 fn ordered(keys: &[u32], seed: u32) -> impl Iterator<Item = u32> + '_ {
-    let mut at = seed % KEYS;
-    let step = (seed / KEYS % KEYS) | 1;
+    let mask = keys.len() - 1;
+    let mut at = seed as usize & mask;
+    let step = ((seed >> 15) as usize & mask) | 1;
     keys.iter().map(move |_| {
-        let key = keys[at as usize];
-        at = (at + step) % KEYS;
+        let key = keys[at];
+        at = (at + step) & mask;
         key
     })
 }
@@ -125,7 +138,8 @@ fn fill(store: &mut Store, keys: &[u32], seed: u32) {
     // compiler, as it is where a caller keeps it between calls: each field by
     // itself, so that no two are known to be equal either. The proved program
     // does so once for each start too, by a byte for each field.
-    let _ = store.init(KEYS, KEYS);
+    let size = keys.len() as u32;
+    let _ = store.init(size, size);
     store.state = black_box(store.state);
     let mut value = seed;
     for key in ordered(keys, seed) {
@@ -161,6 +175,31 @@ fn walk_all(store: &Store, list: &mut [u32], sum: u32) -> u32 {
 mod tests {
     use super::*;
 
+    /// The least number of keys, and those that are timed.
+    const SIZES: [u32; 3] = [1, 4096, 65536];
+
+    fn sum(numbers: impl IntoIterator<Item = u32>) -> u32 {
+        numbers.into_iter().fold(0, u32::wrapping_add)
+    }
+
+    #[test]
+    fn orders_are_read_as_they_are_written() {
+        for keys in SIZES {
+            for work in Work::ALL {
+                let order = Order {
+                    work,
+                    keys,
+                    rounds: 7,
+                };
+                assert_eq!(Order::parse(&order.to_string()), Some(order));
+                assert_eq!(Order::parse(&format!("{order}\n")), Some(order));
+            }
+        }
+        let longest = "W 0000065536 4294967295\n";
+        assert_eq!(longest.len(), 24);
+        assert!(Order::parse(longest).is_some());
+    }
+
     #[test]
     fn bad_orders_are_refused() {
         for text in [
@@ -168,14 +207,27 @@ mod tests {
             "\n",
             "A",
             "A ",
-            "A  1",
+            "A 1",
             "A 1 ",
-            "X 1",
-            "AA 1",
-            "A +1",
-            "A 1\n\n",
-            "A 4294967296",
-            "A 00000000001",
+            "A  1",
+            "A  1 1",
+            "A 1  1",
+            "A 1 1 ",
+            "A 1 1 1",
+            " A 1 1",
+            "X 1 1",
+            "AA 1 1",
+            "A +1 1",
+            "A 1 +1",
+            "A 1 1\n\n",
+            "A 1 4294967296",
+            "A 1 00000000001",
+            "A 00000000001 1",
+            "A 0 1",
+            "A 3 1",
+            "A 4095 1",
+            "A 131072 1",
+            "A 4294967296 1",
         ] {
             assert_eq!(Order::parse(text), None, "{text:?}");
         }
@@ -183,27 +235,29 @@ mod tests {
 
     #[test]
     fn every_key_is_found_and_walked() {
-        let keys: Vec<u32> = numbers(1).take(KEYS as usize).collect();
-        let sum = |numbers: &[u32]| numbers.iter().fold(0, |sum: u32, n| sum.wrapping_add(*n));
-        let values: Vec<u32> = (SEED..SEED + KEYS).collect();
-        let both = sum(&keys).wrapping_add(sum(&values));
-        let twice = both.wrapping_add(both);
-        assert_eq!(answer("A 0"), format!("{both}\n"));
-        assert_eq!(answer("W 1\n"), format!("{twice}\n"));
-        let found = both.wrapping_add(sum(&values));
-        assert_eq!(answer("F 1"), format!("{found}\n"));
+        for size in SIZES {
+            let values = sum(SEED..SEED + size);
+            let both = sum(make_keys(size)).wrapping_add(values);
+            let twice = both.wrapping_add(both);
+            assert_eq!(answer(&format!("A {size} 0")), format!("{both}\n"));
+            assert_eq!(answer(&format!("W {size} 1\n")), format!("{twice}\n"));
+            let found = both.wrapping_add(values);
+            assert_eq!(answer(&format!("F {size} 1")), format!("{found}\n"));
+        }
     }
 
     #[test]
     fn an_order_has_every_key_once() {
-        let keys: Vec<u32> = numbers(1).take(KEYS as usize).collect();
-        let mut sorted = keys.clone();
-        sorted.sort();
-        for seed in numbers(SEED).take(100) {
-            let mut visited: Vec<u32> = ordered(&keys, seed).collect();
-            assert_ne!(visited, keys);
-            visited.sort();
-            assert_eq!(visited, sorted);
+        for size in SIZES {
+            let keys = make_keys(size);
+            let mut sorted = keys.clone();
+            sorted.sort();
+            for seed in numbers(SEED).take(100) {
+                let mut visited: Vec<u32> = ordered(&keys, seed).collect();
+                assert!(size == 1 || visited != keys);
+                visited.sort();
+                assert_eq!(visited, sorted);
+            }
         }
     }
 
@@ -211,16 +265,18 @@ mod tests {
     /// and a few have five keys or more.
     #[test]
     fn chains_have_many_lengths() {
-        let mut lengths = vec![0; KEYS as usize];
-        for key in numbers(1).take(KEYS as usize) {
-            lengths[(key % KEYS) as usize] += 1;
+        for size in [4096, 65536] {
+            let mut lengths = vec![0; size as usize];
+            for key in make_keys(size) {
+                lengths[(key % size) as usize] += 1;
+            }
+            let per_thousand = |least, most| {
+                let within = lengths.iter().filter(|n| (least..=most).contains(*n));
+                within.count() * 1000 / lengths.len()
+            };
+            assert!((340..390).contains(&per_thousand(0, 0)));
+            assert!((340..390).contains(&per_thousand(1, 1)));
+            assert!((1..10).contains(&per_thousand(5, size)));
         }
-        let count = |least, most| {
-            let within = lengths.iter().filter(|n| (least..=most).contains(*n));
-            within.count()
-        };
-        assert!((1400..1600).contains(&count(0, 0)));
-        assert!((1400..1600).contains(&count(1, 1)));
-        assert!((5..40).contains(&count(5, 4096)));
     }
 }

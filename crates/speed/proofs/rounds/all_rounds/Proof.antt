@@ -1,4 +1,4 @@
--- `speed::rounds::all_rounds` is safe and ends. The buffers and the list keep their lengths.
+-- `speed::rounds::all_rounds` is safe and ends. The buffers, the list and the keys keep their lengths.
 -- Assumes nothing.
 use mathlib.Core.Path.{_≡_}
 use native.Mathlib.Omega.{arith}
@@ -7,12 +7,15 @@ use Rattle.speed.proofs.rounds.all_rounds.Statement.{statement}
 use Rattle.speed.proofs.rounds.all_rounds.Tie as tie
 
 abbrev Inv-loop : tie.InvT-loop
-Inv-loop first₀ second₀ entries₀ list₀ keys work rounds zero last₀ seed₀ left₀ first second entries list last seed left =
+Inv-loop first₀ second₀ entries₀ list₀ keys order padding last₀ seed₀ left₀ first second entries list last seed left =
     (length first ≡ length first₀) × (length second ≡ length second₀) × (length entries ≡ length entries₀) × (length list ≡ length list₀)
 
 abbrev μ-loop : tie.MeasureT-loop
-μ-loop first₀ second₀ entries₀ list₀ keys work rounds zero last₀ seed₀ left₀ first second entries list last seed left =
+μ-loop first₀ second₀ entries₀ list₀ keys order padding last₀ seed₀ left₀ first second entries list last seed left =
     left
+
+make-keys-requires : tie.Need-make-keys-requires Inv-loop μ-loop
+make-keys-requires c κs = tt
 
 fill-requires : tie.Need-fill-requires Inv-loop μ-loop
 fill-requires c κs = tt
@@ -50,6 +53,9 @@ same-length-3 c = omega arith
 same-length-4 : tie.Need-same-length-4 Inv-loop μ-loop
 same-length-4 c = omega arith
 
+same-length-5 : tie.Need-same-length-5 Inv-loop μ-loop
+same-length-5 c = omega arith
+
 returns : tie.Need-returns Inv-loop μ-loop
 returns c = tt
 
@@ -59,6 +65,7 @@ all-rounds-spec =
     (tie.spec
     Inv-loop
     μ-loop
+    make-keys-requires
     fill-requires
     loop-holds
     sub-left
@@ -71,4 +78,5 @@ all-rounds-spec =
     same-length-2
     same-length-3
     same-length-4
+    same-length-5
     returns)

@@ -1,4 +1,5 @@
-// How many entries the group of a walk call has. Every chain is tested here, before any is written.
+// How many entries the group of a walk call has. Every chain is tested here, before any is written. Chains with more
+// entries than the limit, all together, are no more sound than one that loops.
 use crate::bucket::bucket_head;
 use cursor::next_cursor;
 use memory::chain::ChainLength;
@@ -18,9 +19,9 @@ fn least(a: u32, b: u32) -> u32
     if a < b { a } else { b }
 }
 
-// Those of the larger table, of which there may be so many. A chain is read no further than the limit leaves, so however it
-// loops, all of them together cost no more than that. The next cursor of a size is below that size, so its bits between the
-// two sizes are zero once it is below the smaller one.
+// Those of the larger table. A chain is read no further than the limit leaves, so however the chains loop, reading them all
+// costs no more than that. The next cursor of a size is below that size, so its bits between the two sizes are zero once it
+// is below the smaller one.
 fn count_large(
     larger: &[u32],
     entries: &[u32],
@@ -51,7 +52,7 @@ fn count_large(
     }
 }
 
-// Those of both tables, of which there may be so many: the smaller one's chain, from its head, then the larger one's.
+// Those of both tables: the smaller one's chain, from its head, then the larger one's.
 pub fn count_group(
     head: u32,
     larger: &[u32],

@@ -19,7 +19,7 @@ use Rattle.model.specs.declared.ScanAnswer.{ScanAnswer}
 use Rattle.model.specs.Keys.{bucketOf, hash}
 use Rattle.model.specs.Memory.{sizeOf, usedOf, bucketsOf, keysHeld, Place, headAt, budgetAt, chainAt, chain}
 use Rattle.model.specs.Calls.{oriented}
-use Rattle.model.specs.Walk.{AfterScan, Tables, tablesBy, tablesOf, group, smallFirst, groupPlaces, joined, chainsAt, atMost, scanned}
+use Rattle.model.specs.Walk.{AfterScan, tablesBy, tablesOf, group, smallFirst, groupPlaces, joined, chainsAt, atMost, scanned}
 use Rattle.model.specs.Walk as walk
 use Rattle.model.proofs.Soundness.{Sound}
 use Rattle.model.proofs.AtMost.{at-most-few}

@@ -2,7 +2,7 @@
 -- each row. At size 1 it holds for every cursor, since the next cursor is below the size; and the suggested size is the largest
 -- for all numbers of keys above half of that.
 -- Assumes nothing.
-use Prim.Native.Nat.{ℕ, suc, _*_, _^_, _<_}
+use Prim.Native.Nat.{ℕ, _*_, _^_}
 use mathlib.Core.Path.{_≡_, refl, sym, ap₂, subst, _∙_}
 use mathlib.Core.Bool.{Bool, true, false, _&&_}
 use mathlib.Core.List.{List, [], _∷_}

@@ -56,7 +56,7 @@ pub legal-pos : (e n : ℕ) → powerUpTo e n ≡ true → 0 < n
 legal-pos e n h = let q = power-of e n h in omega (arith, pow-pos (q .0))
 
 -- and at most the largest power
-pub legal-le : (e n : ℕ) → powerUpTo e n ≡ true → n ≤ 2 ^ e
+legal-le : (e n : ℕ) → powerUpTo e n ≡ true → n ≤ 2 ^ e
 legal-le e n h = let q = power-of e n h in omega (arith, pow-mono (q .1))
 
 -- ---- the mask

@@ -7,7 +7,7 @@ use Rattle.cursor.specs.Group.{Group, oneTable, twoTables}
 use Rattle.model.specs.Calls.{suggested}
 
 -- A walk's cursor at one live table, or at two; the cursors of a whole walk; any cursor; the suggested size for some keys, and
--- for any number of keys above one.
+-- for every number of keys above a given one.
 pub data Row : Type 0 where
   at-one : (size cursor bucket next : ℕ) → Row
   at-two : (small large cursor bucket : ℕ) (buckets : List ℕ) (next : ℕ) → Row

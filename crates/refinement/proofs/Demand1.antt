@@ -2,16 +2,19 @@
 -- Assumes nothing.
 use Prim.Native.Nat.{ℕ}
 use mathlib.Core.Path.{_≡_, refl, sym, ap, _∙_}
+use mathlib.Core.Bool.{Bool, true, false, cond}
 use mathlib.Core.List.{List, [], _∷_}
 use mathlib.Core.Logic.{inl, inr}
 use native.Mathlib.Omega.{arith}
 use Rattle.model.specs.declared.State.{State}
 use Rattle.model.specs.Calls.{stateOf, emptyState, noState}
-use Rattle.model.specs.Sequences.{World, Call, Outcome, perform}
+use Rattle.model.specs.Answers.{reply}
+use Rattle.model.specs.Sequences.{World, Call, Outcome, kept, perform}
 use Rattle.model.proofs.Soundness.{sound-facts}
-use Rattle.refinement.specs.Worlds.{current, other}
-use Rattle.refinement.specs.Demand1.{BadState, Row, row, rows, Decides, Demand1}
+use Rattle.refinement.specs.Worlds.{current, other, UndamagedAt}
+use Rattle.refinement.specs.Demand1.{BadState, GroupDamaged, Row, row, rows, Decides, Demand1}
 use Rattle.refinement.proofs.Demand1Calls.{decides, leaves, good}
+use Rattle.refinement.proofs.GroupEntries.{enough, handsOut, isShort, walk-call}
 
 -- Demand 1.
 pub demand1 : Demand1 perform
@@ -30,6 +33,29 @@ decides-one m n (r ∷ rs) (inr d) (inr e) = decides-one m n rs (d .1) (e .1)
 pub same-number : (does : World → Call → Outcome) → Demand1 does → (w : World) (c : Call)
     → does w c .reply .number ≡ perform w c .reply .number
 same-number does d w c = decides-one _ _ (rows w c) (d .numbers w c) (demand1 .numbers w c)
+
+-- on an undamaged store no walk call is damaged, neither by a chain nor by how many entries its group has: ours answers 0 or 9
+
+second-row : (n m k : ℕ) (first second : Type 0) (rs : List Row) → ¬ (n ≡ m) → ¬ (n ≡ k)
+    → Decides n (row m first ∷ row k second ∷ rs) → ¬ second
+unfolding Decides row
+second-row n m k first second rs f g (inl h) = absurd (f (h .1))
+second-row n m k first second rs f g (inr (h, inl i)) = absurd (g (i .1))
+second-row n m k first second rs f g (inr (h, inr i)) = i .0
+
+pub never-damaged : (w : World) → UndamagedAt w → (cursor : ℕ) → ¬ GroupDamaged w cursor
+unfolding rows kept reply
+never-damaged w u cursor =
+    by (enough w cursor []) (perform w (Call.scan cursor [])) (walk-call w u cursor []) (demand1 .numbers w (Call.scan cursor []))
+  where
+    by : (t : Bool) (o : Outcome) → o ≡ cond t (handsOut w cursor []) (isShort w cursor [])
+        → Decides (o .reply .number) (rows w (Call.scan cursor [])) → ¬ GroupDamaged w cursor
+    by true o e d =
+        let zero : o .reply .number ≡ 0 = ap (λ (o : Outcome). o .reply .number) e in
+        second-row _ 1 2 _ _ _ (λ h. omega arith) (λ h. omega arith) d
+    by false o e d =
+        let nine : o .reply .number ≡ 9 = ap (λ (o : Outcome). o .reply .number) e in
+        second-row _ 1 2 _ _ _ (λ h. omega arith) (λ h. omega arith) d
 
 -- the state of zeros is no store: every call but init tests the state first, and refuses it
 

@@ -15,7 +15,7 @@ use Rattle.cursor.specs.Member.{Distinct}
 use Rattle.model.specs.declared.ScanAnswer.{ScanAnswer}
 use Rattle.model.specs.Memory.{Place, sizeOf, keysHeld, keyOf, listed}
 use Rattle.model.specs.Answers.{reply, scanReply}
-use Rattle.model.specs.Walk.{tablesOf, group, groupPlaces, AfterScan, pairs, scanned, scan}
+use Rattle.model.specs.Walk.{tablesOf, group, groupPlaces, chainsAt, atMost, AfterScan, pairs, scanned, scan}
 use Rattle.model.specs.Sequences.{World, Call, Outcome, kept, keptScan, given, perform}
 use Rattle.model.proofs.Soundness.{Sound}
 use Rattle.model.proofs.AtMost.{at-most-few}
@@ -94,20 +94,27 @@ module _ (w : World) (u : UndamagedAt w) where
     pub group-distinct : Distinct (map (keyOf (w .entries)) (groupEntries w cursor))
     group-distinct = rw group-entries (keys-once w u (places w cursor) group-buckets)
 
-    -- no more entries than the store holds keys, so that no group is damaged by their sum
-    group-fits : length (groupEntries w cursor) ≤ keysHeld (w .state)
+    -- no more entries than the store holds keys, so that no group is damaged by their number
+    pub group-fits : length (groupEntries w cursor) ≤ keysHeld (w .state)
     unfolding keysHeld
     group-fits = rw group-entries (entries-fit w u (places w cursor) group-buckets)
+
+    group-read : atMost (keysHeld (w .state)) (chainsAt (w .state) (current w) (other w) (w .entries) (places w cursor))
+        ≡ some (groupEntries w cursor)
+    unfolding listed
+    group-read =
+        rw (read-some w u (places w cursor) group-buckets, ← group-entries)
+        (at-most-few (keysHeld (w .state)) (some (groupEntries w cursor)) group-fits)
 
   -- the call: with two places for each entry of its group it hands them out
   module _ (cursor : ℕ) (lent : List ℕ) where
     pub walk-call : perform w (Call.scan cursor lent)
         ≡ cond (enough w cursor lent) (handsOut w cursor lent) (isShort w cursor lent)
-    unfolding perform given scan scanned listed UndamagedAt
+    unfolding perform given scan scanned UndamagedAt
     walk-call =
         ap (keptScan w)
         (reads-sound w _ _ (shape-sound (undamaged-shape u))
-        ∙ rw (read-some w u (places w cursor) (group-buckets cursor), ← group-entries cursor, at-most-few (keysHeld (w .state)) (some (groupEntries w cursor)) (group-fits cursor))
+        ∙ rw (group-read cursor)
         (held-or-none (w .entries) lent _ (keysHeld (w .state)) (groupEntries w cursor) (group-fits cursor)))
         ∙ either-answer w cursor lent (enough w cursor lent)
 

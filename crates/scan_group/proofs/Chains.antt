@@ -1,5 +1,5 @@
--- Chains read one after the other: what their parts say of the whole, how long they are, and that a chain that is sound is
--- read the same where more is allowed.
+-- Chains read one after the other: what their parts say of the whole; how long a chain is, and that one that is sound is read
+-- the same where more is allowed.
 -- Assumes nothing.
 use Prim.Native.Nat.{ℕ, _+_, _*_, _≤_}
 use mathlib.Core.Path.{_≡_, refl, sym, ap, _∙_}

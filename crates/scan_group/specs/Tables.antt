@@ -1,4 +1,4 @@
--- What reading the live tables asks of the sizes, the buffers and the keys held.
+-- What reading the live tables asks of the sizes and the buffers.
 use Prim.Native.Nat.{ℕ, _*_, _≤_, _<_}
 use mathlib.Core.Path.{_≡_}
 use mathlib.Core.Bool.{true}

@@ -19,9 +19,9 @@ fn least(a: u32, b: u32) -> u32
     if a < b { a } else { b }
 }
 
-// Those of the larger table. A chain is read no further than the limit leaves, so however the chains loop, reading them all
-// costs no more than that. The next cursor of a size is below that size, so its bits between the two sizes are zero once it
-// is below the smaller one.
+// Those of the larger table. A chain is read no further than the limit leaves, so however the chains loop, no more entries
+// than that are read. The next cursor of a size is below that size, so its bits between the two sizes are zero once it is
+// below the smaller one.
 fn count_large(
     larger: &[u32],
     entries: &[u32],
@@ -52,7 +52,8 @@ fn count_large(
     }
 }
 
-// Those of both tables: the smaller one's chain, from its head, then the larger one's.
+// Those of both tables: the smaller one's chain, from its head, then the larger one's. A chain may have as many as its
+// table holds keys, and all of them together as many as the limit.
 pub fn count_group(
     head: u32,
     larger: &[u32],

@@ -16,8 +16,8 @@ use Rattle.script.specs.Answers.{answerLine, badLine}
 unfoldable pub programLimit : ℕ
 programLimit = 4096
 
--- A capacity or a size as the store is asked for it. One above the limit is asked for as 0, which is neither: so it is refused,
--- and just where the store refuses a number that is neither.
+-- A capacity or a size as the store is asked for it. One above the limit is asked for as 0, which is no capacity and no size:
+-- so it is refused, and just where the store refuses such a number.
 unfoldable pub limited : ℕ → ℕ
 limited n = cond (leb n programLimit) n 0
 

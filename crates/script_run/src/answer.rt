@@ -1,4 +1,5 @@
 // What a call replies, and the line that it is written as.
+use crate::PROGRAM_LIMIT;
 use model::Error;
 use model::State;
 use script::answer::error_number;
@@ -10,9 +11,6 @@ ghost use lib.ListN.{take};
 ghost use Rattle.model.specs.Answers.{errorNumber};
 ghost use Rattle.script.specs.Answers.{answerLine};
 ghost use Rattle.script_run.specs.Runs.{replied, valuesOf, handed, Room, Written, Told};
-
-// The largest capacity and the largest table size that the program takes. Its buffers have room for just these.
-pub const PROGRAM_LIMIT: usize = 4096;
 
 // The places that a walk call is lent: two for each key.
 pub const PAIR_ROOM: usize = PROGRAM_LIMIT * 2;

@@ -1,6 +1,6 @@
 // One line, by what it says.
+use crate::PROGRAM_LIMIT;
 use crate::answer::LineAnswer;
-use crate::answer::PROGRAM_LIMIT;
 use crate::answer::Reply;
 use crate::answer::Values;
 use crate::answer::numbered;

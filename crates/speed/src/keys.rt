@@ -1,10 +1,11 @@
 // The keys: a fixed sequence without a repetition, scattered so that the chains of a full table come in the lengths of
 // a table whose keys are random, from none to a handful.
+use model::LARGEST_CAPACITY;
 use std::num::wrapping_add_usize;
 use std::num::wrapping_sub_usize;
 
 // As many keys as the largest store can hold, and as many buckets.
-pub(crate) const MAX_KEYS: usize = 65536;
+pub(crate) const MAX_KEYS: usize = LARGEST_CAPACITY as usize;
 
 // The generator of Park and Miller, "minimal standard": below its prime it meets every number but 0 before it repeats one.
 const MULTIPLIER: u64 = 48271;
@@ -33,7 +34,7 @@ pub(crate) struct Path {
 }
 
 // Another way for each seed, so that a processor cannot learn the branches of one round from those of the round before:
-// the place is made of the seed's lower bits, the step of its upper ones.
+// the place is made of the seed's lowest bits, the step of those above its lowest fifteen.
 pub(crate) fn path_of(keys: &[u32], seed: u32) -> Path {
     let mask = wrapping_sub_usize(keys.len(), 1);
     Path {

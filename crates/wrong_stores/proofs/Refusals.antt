@@ -15,13 +15,18 @@ use Rattle.model.specs.Calls.{recounted, oldNew}
 use Rattle.model.specs.Sequences.{World, world, Call, Outcome, perform, run}
 use Rattle.refinement.specs.Demand1.{Demand1, nth, Chain, SoundChain, places, TooMany}
 use Rattle.refinement.specs.Demand3.{Demand3}
-use Rattle.wrong_stores.specs.Refusals.{refusesAll, refusesResizes, overlooksDamage, losesState, writesFirst, refusesWalks, alwaysShort, readAgain, sumAfterShort, sumByCapacity, sumBelowKeys, roomForAll, shortMiscounts, countsRefused, writesRefused}
+use Rattle.wrong_stores.specs.Refusals.{refusesAll, refusesLarge, refusesResizes, overlooksDamage, losesState, writesFirst, refusesWalks, alwaysShort, readAgain, sumAfterShort, sumByCapacity, sumBelowKeys, roomForAll, shortMiscounts, countsRefused, writesRefused}
 use Rattle.wrong_stores.proofs.Start.{computing, zeros, started, room, find, update, add, at, apart, differ, neither, no-look}
 
 -- Demand 3, `begins`: the start's number is fixed by the limits and the lengths.
 pub refusesAll-excluded : Demand3 refusesAll → ⊥
 unfolding computing refusesAll
 refusesAll-excluded d = eqb-false 1 0 refl (d .begins zeros 1 1)
+
+-- a capacity and a size up to the limits are not refused for themselves
+pub refusesLarge-excluded : Demand3 refusesLarge → ⊥
+unfolding computing refusesLarge
+refusesLarge-excluded d = eqb-false 6 1 refl (d .begins zeros 5000 8192)
 
 -- Demand 3, `answers`, `number`.
 

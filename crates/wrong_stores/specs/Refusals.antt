@@ -5,7 +5,7 @@ use mathlib.Core.Bool.{_&&_, cond}
 use mathlib.Core.List.{List, [], _∷_}
 use mathlib.Core.Option.{Option}
 use lib.ListN.{length, getD, replicate}
-use lib.Dec.{leb, eqb}
+use lib.Dec.{leb, ltb, eqb}
 use Rattle.model.specs.declared.Error.{Error}
 use Rattle.model.specs.declared.FindAnswer.{FindAnswer}
 use Rattle.model.specs.declared.ResizeAnswer.{ResizeAnswer}
@@ -14,13 +14,17 @@ use Rattle.model.specs.Memory.{keysHeld, setValue}
 use Rattle.model.specs.Answers.{reply, findReply, resizeReply}
 use Rattle.model.specs.Calls.{noState}
 use Rattle.model.specs.Walk.{AfterScan, tablesOf, group, groupPlaces, chainsAt, atMost, scanned}
-use Rattle.model.specs.Sequences.{World, Call, Outcome, kept, keptScan}
+use Rattle.model.specs.Sequences.{World, Call, Outcome, kept, keptScan, perform}
 use Rattle.refinement.specs.Worlds.{current, other}
-use Rattle.wrong_stores.specs.OneCall.{but, butFind, butUpdate, butResize, butScan, ifDone, ifRefused, answering, handingBack, listing, leaving}
+use Rattle.wrong_stores.specs.OneCall.{but, butInit, butFind, butUpdate, butResize, butScan, ifDone, ifRefused, answering, handingBack, listing, leaving}
 
 -- refuses every call
 unfoldable pub refusesAll : World → Call → Outcome
 refusesAll w c = kept w (reply 1 [] (w .state)) []
+
+-- a start takes no capacity and no size above 4,096: it answers as to a capacity of 0
+unfoldable pub refusesLarge : World → Call → Outcome
+refusesLarge = butInit (λ capacity size w o. cond (leb capacity 4096 && leb size 4096) o (perform w (Call.init 0 size)))
 
 -- refuses every resize
 unfoldable pub refusesResizes : World → Call → Outcome
@@ -53,6 +57,15 @@ alwaysShort =
     (λ cursor lent w o.
     ifDone (keptScan w (AfterScan.after (ScanAnswer.Short (getD (o .reply .values) 1 0)) lent)) o)
 
+-- damaged where the group has as many entries as there are keys held, and some are held
+unfoldable pub sumBelowKeys : World → Call → Outcome
+sumBelowKeys =
+    butScan
+    (λ cursor lent w o.
+    cond (ltb 0 (keysHeld (w .state)) && eqb (getD (o .reply .values) 1 0) (keysHeld (w .state)))
+    (keptScan w (AfterScan.after (ScanAnswer.Refused Error.Damaged) lent))
+    o)
+
 -- What a call that ours refuses as damaged would be with another limit on the entries of its group, or with none.
 
 unfoldable pub readAgain : (World → Option (List ℕ) → Option (List ℕ)) → World → ℕ → List ℕ → Outcome
@@ -75,15 +88,6 @@ sumByCapacity =
     butScan
     (λ cursor lent w o.
     cond (eqb (o .reply .number) 2) (readAgain (λ w ns. atMost (w .state .capacity) ns) w cursor lent) o)
-
--- damaged where the group has as many entries as there are keys held
-unfoldable pub sumBelowKeys : World → Call → Outcome
-sumBelowKeys =
-    butScan
-    (λ cursor lent w o.
-    cond (eqb (getD (o .reply .values) 1 0) (keysHeld (w .state)))
-    (keptScan w (AfterScan.after (ScanAnswer.Refused Error.Damaged) lent))
-    o)
 
 -- short unless the list has two places for every key held
 unfoldable pub roomForAll : World → Call → Outcome

@@ -3,17 +3,18 @@
 -- Assumes nothing.
 use Prim.Native.Nat.{ℕ, zero, suc, _<_, _≤_}
 use mathlib.Core.Path.{_≡_, refl, ap, subst}
+use mathlib.Core.Bool.{false}
 use mathlib.Core.Logic.{inl, inr}
 use mathlib.Core.List.{List, [], _∷_}
 use lib.ListN.{getD, replicate}
-use lib.Dec.{lit<, lit≤}
+use lib.Dec.{eqb, lit<, lit≤}
 use borrow.Author.Tests.{eqb-false}
 use native.Mathlib.Omega.{arith}
 use Rattle.model.specs.declared.Table.{Table}
 use Rattle.model.specs.Memory.{Place, linkOf}
 use Rattle.model.specs.Calls.{recounted, oldNew}
 use Rattle.model.specs.Sequences.{World, world, Call, Outcome, perform, run}
-use Rattle.refinement.specs.Demand1.{Demand1, nth, Chain, SoundChain, places, TooMany}
+use Rattle.refinement.specs.Demand1.{Demand1, nth, Chain, SoundChain, places, TooMany, rows, Decides}
 use Rattle.refinement.specs.Demand3.{Demand3}
 use Rattle.wrong_stores.specs.Refusals.{refusesAll, refusesLarge, refusesResizes, overlooksDamage, losesState, writesFirst, refusesWalks, alwaysShort, readAgain, sumAfterShort, sumByCapacity, sumBelowKeys, roomForAll, shortMiscounts, countsRefused, writesRefused}
 use Rattle.wrong_stores.proofs.Start.{computing, zeros, started, room, find, update, add, at, apart, differ, neither, no-look}
@@ -123,19 +124,20 @@ two-counted =
       lit< tt,
     )
 
+-- no number but 2 will do
+must-be-damaged : (n : ℕ) (lent : List ℕ) → eqb n 1 ≡ false → eqb n 2 ≡ false → Decides n (rows miscounted (Call.scan 0 lent)) → ⊥
+unfolding computing miscounted
+must-be-damaged n lent f g =
+    neither (λ h. eqb-false n 1 f (h .1))
+    (λ h. neither (λ i. eqb-false n 2 g (i .1)) (λ i. i .0 (lit< tt, inr two-counted)) (h .1))
+
 pub sumAfterShort-excluded : Demand1 sumAfterShort → ⊥
 unfolding computing sumAfterShort readAgain miscounted
-sumAfterShort-excluded d =
-    neither (λ h. eqb-false 9 1 refl (h .1))
-    (λ h. neither (λ g. eqb-false 9 2 refl (g .1)) (λ g. g .0 (lit< tt, inr two-counted)) (h .1))
-    (d .numbers miscounted (Call.scan 0 []))
+sumAfterShort-excluded d = must-be-damaged 9 [] refl refl (d .numbers miscounted (Call.scan 0 []))
 
 pub sumByCapacity-excluded : Demand1 sumByCapacity → ⊥
 unfolding computing sumByCapacity readAgain miscounted
-sumByCapacity-excluded d =
-    neither (λ h. eqb-false 0 1 refl (h .1))
-    (λ h. neither (λ g. eqb-false 0 2 refl (g .1)) (λ g. g .0 (lit< tt, inr two-counted)) (h .1))
-    (d .numbers miscounted (Call.scan 0 room))
+sumByCapacity-excluded d = must-be-damaged 0 room refl refl (d .numbers miscounted (Call.scan 0 room))
 
 -- Demand 1, `refusals`. A refusal leaves the state, ..
 

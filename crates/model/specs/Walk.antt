@@ -81,6 +81,7 @@ scanned entries lent next (some ns) =
     (AfterScan.after (ScanAnswer.Scanned next (length ns)) (pairs entries ns ++ drop (length ns * 2) lent))
     (AfterScan.after (ScanAnswer.Short (length ns)) lent)
 
+-- with no keys held no chain is read; those of a group together may have as many entries as keys are held
 unfoldable pub scan : State → List ℕ → List ℕ → List ℕ → List ℕ → ℕ → AfterScan
 scan s first second entries lent cursor =
     reading s first second entries (AfterScan.after (ScanAnswer.Refused Error.BadState) lent)

@@ -1,5 +1,5 @@
 -- The stores of specs/Refusals are excluded, by demand 3 or by demand 1. Demand 1 is about any world: those here are made by
--- ours from a start of one bucket.
+-- ours from a start of one bucket, and two of them then damaged.
 -- Assumes nothing.
 use Prim.Native.Nat.{ℕ, zero, suc, _<_, _≤_}
 use mathlib.Core.Path.{_≡_, refl, ap, subst}
@@ -11,12 +11,13 @@ use lib.Dec.{eqb, lit<, lit≤}
 use borrow.Author.Tests.{eqb-false}
 use native.Mathlib.Omega.{arith}
 use Rattle.model.specs.declared.Table.{Table}
+use Rattle.model.specs.Limits.{largestCapacity}
 use Rattle.model.specs.Memory.{Place, linkOf}
 use Rattle.model.specs.Calls.{recounted, oldNew}
 use Rattle.model.specs.Sequences.{World, world, Call, Outcome, perform, run}
 use Rattle.refinement.specs.Demand1.{Demand1, nth, Chain, SoundChain, places, TooMany, rows, Decides}
 use Rattle.refinement.specs.Demand3.{Demand3}
-use Rattle.wrong_stores.specs.Refusals.{refusesAll, refusesLarge, refusesResizes, overlooksDamage, losesState, writesFirst, refusesWalks, alwaysShort, readAgain, sumAfterShort, sumByCapacity, sumBelowKeys, roomForAll, shortMiscounts, countsRefused, writesRefused}
+use Rattle.wrong_stores.specs.Refusals.{refusesAll, refusesLarge, takesLarger, refusesResizes, overlooksDamage, losesState, writesFirst, refusesWalks, alwaysShort, readAgain, sumAfterShort, sumByCapacity, sumBelowKeys, roomForAll, shortMiscounts, countsRefused, writesRefused}
 use Rattle.wrong_stores.proofs.Start.{computing, zeros, started, room, find, update, add, at, apart, differ, neither, no-look}
 
 -- Demand 3, `begins`: the start's number is fixed by the limits and the lengths.
@@ -28,6 +29,11 @@ refusesAll-excluded d = eqb-false 1 0 refl (d .begins zeros 1 1)
 pub refusesLarge-excluded : Demand3 refusesLarge → ⊥
 unfolding computing refusesLarge
 refusesLarge-excluded d = eqb-false 6 1 refl (d .begins zeros 5000 8192)
+
+-- and above them they are
+pub takesLarger-excluded : Demand3 takesLarger → ⊥
+unfolding computing takesLarger
+takesLarger-excluded d = eqb-false 1 6 refl (d .begins zeros (suc largestCapacity) 1)
 
 -- Demand 3, `answers`, `number`.
 

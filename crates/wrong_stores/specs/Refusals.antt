@@ -10,6 +10,7 @@ use Rattle.model.specs.declared.Error.{Error}
 use Rattle.model.specs.declared.FindAnswer.{FindAnswer}
 use Rattle.model.specs.declared.ResizeAnswer.{ResizeAnswer}
 use Rattle.model.specs.declared.ScanAnswer.{ScanAnswer}
+use Rattle.model.specs.Limits.{largestCapacity}
 use Rattle.model.specs.Memory.{keysHeld, setValue}
 use Rattle.model.specs.Answers.{reply, findReply, resizeReply}
 use Rattle.model.specs.Calls.{noState}
@@ -25,6 +26,10 @@ refusesAll w c = kept w (reply 1 [] (w .state)) []
 -- a start takes no capacity and no size above 4,096: it answers as to a capacity of 0
 unfoldable pub refusesLarge : World → Call → Outcome
 refusesLarge = butInit (λ capacity size w o. cond (leb capacity 4096 && leb size 4096) o (perform w (Call.init 0 size)))
+
+-- a start answers to a capacity above the largest as to the largest
+unfoldable pub takesLarger : World → Call → Outcome
+takesLarger = butInit (λ capacity size w o. cond (leb capacity largestCapacity) o (perform w (Call.init largestCapacity size)))
 
 -- refuses every resize
 unfoldable pub refusesResizes : World → Call → Outcome

@@ -6,8 +6,18 @@ use Rattle.dict_scan.proofs.Scanning.{scanned-damaged, scanned-short, t
 use Rattle.dict_scan.proofs.scan.scan_two.Statement.{statement}
 use Rattle.dict_scan.proofs.scan.scan_two.Tie as tie
 
-pub scan-two-spec : {M : Type 1} → statement M
+damaged : tie.Need-returns
 unfolding scannedTwo
+damaged c = search scanned-damaged
+
+handed-out : tie.Need-returns-2
+handed-out c = search two-written
+
+short : tie.Need-returns-3
+unfolding scannedTwo
+short c = search scanned-short
+
+pub scan-two-spec : {M : Type 1} → statement M
 scan-two-spec =
     tie.close
     (tie.spec
@@ -19,7 +29,7 @@ scan-two-spec =
     (λ c. search needs)
     (λ c. search needs)
     (λ c κs. (search needs, search two-writable))
-    (λ c. search scanned-damaged)
+    damaged
     (λ c. search needs)
-    (λ c. search two-written)
-    (λ c. search scanned-short))
+    handed-out
+    short)

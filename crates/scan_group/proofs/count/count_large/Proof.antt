@@ -15,6 +15,15 @@ Inv-loop larger entries capacity used limit small large cursor at₀ left₀ at 
 abbrev μ-loop : tie.MeasureT-loop
 μ-loop larger entries capacity used limit small large cursor at₀ left₀ at left = length (bucketsFrom small large at)
 
+returns : tie.Need-returns Inv-loop μ-loop
+returns c = search counting-out
+
+sub-left : tie.Need-sub-left Inv-loop μ-loop
+sub-left c = search counting-fits
+
+returns-2 : tie.Need-returns-2 Inv-loop μ-loop
+returns-2 c = search counting-end
+
 pub count-large-spec : {M : Type 1} → statement M
 count-large-spec =
     tie.close
@@ -26,11 +35,11 @@ count-large-spec =
     (λ c κs. search needs)
     (λ c κs. search needs)
     (λ c. search needs)
-    (λ c. search counting-out)
+    returns
     (λ c. search needs)
-    (λ c. search counting-fits)
+    sub-left
     (λ c κs. search needs)
     (λ c. search counting-within)
-    (λ c. search counting-end)
+    returns-2
     (λ c. search fewer)
     (λ c. search counting-next))

@@ -2,7 +2,7 @@
 -- Assumes nothing.
 use Prim.Native.Nat.{ℕ, _+_, _*_, _-_, _≤_, _<_}
 use mathlib.Core.Path.{_≡_, refl, sym, ap, _∙_}
-use mathlib.Core.Bool.{true, false}
+use mathlib.Core.Bool.{Bool, true, false}
 use mathlib.Core.List.{List}
 use mathlib.Core.Option.{Option, some}
 use native.Mathlib.Omega.{arith}
@@ -14,7 +14,7 @@ use Rattle.model.specs.declared.State.{State}
 use Rattle.model.specs.declared.Error.{Error}
 use Rattle.model.specs.declared.StepAnswer.{StepAnswer}
 use Rattle.model.specs.Limits.{legalSize}
-use Rattle.model.specs.Memory.{usedOf, bucketsOf, chain, headAt, budgetAt, chainAt, listed}
+use Rattle.model.specs.Memory.{sizeOf, usedOf, bucketsOf, chain, inBucket, headAt, budgetAt, belongs, chainAt, listed}
 use Rattle.model.specs.Calls.{After, Chains, firstFilled, moved, movedChain, movedFrom, steppedPast, stepped}
 use Rattle.model.proofs.Soundness.{Sound}
 use Rattle.model.proofs.Linked.{Linked, room, read-sound, linked-wider}
@@ -22,7 +22,7 @@ use Rattle.memory.specs.declared.chain.ChainLength.{ChainLength}
 use Rattle.memory.specs.Length.{lengthOf}
 use Rattle.memory.proofs.Counted.{counted, uncounted}
 use Rattle.dict_rehash.specs.declared.rehash.Progress.{Progress}
-use Rattle.dict_rehash.specs.Progress.{stepAnswer, stepRoom, filledAt, chains, ChainOf, ChainMoved}
+use Rattle.dict_rehash.specs.Progress.{stepAnswer, stepRoom, oldChain, filledAt, chains, ChainOf, ChainMoved}
 
 -- what a sound state says of the two tables during a rehash
 module _ (s : State) (current other entries : ℕ) (h : Sound s current other entries) (e : s .rehashing ≡ true) where
@@ -38,72 +38,73 @@ module _ (s : State) (current other entries : ℕ) (h : Sound s current other en
 -- ---- a chain that was read, and one whose entries were counted
 
 -- its entries are in the entry buffer
-read-linked : (entries : List ℕ) (capacity budget head : ℕ) (ns : List ℕ) → chain entries capacity budget head ≡ some ns
+read-linked : (test : ℕ → Bool) (entries : List ℕ) (capacity budget head : ℕ) (ns : List ℕ) → chain test entries capacity budget head ≡ some ns
     → capacity * 3 ≤ length entries → Linked entries (room entries) head ns
 unfolding room
-read-linked entries capacity budget head ns e fits =
-    linked-wider entries capacity (room entries) head ns (omega arith) (read-sound entries capacity budget head ns e .0)
+read-linked test entries capacity budget head ns e fits =
+    linked-wider entries capacity (room entries) head ns (omega arith) (read-sound test entries capacity budget head ns e .0)
 
 -- (the count stands first: where a search has no such count, it ends there)
-module _ (r : ChainLength) (count : ℕ) (c : r ≡ ChainLength.Sound count) (entries : List ℕ) (capacity budget head : ℕ)
-    (e : r ≡ lengthOf (chain entries capacity budget head)) where
+module _ (r : ChainLength) (count : ℕ) (c : r ≡ ChainLength.Sound count) (test : ℕ → Bool) (entries : List ℕ) (capacity budget head : ℕ)
+    (e : r ≡ lengthOf (chain test entries capacity budget head)) where
   pub chain-of : capacity * 3 ≤ length entries → ChainOf entries head count
   chain-of fits =
-      let o = chain entries capacity budget head in
+      let o = chain test entries capacity budget head in
       let (read, n) = counted r count o c e in
-      record { ns = listed o; linked = read-linked entries capacity budget head (listed o) read fits; counted = n }
+      record { ns = listed o; linked = read-linked test entries capacity budget head (listed o) read fits; counted = n }
 
   count-fits : count ≤ budget
   count-fits =
-      let o = chain entries capacity budget head in
+      let o = chain test entries capacity budget head in
       let (read, n) = counted r count o c e in
-      omega (arith, read-sound entries capacity budget head (listed o) read .1)
+      omega (arith, read-sound test entries capacity budget head (listed o) read .1)
 
--- ---- the chain of the first filled bucket
+-- ---- the chain of a bucket of the old table
+
+module _ (s : State) (current other entries : List ℕ) (b : ℕ) (r : ChainLength)
+    (e : r ≡ lengthOf (oldChain s current entries b)) where
+  pub bucket-unsound : r ≡ ChainLength.Unsound
+      → After.after (stepAnswer s (Progress.Refused Error.Damaged)) current other entries
+      ≡ movedChain s current other entries b (oldChain s current entries b)
+  unfolding movedChain stepAnswer
+  bucket-unsound u = rw (uncounted r (oldChain s current entries b) u e)
+
+  moved-by : (c : Option (List ℕ)) (ns : List ℕ) (count : ℕ) (then : Chains) → c ≡ some ns → length ns ≡ count
+      → then ≡ moved (s .«new_size») ns (chains other entries)
+      → After.after (stepAnswer s (Progress.Past b count)) (set current b 0) (then .buckets) (then .entries)
+      ≡ movedChain s current other entries b c
+  unfolding movedChain stepAnswer
+  moved-by c ns count then ce n t = rw (ce, t, ← n)
+
+  module _ (count : ℕ) (c : r ≡ ChainLength.Sound count) (h : Sound s (length current) (length other) (length entries)) where
+    pub bucket-moved : (other′ entries′ : List ℕ)
+        → ChainMoved (s .«new_size») (getD current b 0) (chains other entries) (chains other′ entries′)
+        → After.after (stepAnswer s (Progress.Past b count)) (set current b 0) other′ entries′
+        ≡ movedChain s current other entries b (oldChain s current entries b)
+    bucket-moved other′ entries′ m =
+        let o = oldChain s current entries b in
+        let (read, n) = counted r count o c e in
+        let linked = read-linked _ entries (s .capacity) (s .«old_used») (getD current b 0) (listed o) read (h .entries-fit) in
+        moved-by o (listed o) count (chains other′ entries′) read n (m .each (listed o) linked)
+
+    pub bucket-room : b < s .«old_size» → stepRoom s (Progress.Past b count)
+    unfolding stepRoom
+    bucket-room l =
+        let short = count-fits r count c _ entries (s .capacity) (s .«old_used») (getD current b 0) e in
+        (short, omega (arith, h .used-fits), l)
+
+-- ---- the first filled one
 
 module _ (s : State) (current other entries : List ℕ) (b : ℕ) (o : Option ℕ) (f : filledAt (s .«old_size») b ≡ o) where
-  pub bucket-none : s .«old_size» ≤ b
+  pub next-none : s .«old_size» ≤ b
       → After.after (stepAnswer s (Progress.Refused Error.Damaged)) current other entries ≡ movedFrom s current other entries o
   unfolding filledAt movedFrom stepAnswer
-  bucket-none l = rw (← f, le-ltb b (s .«old_size») l)
+  next-none l = rw (← f, le-ltb b (s .«old_size») l)
 
-  module _ (l : b < s .«old_size») (r : ChainLength)
-      (e : r ≡ lengthOf (chain entries (s .capacity) (s .«old_used») (getD current b 0))) where
-    reached : movedChain s current other entries b (chain entries (s .capacity) (s .«old_used») (getD current b 0))
-        ≡ movedFrom s current other entries o
-    unfolding filledAt movedFrom chainAt headAt budgetAt usedOf bucketsOf
-    reached = rw (← f, lt-ltb b (s .«old_size») l)
-
-    pub bucket-unsound : r ≡ ChainLength.Unsound
-        → After.after (stepAnswer s (Progress.Refused Error.Damaged)) current other entries ≡ movedFrom s current other entries o
-    unfolding movedChain stepAnswer
-    bucket-unsound u =
-        rw (uncounted r (chain entries (s .capacity) (s .«old_used») (getD current b 0)) u e) at reached
-
-    moved-by : (c : Option (List ℕ)) (ns : List ℕ) (count : ℕ) (then : Chains) → c ≡ some ns → length ns ≡ count
-        → then ≡ moved (s .«new_size») ns (chains other entries)
-        → After.after (stepAnswer s (Progress.Past b count)) (set current b 0) (then .buckets) (then .entries)
-        ≡ movedChain s current other entries b c
-    unfolding movedChain stepAnswer
-    moved-by c ns count then ce n t = rw (ce, t, ← n)
-
-    module _ (count : ℕ) (c : r ≡ ChainLength.Sound count) (h : Sound s (length current) (length other) (length entries)) where
-      pub bucket-moved : (other′ entries′ : List ℕ)
-          → ChainMoved (s .«new_size») (getD current b 0) (chains other entries) (chains other′ entries′)
-          → After.after (stepAnswer s (Progress.Past b count)) (set current b 0) other′ entries′
-          ≡ movedFrom s current other entries o
-      bucket-moved other′ entries′ m =
-          let head = getD current b 0 in
-          let o = chain entries (s .capacity) (s .«old_used») head in
-          let (read, n) = counted r count o c e in
-          let linked = read-linked entries (s .capacity) (s .«old_used») head (listed o) read (h .entries-fit) in
-          moved-by o (listed o) count (chains other′ entries′) read n (m .each (listed o) linked) ∙ reached
-
-      pub bucket-room : stepRoom s (Progress.Past b count)
-      unfolding stepRoom
-      bucket-room =
-          let short = count-fits r count c entries (s .capacity) (s .«old_used») (getD current b 0) e in
-          (short, omega (arith, h .used-fits), l)
+  pub next-moved : b < s .«old_size» → (a : After StepAnswer)
+      → a ≡ movedChain s current other entries b (oldChain s current entries b) → a ≡ movedFrom s current other entries o
+  unfolding filledAt movedFrom chainAt headAt budgetAt belongs sizeOf usedOf bucketsOf
+  next-moved l a e = rw (← f, lt-ltb b (s .«old_size») l) e
 
 -- ---- a step in a sound state
 

@@ -19,7 +19,7 @@ ghost use Rattle.model.specs.Limits.{legalSize};
 ghost use Rattle.model.specs.Calls as calls;
 ghost use Rattle.model.specs.Calls.After.{after};
 ghost use Rattle.model.proofs.Soundness.{Sound};
-ghost use Rattle.dict_rehash.specs.Progress.{stepAnswer, stepRoom, filledAt, chains, ChainOf, ChainMoved, EntryMoved};
+ghost use Rattle.dict_rehash.specs.Progress.{stepAnswer, stepRoom, oldChain, filledAt, chains, ChainOf, ChainMoved, EntryMoved};
 
 // What happened to the buffers, in numbers: the public call makes the answer of it.
 enum Progress {
@@ -74,9 +74,37 @@ fn move_chain(buckets: &mut [u32], entries: &mut [u32], size: u32, head: u32, co
     }
 }
 
-// The chain of the first filled bucket from the next one to move. It is read once to test it, so that a refusal leaves
-// the buffers as they were, and once to move it.
-fn move_bucket(current: &mut [u32], other: &mut [u32], entries: &mut [u32], s: State) -> Progress
+// The chain of bucket b of the old table. It is read once to test it, so that a refusal leaves the buffers as they were, and
+// once to move it.
+fn move_bucket(
+    current: &mut [u32],
+    other: &mut [u32],
+    entries: &mut [u32],
+    s: State,
+    b: u32,
+) -> Progress
+    requires { ⌜ Sound s (length (now current)) (length (now other)) (length (now entries)) ⌝ }
+    requires { ⌜ (s .rehashing ≡ true) × (b < s .«old_size») ⌝ }
+    ensures { λ r. ⌜ after (stepAnswer s r) (now (current .exit)) (now (other .exit)) (now (entries .exit))
+        ≡ calls.movedChain s (now (current .entry)) (now (other .entry)) (now (entries .entry)) b
+        (oldChain s (now (current .entry)) (now (entries .entry)) b) ⌝ }
+    ensures { λ r. ⌜ stepRoom s r ⌝ }
+{
+    let at = b as usize;
+    let head = current[at];
+    let length = chain_length(entries, s.capacity, s.old_used, head, s.old_size, at);
+    match length {
+        ChainLength::Unsound => Progress::Refused(Error::Damaged),
+        ChainLength::Sound(count) => {
+            move_chain(other, entries, s.new_size, head, count);
+            current[at] = 0;
+            Progress::Past(b, count)
+        }
+    }
+}
+
+// The first filled bucket from the next one to move.
+fn move_next(current: &mut [u32], other: &mut [u32], entries: &mut [u32], s: State) -> Progress
     requires { ⌜ Sound s (length (now current)) (length (now other)) (length (now entries)) ⌝ }
     requires { ⌜ s .rehashing ≡ true ⌝ }
     ensures { λ r. ⌜ after (stepAnswer s r) (now (current .exit)) (now (other .exit)) (now (entries .exit))
@@ -86,16 +114,7 @@ fn move_bucket(current: &mut [u32], other: &mut [u32], entries: &mut [u32], s: S
 {
     let b = first_filled(current, s.rehash_index, s.old_size);
     if b < s.old_size {
-        let head = current[b as usize];
-        let length = chain_length(entries, s.capacity, s.old_used, head);
-        match length {
-            ChainLength::Unsound => Progress::Refused(Error::Damaged),
-            ChainLength::Sound(count) => {
-                move_chain(other, entries, s.new_size, head, count);
-                current[b as usize] = 0;
-                Progress::Past(b, count)
-            }
-        }
+        move_bucket(current, other, entries, s, b)
     } else {
         Progress::Refused(Error::Damaged)
     }
@@ -113,7 +132,7 @@ fn step_in(current: &mut [u32], other: &mut [u32], entries: &mut [u32], s: State
             if s.old_used == 0 {
                 Progress::Finished
             } else {
-                move_bucket(current, other, entries, s)
+                move_next(current, other, entries, s)
             }
         } else {
             Progress::Refused(Error::NotRehashing)

@@ -17,7 +17,7 @@ use Rattle.model.specs.declared.Table.{Table}
 use Rattle.model.specs.declared.Error.{Error}
 use Rattle.model.specs.declared.ScanAnswer.{ScanAnswer}
 use Rattle.model.specs.Keys.{bucketOf, hash}
-use Rattle.model.specs.Memory.{sizeOf, usedOf, bucketsOf, keysHeld, Place, headAt, budgetAt, chainAt, chain}
+use Rattle.model.specs.Memory.{sizeOf, usedOf, bucketsOf, keysHeld, Place, headAt, budgetAt, belongs, chainAt, chain, inBucket}
 use Rattle.model.specs.Calls.{oriented}
 use Rattle.model.specs.Walk.{AfterScan, tablesBy, tablesOf, group, smallFirst, groupPlaces, joined, chainsAt, atMost, scanned}
 use Rattle.model.specs.Walk as walk
@@ -27,7 +27,7 @@ use Rattle.memory.specs.Lent.{soundLent}
 use Rattle.memory.proofs.Tested.{lent-first, lent-second}
 use Rattle.memory.proofs.Orientation.{read-first, read-second, oriented-map, reading-refused, reading-sound}
 use Rattle.scan_group.specs.Tables.{TableIn}
-use Rattle.scan_group.specs.Chains.{chains}
+use Rattle.scan_group.specs.Chains.{cursorChain, chains, groupChains}
 use Rattle.scan_group.proofs.Chains.{joined-end, chain-short}
 use Rattle.dict_scan.specs.Tables.{Holding, One, Two}
 use Rattle.dict_scan.specs.Groups.{scannedTwo, scannedBoth}
@@ -38,20 +38,21 @@ module _ (s : State) (current other entries : List ℕ) where
   -- some buckets of one table
   places-chains : (t : Table) (bs : List ℕ)
       → chainsAt s current other entries (map (λ b. Place.bucket t b) bs)
-      ≡ chains entries (s .capacity) (usedOf s t) (bucketsOf current other t) bs
-  unfolding chainsAt chainAt budgetAt headAt chains
+      ≡ chains (inBucket (sizeOf s t)) entries (s .capacity) (usedOf s t) (bucketsOf current other t) bs
+  unfolding chainsAt chainAt budgetAt headAt belongs chains
   places-chains t [] = refl
   places-chains t (b ∷ bs) =
-      ap (joined (chain entries (s .capacity) (usedOf s t) (getD (bucketsOf current other t) b 0))) (places-chains t bs)
+      ap (joined (chain (inBucket (sizeOf s t) b) entries (s .capacity) (usedOf s t) (getD (bucketsOf current other t) b 0)))
+      (places-chains t bs)
 
   -- a bucket of one table, and some of the other
   group-chains : (t u : Table) (g : Group)
       → chainsAt s current other entries (smallFirst t u g)
-      ≡ joined (chain entries (s .capacity) (usedOf s t) (getD (bucketsOf current other t) (g .small) 0))
-      (chains entries (s .capacity) (usedOf s u) (bucketsOf current other u) (g .large))
-  unfolding smallFirst chainsAt chainAt budgetAt headAt
+      ≡ joined (chain (inBucket (sizeOf s t) (g .small)) entries (s .capacity) (usedOf s t) (getD (bucketsOf current other t) (g .small) 0))
+      (chains (inBucket (sizeOf s u)) entries (s .capacity) (usedOf s u) (bucketsOf current other u) (g .large))
+  unfolding smallFirst chainsAt chainAt budgetAt headAt belongs
   group-chains t u g =
-      ap (joined (chain entries (s .capacity) (usedOf s t) (getD (bucketsOf current other t) (g .small) 0)))
+      ap (joined (chain (inBucket (sizeOf s t) (g .small)) entries (s .capacity) (usedOf s t) (getD (bucketsOf current other t) (g .small) 0)))
       (places-chains u (g .large))
 
 -- In a sound state with keys held.
@@ -66,15 +67,16 @@ module _ (s : State) (entries list : List ℕ) (cursor : ℕ) where
   -- one chain has no more entries than its table holds keys
   scanned-resting : (current other : List ℕ)
       → scanned entries list (oneTable (s .«old_size») cursor .answered)
-      (chain entries (s .capacity) (s .«old_used») (getD current (bucketOf cursor (s .«old_size»)) 0))
+      (cursorChain entries (s .capacity) (s .«old_used») (getD current (bucketOf cursor (s .«old_size»)) 0) (s .«old_size») cursor)
       ≡ scannedBy false current other
-  unfolding scannedBy tablesBy group groupPlaces oneTable usedOf bucketsOf keysHeld chains bucketOf hash
+  unfolding scannedBy tablesBy group groupPlaces oneTable sizeOf usedOf bucketsOf keysHeld chains bucketOf hash
   scanned-resting current other =
-      let head = getD current (bucketOf cursor (s .«old_size»)) 0 in
+      let b = bucketOf cursor (s .«old_size») in
+      let read = chain (inBucket (s .«old_size») b) entries (s .capacity) (s .«old_used») (getD current b 0) in
       ap (scanned entries list (oneTable (s .«old_size») cursor .answered))
       (sym
-      (at-most-few (s .«old_used» + s .«new_used») (chain entries (s .capacity) (s .«old_used») head)
-      (omega (arith, chain-short entries (s .capacity) (s .«old_used») head)))
+      (at-most-few (s .«old_used» + s .«new_used») read
+      (omega (arith, chain-short (inBucket (s .«old_size») b) entries (s .capacity) (s .«old_used») (getD current b 0))))
       ∙ ap (atMost (s .«old_used» + s .«new_used»))
       (sym (joined-end _) ∙ sym (group-chains s current other entries Table.Old Table.New (oneTable (s .«old_size») cursor))))
 
@@ -92,7 +94,7 @@ module _ (s : State) (entries list : List ℕ) (cursor : ℕ) where
         → inOrder t u
         ≡ scanned entries list (groupOf t u .answered)
         (atMost (keysHeld s) (chainsAt s current other entries (smallFirst t u (groupOf t u))))
-    unfolding inOrder groupOf scannedTwo twoTables bucketOf hash
+    unfolding inOrder groupOf scannedTwo groupChains twoTables bucketOf hash
     in-order t u keys =
         ap (scanned entries list (groupOf t u .answered))
         (rw keys (ap (atMost (keysHeld s)) (sym (group-chains s current other entries t u (groupOf t u)))))
@@ -200,11 +202,16 @@ module _ (flag : Bool) (s : State) (first second entries : List ℕ) (f : s .«s
     pub one-scanned : (head : ℕ) → Holding (length first) (length second) (length entries) s false
         → head ≡ getD (cond flag second first) (bucketOf cursor (s .«old_size»)) 0
         → a
-        ≡ scanned entries list (oneTable (s .«old_size») cursor .answered) (chain entries (s .capacity) (s .«old_used») head)
+        ≡ scanned entries list (oneTable (s .«old_size») cursor .answered)
+        (cursorChain entries (s .capacity) (s .«old_used») head (s .«old_size») cursor)
         → a ≡ walk.scan s first second entries list cursor
     one-scanned head g i e =
         e
-        ∙ ap (λ h. scanned entries list (oneTable (s .«old_size») cursor .answered) (chain entries (s .capacity) (s .«old_used») h)) i
+        ∙ ap
+        (λ h.
+        scanned entries list (oneTable (s .«old_size») cursor .answered)
+        (cursorChain entries (s .capacity) (s .«old_used») h (s .«old_size») cursor))
+        i
         ∙ scanned-resting s entries list cursor (cond flag second first) (cond flag first second)
         ∙ held-at s first second entries list cursor false g flag f
 

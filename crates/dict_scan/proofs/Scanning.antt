@@ -2,7 +2,7 @@
 -- Assumes nothing.
 use Prim.Native.Nat.{ℕ, suc, _+_, _*_, _^_, _≤_, _<_}
 use mathlib.Core.Path.{_≡_, refl, sym, ap, _∙_}
-use mathlib.Core.Bool.{true, false}
+use mathlib.Core.Bool.{Bool, true, false}
 use mathlib.Core.List.{List, [], _∷_, _++_}
 use mathlib.Core.Option.{Option, some}
 use native.Mathlib.Omega.{arith}
@@ -15,14 +15,14 @@ use Rattle.cursor.specs.Group.{oneTable}
 use Rattle.model.specs.declared.Error.{Error}
 use Rattle.model.specs.declared.ScanAnswer.{ScanAnswer}
 use Rattle.model.specs.Keys.{bucketOf}
-use Rattle.model.specs.Memory.{keyOf, valueOf, chain, listed}
+use Rattle.model.specs.Memory.{keyOf, valueOf, chain, inBucket, listed}
 use Rattle.model.specs.Walk.{AfterScan, joined, atMost, pairs, scanned}
 use Rattle.model.proofs.AtMost.{at-most-sound}
 use Rattle.model.proofs.Pairs.{length-pairs}
 use Rattle.memory.specs.declared.chain.ChainLength.{ChainLength}
 use Rattle.memory.specs.Length.{lengthOf}
 use Rattle.memory.proofs.Counted.{counted, uncounted}
-use Rattle.scan_group.specs.Chains.{chains, linked, allLinked}
+use Rattle.scan_group.specs.Chains.{cursorChain, chains, groupChains, linked, allLinked}
 use Rattle.scan_group.specs.Written.{written, Writable}
 use Rattle.scan_group.proofs.Buckets.{bucketsFrom, one-answered, two-answered}
 use Rattle.scan_group.proofs.Chains.{joined-parts, linked-same, all-linked-same}
@@ -84,10 +84,16 @@ module _ (entries list : List ℕ) (answered : ℕ) (o : Option (List ℕ)) (r :
 
 -- One live table.
 
-module _ (entries list : List ℕ) (capacity used size head n : ℕ) (r : ChainLength) (g : One entries capacity used size)
-    (l : r ≡ lengthOf (chain entries capacity used head)) (s : r ≡ ChainLength.Sound n) (h : n * 2 ≤ length list) where
-  same-chain : linked entries head ≡ chain entries capacity used head
-  same-chain = linked-same entries capacity used (g .entries-fit) (g .used-fits) head (counted r n _ s l .0)
+-- the bucket is the cursor's
+pub one-counted : (entries : List ℕ) (capacity used size cursor b head : ℕ) (r : ChainLength) → b ≡ bucketOf cursor size
+    → r ≡ lengthOf (chain (inBucket size b) entries capacity used head)
+    → r ≡ lengthOf (cursorChain entries capacity used head size cursor)
+one-counted entries capacity used size cursor b head r i l = rw i at l
+
+module _ (test : ℕ → Bool) (entries list : List ℕ) (capacity used size head n : ℕ) (r : ChainLength) (g : One entries capacity used size)
+    (l : r ≡ lengthOf (chain test entries capacity used head)) (s : r ≡ ChainLength.Sound n) (h : n * 2 ≤ length list) where
+  same-chain : linked entries head ≡ chain test entries capacity used head
+  same-chain = linked-same entries capacity used (g .entries-fit) (g .used-fits) test head (counted r n _ s l .0)
 
   pub one-writable : Writable list 0 (linked entries head)
   one-writable = writable entries list 0 _ r l n s _ same-chain h
@@ -95,7 +101,7 @@ module _ (entries list : List ℕ) (capacity used size head n : ℕ) (r : ChainL
   pub one-written : (cursor turned : ℕ) (list′ : List ℕ) → ((c : ℕ) → size ≡ 2 ^ c → turned ≡ next size cursor)
       → list′ ≡ written entries list 0 (listed (linked entries head))
       → AfterScan.after (ScanAnswer.Scanned turned n) list′
-      ≡ scanned entries list (oneTable size cursor .answered) (chain entries capacity used head)
+      ≡ scanned entries list (oneTable size cursor .answered) (chain test entries capacity used head)
   one-written cursor turned list′ t w =
       rw (one-answered size cursor turned (g .legal) t) (scanned-written entries list _ _ r l n s list′ _ same-chain h w)
 
@@ -104,22 +110,23 @@ module _ (entries list : List ℕ) (capacity used size head n : ℕ) (r : ChainL
 module _ (entries larger list : List ℕ) (capacity small-used large-used small large cursor head : ℕ) where
   -- the entries of the group as they are read, and as they are written
   abbrev pub read : Option (List ℕ)
-  read =
-      joined (chain entries capacity small-used head)
-      (chains entries capacity large-used larger (bucketsFrom small large cursor))
+  read = groupChains entries larger capacity small-used large-used head small large cursor
 
   abbrev pub walked : Option (List ℕ)
   walked = joined (linked entries head) (allLinked entries larger (bucketsFrom small large cursor))
 
-  module _ (limit n : ℕ) (r : ChainLength) (g : Both larger entries capacity small-used large-used small large)
-      (l : r ≡ lengthOf (atMost limit read)) (s : r ≡ ChainLength.Sound n) (h : n * 2 ≤ length list) where
+  module _ (limit n : ℕ) (r : ChainLength) (s : r ≡ ChainLength.Sound n) (l : r ≡ lengthOf (atMost limit read))
+      (g : Both larger entries capacity small-used large-used small large) (h : n * 2 ≤ length list) where
     same-group : walked ≡ atMost limit read
+    unfolding groupChains
     same-group =
         let bs = bucketsFrom small large cursor in
         let (same, sound) = at-most-sound limit read _ (counted r n _ s l .0) in
-        let p = joined-parts (chain entries capacity small-used head) (chains entries capacity large-used larger bs) sound in
+        let p =
+        joined-parts (cursorChain entries capacity small-used head small cursor)
+        (chains (inBucket large) entries capacity large-used larger bs) sound in
         let fit = g .larger-reads .entries-fit in
-        rw (same, linked-same entries capacity small-used fit (omega arith) head (p .left), all-linked-same entries capacity large-used fit (omega arith) larger bs (p .right))
+        rw (same, linked-same entries capacity small-used fit (omega arith) _ head (p .left), all-linked-same entries capacity large-used fit (omega arith) _ larger bs (p .right))
 
     pub two-writable : Writable list 0 walked
     two-writable = writable entries list 0 _ r l n s _ same-group h
@@ -134,7 +141,7 @@ module _ (entries larger list : List ℕ) (capacity small-used large-used small 
   unfolding scannedTwo
   two-written n r turned list′ g l s h t w =
       rw (two-answered larger small large cursor turned (g .larger-reads .sizes) t)
-      (scanned-written entries list _ _ r l n s list′ _ (same-group (small-used + large-used) n r g l s h) h w)
+      (scanned-written entries list _ _ r l n s list′ _ (same-group (small-used + large-used) n r s l g h) h w)
 
 -- The smaller one first.
 

@@ -6,17 +6,14 @@ use lib.ListN.{getD}
 use lib.Dec.{ltb}
 use Rattle.cursor.specs.Group.{twoTables}
 use Rattle.model.specs.Keys.{bucketOf}
-use Rattle.model.specs.Memory.{chain}
-use Rattle.model.specs.Walk.{AfterScan, joined, atMost, scanned}
-use Rattle.scan_group.specs.Chains.{chains}
+use Rattle.model.specs.Walk.{AfterScan, atMost, scanned}
+use Rattle.scan_group.specs.Chains.{groupChains}
 
 -- the chain of the smaller one's bucket has that head
 unfoldable pub scannedTwo : List ℕ → List ℕ → ℕ → ℕ → List ℕ → ℕ → ℕ → ℕ → ℕ → ℕ → AfterScan
 scannedTwo entries list capacity head larger small-used large-used small large cursor =
-    let g = twoTables small large cursor in
-    scanned entries list (g .answered)
-    (atMost (small-used + large-used)
-    (joined (chain entries capacity small-used head) (chains entries capacity large-used larger (g .large))))
+    scanned entries list (twoTables small large cursor .answered)
+    (atMost (small-used + large-used) (groupChains entries larger capacity small-used large-used head small large cursor))
 
 -- the smaller one first
 unfoldable pub scannedBoth : List ℕ → List ℕ → ℕ → List ℕ → List ℕ → ℕ → ℕ → ℕ → ℕ → ℕ → AfterScan

@@ -3,6 +3,7 @@
 use cursor::next_cursor;
 use memory::chain::ChainLength;
 use memory::chain::chain_length;
+use memory::state::bucket_index;
 use memory::state::is_sound_lent;
 use model::Error;
 use model::ScanAnswer;
@@ -15,9 +16,9 @@ ghost use mathlib.Core.Path.{_≡_};
 ghost use mathlib.Core.Bool.{true, false};
 ghost use lib.ListN.{length};
 ghost use Rattle.cursor.specs.Group.{oneTable};
-ghost use Rattle.model.specs.Memory.{chain};
 ghost use Rattle.model.specs.Walk as walk;
 ghost use Rattle.model.specs.Walk.AfterScan.{after};
+ghost use Rattle.scan_group.specs.Chains.{cursorChain};
 ghost use Rattle.dict_scan.specs.Tables.{Holding, One, Both, Two};
 ghost use Rattle.dict_scan.specs.Groups.{scannedTwo, scannedBoth};
 
@@ -34,10 +35,11 @@ fn scan_one(
     requires { ⌜ One (now entries) capacity used size ⌝ }
     ensures { λ r. ⌜ after r (now (list .exit))
         ≡ walk.scanned (now (entries .entry)) (now (list .entry)) (oneTable size cursor .answered)
-        (chain (now (entries .entry)) capacity used head) ⌝ }
+        (cursorChain (now (entries .entry)) capacity used head size cursor) ⌝ }
 {
     let next = next_cursor(size, cursor);
-    let length = chain_length(entries, capacity, used, head);
+    let b = bucket_index(cursor, size);
+    let length = chain_length(entries, capacity, used, head, size, b);
     match length {
         ChainLength::Unsound => ScanAnswer::Refused(Error::Damaged),
         ChainLength::Sound(count) => {

@@ -12,7 +12,8 @@ use Rattle.model.specs.declared.DeleteAnswer.{DeleteAnswer}
 use Rattle.model.specs.declared.Table.{Table}
 use Rattle.model.specs.Memory.{Place, Live, sizeOf, usedOf, bucketsOf, keysHeld, keyPlace, keyOf, valueOf, setLink, setEntry}
 use Rattle.model.specs.Calls.{After, removed, changed, unlinkBucket, unlinkEntry, withCount, oldNew, stateOf, recounted}
-use Rattle.invariant.proofs.Lists.{lastOr, in-left, in-middle}
+use Rattle.model.proofs.Shared.{lastOr}
+use Rattle.invariant.proofs.Lists.{in-left, in-middle}
 use Rattle.invariant.proofs.Sums.{term-in-sum}
 use Rattle.invariant.proofs.Shape.{Home, IsBucket, Shape}
 use Rattle.invariant.proofs.Places.{one, inTable, key-bucket, bucket-not-free}

@@ -10,10 +10,11 @@ use lib.ListN.{length, length-append}
 use Rattle.cursor.specs.Member.{In, Distinct}
 use Rattle.model.specs.declared.State.{State}
 use Rattle.model.specs.declared.Table.{Table}
-use Rattle.model.specs.Memory.{Place, Live, sizeOf, usedOf, keysHeld, keyOf, headAt, budgetAt, chainAt, entriesAt, Undamaged}
+use Rattle.model.specs.Memory.{Place, Live, sizeOf, usedOf, keysHeld, keyOf, headAt, budgetAt, belongs, chainAt, entriesAt, Undamaged}
 use Rattle.model.specs.Calls.{sound}
 use Rattle.model.proofs.Soundness.{Sound, sound-facts}
 use Rattle.model.proofs.Linked.{Linked, read-sound, linked-in-range}
+use Rattle.model.proofs.Shared.{in-its-bucket}
 use Rattle.invariant.proofs.Lists.{in-left, in-right, pigeonhole, distinct-fits}
 use Rattle.invariant.proofs.Sums.{gathered, length-gathered, in-gathered}
 use Rattle.invariant.proofs.Shape.{Home, IsBucket, Shape}
@@ -28,8 +29,10 @@ module _ {s : State} {current other entries : List ℕ} (u : Undamaged s current
       → Linked entries (s .capacity) (headAt s current other p) (chained p) × (length (chained p) ≤ budgetAt s p)
   unfolding chained chainAt
   chained-linked p l =
-      read-sound entries (s .capacity) (budgetAt s p) (headAt s current other p) (entriesAt s current other entries p)
-      (u .chains-sound p l)
+      let (linked, short, passing) =
+      read-sound (belongs s p) entries (s .capacity) (budgetAt s p) (headAt s current other p) (entriesAt s current other entries p)
+      (u .chains-sound p l) in
+      (linked, short)
 
   -- what the sound state says of its counts
   state : Sound s (length current) (length other) (length entries)
@@ -138,7 +141,7 @@ module _ {s : State} {current other entries : List ℕ} (u : Undamaged s current
   home-at : (n : ℕ) (p : Place) → Live s p → In n (chained p) → Home s (keyOf entries n) p
   unfolding Home Live chained
   home-at n Place.free l i = tt
-  home-at n (Place.bucket t b) l i = u .in-its-bucket n t b l i
+  home-at n (Place.bucket t b) l i = in-its-bucket s current other entries t b n i
 
   distinct-at : (n m : ℕ) (p q : Place) → Live s p → Live s q → IsBucket p → IsBucket q → In n (chained p) → In m (chained q)
       → keyOf entries n ≡ keyOf entries m → n ≡ m

@@ -25,11 +25,6 @@ pub first-member : (xs : List ℕ) → xs ≢ [] → (x : ℕ) × In x xs
 first-member [] f = absurd (f refl)
 first-member (x ∷ xs) f = (x, inl refl)
 
--- the last entry of a list; of an empty one, the entry named
-unfoldable pub lastOr : ℕ → List ℕ → ℕ
-lastOr before [] = before
-lastOr before (n ∷ ns) = lastOr n ns
-
 -- Joined lists.
 
 pub in-left : (x : ℕ) (xs ys : List ℕ) → In x xs → In x (xs ++ ys)

@@ -1,18 +1,27 @@
 -- A store of a shape is undamaged: what is read at a live place is the shape.
 -- Assumes nothing.
 use Prim.Native.Nat.{ℕ, _≤_}
-use mathlib.Core.Path.{_≡_, sym, ap, subst, _∙_}
+use mathlib.Core.Path.{_≡_, refl, sym, ap, subst, _∙_}
+use mathlib.Core.Bool.{true}
 use mathlib.Core.List.{List}
 use mathlib.Core.Option.{some}
 use native.Mathlib.Omega.{arith}
 use lib.ListN.{length}
+use borrow.Author.Tests.{eq-eqb}
 use Rattle.cursor.specs.Member.{In}
 use Rattle.model.specs.declared.State.{State}
 use Rattle.model.specs.declared.Table.{Table}
-use Rattle.model.specs.Memory.{Place, Live, sizeOf, usedOf, keysHeld, headAt, budgetAt, chainAt, entriesAt, listed, Undamaged}
+use Rattle.model.specs.Keys.{bucketOf}
+use Rattle.model.specs.Memory.{Place, Live, sizeOf, usedOf, keysHeld, keyOf, headAt, budgetAt, belongs, anyKey, inBucket, chainAt, entriesAt, listed, Undamaged}
 use Rattle.model.proofs.Linked.{read-complete}
 use Rattle.invariant.proofs.Sums.{sum-same, term-in-sum}
 use Rattle.invariant.proofs.Shape.{Home, IsBucket, Shape}
+
+-- a key at home belongs there
+home-belongs : (s : State) (key : ℕ) (p : Place) → Home s key p → belongs s p key ≡ true
+unfolding Home belongs anyKey inBucket
+home-belongs s key Place.free h = refl
+home-belongs s key (Place.bucket t b) h = eq-eqb (bucketOf key (sizeOf s t)) b h
 
 module _ {s : State} {current other entries : List ℕ} (h : Shape s current other entries) where
   -- a place's chain is no longer than its budget
@@ -26,8 +35,8 @@ module _ {s : State} {current other entries : List ℕ} (h : Shape s current oth
   pub chain-at : (p : Place) → Live s p → chainAt s current other entries p ≡ some (h .at p)
   unfolding chainAt
   chain-at p l =
-      read-complete entries (s .capacity) (budgetAt s p) (headAt s current other p) (h .at p) (h .linked p l)
-      (within-budget p l)
+      read-complete (belongs s p) entries (s .capacity) (budgetAt s p) (headAt s current other p) (h .at p) (h .linked p l)
+      (λ n i. home-belongs s (keyOf entries n) p (h .home n p l i)) (within-budget p l)
 
   -- and its entries
   pub entries-at : (p : Place) → Live s p → entriesAt s current other entries p ≡ h .at p
@@ -40,7 +49,7 @@ module _ {s : State} {current other entries : List ℕ} (h : Shape s current oth
 
   -- a store of a shape is undamaged
   pub shape-undamaged : Undamaged s current other entries
-  unfolding Live Home IsBucket
+  unfolding Live IsBucket
   shape-undamaged =
       record {
         state-sound = h .state-sound;
@@ -50,7 +59,6 @@ module _ {s : State} {current other entries : List ℕ} (h : Shape s current oth
             let (l, i) = h .owned n z k in
             (h .owner n, l, subst (λ (ns : List ℕ). In n ns) (sym (entries-at (h .owner n) l)) i);
         on-one-chain = λ n p q l k i j. sym (h .owns n p l (read-in n p l i)) ∙ h .owns n q k (read-in n q k j);
-        in-its-bucket = λ n t b l i. h .home n (Place.bucket t b) l (read-in n (Place.bucket t b) l i);
         keys-distinct =
             λ n m t u a b l k i j e.
             h .keys-distinct n m (Place.bucket t a) (Place.bucket u b) l k tt tt (read-in n (Place.bucket t a) l i)

@@ -1,9 +1,14 @@
-// Reading a chain without trusting it: every number met is tested before its entry is read, and the budget ends a loop.
+// Reading a bucket's chain without trusting it: every number met is tested before its entry is read, every key must belong in
+// the bucket, and the budget ends a loop.
+use crate::entry::key_of;
 use crate::entry::link_of;
+use crate::state::bucket_index;
 ghost use mathlib.Core.Path.{_≡_};
+ghost use mathlib.Core.Bool.{true};
 ghost use Prim.Native.Nat.{_*_, _≤_};
 ghost use lib.ListN.{length};
-ghost use Rattle.model.specs.Memory.{chain};
+ghost use Rattle.model.specs.Limits.{legalSize};
+ghost use Rattle.model.specs.Memory.{chain, inBucket};
 ghost use Rattle.memory.specs.Length.{lengthOf};
 
 // How many entries a chain has, if it is sound.
@@ -12,14 +17,26 @@ pub enum ChainLength {
     Sound(u32),
 }
 
-pub fn chain_length(entries: &[u32], capacity: u32, budget: u32, head: u32) -> ChainLength
+// The chain of bucket b in a table of that size.
+pub fn chain_length(
+    entries: &[u32],
+    capacity: u32,
+    budget: u32,
+    head: u32,
+    size: u32,
+    b: usize,
+) -> ChainLength
     requires { ⌜ capacity * 3 ≤ length (now entries) ⌝ }
-    ensures { λ r. ⌜ r ≡ lengthOf (chain (now (entries .entry)) capacity budget head) ⌝ }
+    requires { ⌜ legalSize size ≡ true ⌝ }
+    ensures { λ r. ⌜ r ≡ lengthOf (chain (inBucket size b) (now (entries .entry)) capacity budget head) ⌝ }
 {
     let mut at = head;
     let mut left = budget;
     while at != 0 {
         if (left == 0) | (capacity < at) {
+            return ChainLength::Unsound;
+        }
+        if bucket_index(key_of(entries, at), size) != b {
             return ChainLength::Unsound;
         }
         at = link_of(entries, at);

@@ -68,33 +68,33 @@ at-most-joined most (some ns) (some ms) = by (leb (length ns) most) refl
         rw (lt-leb (length (ns ++ ms)) most (omega (arith, length-append ns ms)))
 
 -- a chain is read with a limit as it is read with the smaller budget
-pub chain-at-most : (entries : List ℕ) (capacity budget most head : ℕ)
-    → chain entries capacity (min budget most) head ≡ atMost most (chain entries capacity budget head)
+pub chain-at-most : (test : ℕ → Bool) (entries : List ℕ) (capacity budget most head : ℕ)
+    → chain test entries capacity (min budget most) head ≡ atMost most (chain test entries capacity budget head)
 unfolding atMost
-chain-at-most entries capacity budget most head =
-    by (chain entries capacity budget head) refl (chain entries capacity (min budget most) head) refl
+chain-at-most test entries capacity budget most head =
+    by (chain test entries capacity budget head) refl (chain test entries capacity (min budget most) head) refl
   where
     -- what is read with the smaller one is read with both
-    same : (ns : List ℕ) (o : Option (List ℕ)) → chain entries capacity (min budget most) head ≡ some ns
-        → chain entries capacity budget head ≡ o → o ≡ some ns
-    same ns o e f = sym f ∙ chain-wider entries capacity capacity (min budget most) budget head ns (omega arith) (omega arith) e
+    same : (ns : List ℕ) (o : Option (List ℕ)) → chain test entries capacity (min budget most) head ≡ some ns
+        → chain test entries capacity budget head ≡ o → o ≡ some ns
+    same ns o e f = sym f ∙ chain-wider test test entries capacity capacity (min budget most) budget head ns (λ key p. p) (omega arith) (omega arith) e
 
-    whole : (ns : List ℕ) (p : Option (List ℕ)) → chain entries capacity budget head ≡ some ns
-        → chain entries capacity (min budget most) head ≡ p → (t : Bool) → leb (length ns) most ≡ t
+    whole : (ns : List ℕ) (p : Option (List ℕ)) → chain test entries capacity budget head ≡ some ns
+        → chain test entries capacity (min budget most) head ≡ p → (t : Bool) → leb (length ns) most ≡ t
         → p ≡ cond t (some ns) none
     whole ns p e f true h =
-        let (linked, short) = read-sound entries capacity budget head ns e in
+        let (linked, short, passing) = read-sound test entries capacity budget head ns e in
         let few = leb-true (length ns) most h in
-        sym f ∙ read-complete entries capacity (min budget most) head ns linked (omega arith)
+        sym f ∙ read-complete test entries capacity (min budget most) head ns linked passing (omega arith)
     whole ns none e f false h = refl
     whole ns (some ms) e f false h =
         let many = leb-false (length ns) most h in
-        let short = read-sound entries capacity (min budget most) head ms f .1 in
+        let short = read-sound test entries capacity (min budget most) head ms f .1 in
         let alike : length ns ≡ length ms = cc (same ms (some ns) f e) in
         absurd (omega arith)
 
-    by : (o : Option (List ℕ)) → chain entries capacity budget head ≡ o → (p : Option (List ℕ))
-        → chain entries capacity (min budget most) head ≡ p → p ≡ atMost most o
+    by : (o : Option (List ℕ)) → chain test entries capacity budget head ≡ o → (p : Option (List ℕ))
+        → chain test entries capacity (min budget most) head ≡ p → p ≡ atMost most o
     by none e none f = refl
     by none e (some ns) f = let z : _≡_ {A = ℕ} 0 1 = cc (same ns none f e) in absurd (omega arith)
     by (some ns) e p f = whole ns p e f (leb (length ns) most) refl

@@ -3,18 +3,20 @@
 -- for all numbers of keys above half of that.
 -- Assumes nothing.
 use Prim.Native.Nat.{ℕ, _*_, _^_}
-use mathlib.Core.Path.{_≡_, refl, sym, ap₂, subst, _∙_}
+use mathlib.Core.Path.{_≡_, refl, sym, ap, ap₂, subst, _∙_}
 use mathlib.Core.Bool.{Bool, true, false, _&&_}
 use mathlib.Core.List.{List, [], _∷_}
+use mathlib.Core.Option.{Option, none, some}
 use native.Mathlib.Omega.{arith}
 use lib.Dec.{eqb, leb, lit≤}
-use Rattle.cursor.specs.Reverse.{rev, reverse}
-use Rattle.cursor.specs.Next.{next, setHigh, addOne}
-use Rattle.cursor.specs.Group.{Group, oneTable, twoTables, sweep, betweenZero}
+use Rattle.cursor.specs.Group.{Group, oneTable, twoTables}
 use Rattle.cursor.proofs.NextCursor.{next-lt}
 use Rattle.model.specs.Limits.{largestExponent}
-use Rattle.model.specs.Calls.{suggested, powerFrom}
-use Rattle.model.specs.Cases.{Row, Gives, Walks, Holds, AllHold, cases}
+use Rattle.model.specs.Memory.{chainAt}
+use Rattle.model.specs.Calls.{suggested}
+use Rattle.model.specs.Sequences.{World, Call, perform}
+use Rattle.model.specs.Cases.{Row, Gives, Walks, Answers, Holds, AllHold, bucketZero, resting, leaving, arrived, readers, cases}
+use Rattle.model.proofs.Computing.{computing}
 use Rattle.model.proofs.Tests.{Tells, told, tells-true, tells-same, tells-and, tells-eq, tells-le}
 use Rattle.model.proofs.Suggested.{growing-capped}
 
@@ -55,6 +57,24 @@ tells-walks size (cursor ∷ []) = Tells.holds tt
 tells-walks size (cursor ∷ next ∷ rest) =
     tells-and (tells-gives (oneTable size cursor) cursor [] next) (tells-walks size (next ∷ rest))
 
+answering : World → List Call → ℕ → Bool
+answering w [] number = true
+answering w (c ∷ cs) number = eqb (perform w c .reply .number) number && answering w cs number
+
+tells-answering : (w : World) (cs : List Call) (number : ℕ) → Tells (Answers w cs number) (answering w cs number)
+unfolding answering Answers
+tells-answering w [] number = Tells.holds tt
+tells-answering w (c ∷ cs) number = tells-and (tells-eq (perform w c .reply .number) number) (tells-answering w cs number)
+
+reading : Option (List ℕ) → List ℕ → Bool
+reading none entries = false
+reading (some ns) entries = same ns entries
+
+tells-reading : (o : Option (List ℕ)) (entries : List ℕ) → Tells (o ≡ some entries) (reading o entries)
+unfolding reading
+tells-reading none entries = Tells.fails (λ e. let z : _≡_ {A = ℕ} 0 1 = cc in omega arith)
+tells-reading (some ns) entries = tells-same (ap some) (λ e. cc) (tells-list ns entries)
+
 test : Row → Bool
 test (Row.at-one size cursor bucket next) = gives (oneTable size cursor) bucket [] next
 test (Row.at-two small large cursor bucket buckets next) = gives (twoTables small large cursor) bucket buckets next
@@ -63,6 +83,8 @@ test (Row.at-any size next) = eqb size 1 && eqb next 0
 test (Row.suggests growing keys size) = eqb (suggested growing keys) size
 test (Row.suggests-above growing keys size) =
     growing && leb (2 ^ largestExponent) (keys * 2) && eqb size (2 ^ largestExponent)
+test (Row.answers w cs number) = answering w cs number
+test (Row.reads w p entries) = reading (chainAt (w .state) (w .first) (w .second) (w .entries) p) entries
 
 -- one bucket: whatever the cursor, the walk ends
 one-bucket : (cursor : ℕ) → oneTable 1 cursor .answered ≡ 0
@@ -86,6 +108,8 @@ row-true (Row.suggests-above growing keys size) h =
     λ more l.
     subst (λ (t : Bool). suggested t more ≡ size) (sym (each .0 .0))
     (growing-capped more (omega (arith, each .0 .1)) ∙ sym (each .1))
+row-true (Row.answers w cs number) h = told (tells-answering w cs number) h
+row-true (Row.reads w p entries) h = told (tells-reading (chainAt (w .state) (w .first) (w .second) (w .entries) p) entries) h
 
 testAll : List Row → Bool
 testAll [] = true
@@ -99,7 +123,7 @@ all-true (row ∷ rows) h =
     (row-true row (each .0), all-true rows (each .1))
 
 computed : testAll cases ≡ true
-unfolding testAll test gives walks same cases oneTable twoTables sweep betweenZero next setHigh addOne rev reverse suggested powerFrom largestExponent
+unfolding computing testAll test gives walks answering reading same cases bucketZero resting leaving arrived readers
 computed = refl
 
 pub cases-hold : AllHold cases

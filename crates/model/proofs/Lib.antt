@@ -4,8 +4,10 @@ pub mod Power
 pub mod Fields
 pub mod Chains
 pub mod Linked
+pub mod Shared
 pub mod AtMost
 pub mod Soundness
+pub mod Computing
 pub mod Cases
 pub mod Lookups
 pub mod Pairs

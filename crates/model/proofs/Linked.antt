@@ -1,10 +1,11 @@
--- A chain as its links give it, and the chain as it is read: what was read is linked, and a linked list no longer than the
--- budget is read whole. Reading is a function, so a head has one list, and no list repeats an entry.
+-- A chain as its links give it, and the chain as it is read, whatever the test of its keys: what was read is linked and its
+-- keys pass, and such a list no longer than the budget is read whole. Reading is a function, so a head has one list, and no
+-- list repeats an entry.
 -- Assumes nothing.
 use Prim.Native.Nat.{ℕ, zero, suc, _+_, _*_, _/_, _<_, _≤_}
 use mathlib.Core.Path.{_≡_, refl, sym, ap, subst}
 use mathlib.Core.Logic.{_≢_, inl, inr}
-use mathlib.Core.Bool.{Bool, true, false}
+use mathlib.Core.Bool.{Bool, true, false, _&&_}
 use mathlib.Core.List.{List, [], _∷_}
 use mathlib.Core.Option.{Option, none, some}
 use native.Mathlib.Omega.{arith}
@@ -13,7 +14,7 @@ use lib.Seq.{getD-set-other}
 use lib.Dec.{leb}
 use borrow.Author.Tests.{leb-true, le-leb}
 use Rattle.cursor.specs.Member.{In, Distinct}
-use Rattle.model.specs.Memory.{linkOf, setLink, chain, met}
+use Rattle.model.specs.Memory.{linkOf, keyOf, setLink, chain, anyKey, met}
 use Rattle.model.proofs.Chains.{chain-end}
 
 -- the entries from a head, link by link, to 0: each is numbered 1 to the most allowed
@@ -25,47 +26,61 @@ Linked entries most at (n ∷ ns) = (at ≡ n) × (0 < n) × (n ≤ most) × Lin
 unfoldable pub room : List ℕ → ℕ
 room entries = length entries / 3
 
--- what stands behind an entry that was met
-met-some : (t : Bool) (n : ℕ) (r : Option (List ℕ)) (ns : List ℕ) → met t n r ≡ some ns
-    → (ms : List ℕ) × (t ≡ true) × (r ≡ some ms) × (ns ≡ n ∷ ms)
-unfolding met
-met-some false n r ns e = let z : _≡_ {A = ℕ} 0 1 = cc in absurd (omega arith)
-met-some true n none ns e = let z : _≡_ {A = ℕ} 0 1 = cc in absurd (omega arith)
-met-some true n (some ms) ns e = (ms, refl, refl, cc)
+-- their keys pass a test
+abbrev pub Passing : (ℕ → Bool) → List ℕ → List ℕ → Type 0
+Passing test entries ns = (n : ℕ) → In n ns → test (keyOf entries n) ≡ true
 
-module _ (entries : List ℕ) (most : ℕ) where
-  -- a linked list no longer than the budget is read whole
-  pub read-complete : (budget at : ℕ) (ns : List ℕ) → Linked entries most at ns → length ns ≤ budget
-      → chain entries most budget at ≡ some ns
+-- what stands behind an entry that was met
+met-some : (t u : Bool) (n : ℕ) (r : Option (List ℕ)) (ns : List ℕ) → met (t && u) n r ≡ some ns
+    → (ms : List ℕ) × (t ≡ true) × (u ≡ true) × (r ≡ some ms) × (ns ≡ n ∷ ms)
+unfolding met
+met-some false u n r ns e = let z : _≡_ {A = ℕ} 0 1 = cc in absurd (omega arith)
+met-some true false n r ns e = let z : _≡_ {A = ℕ} 0 1 = cc in absurd (omega arith)
+met-some true true n none ns e = let z : _≡_ {A = ℕ} 0 1 = cc in absurd (omega arith)
+met-some true true n (some ms) ns e = (ms, refl, refl, refl, cc)
+
+module _ (test : ℕ → Bool) (entries : List ℕ) (most : ℕ) where
+  -- a linked list whose keys pass, no longer than the budget, is read whole
+  pub read-complete : (budget at : ℕ) (ns : List ℕ) → Linked entries most at ns → Passing test entries ns → length ns ≤ budget
+      → chain test entries most budget at ≡ some ns
   unfolding Linked chain met
-  read-complete budget at [] h l = chain-end entries most budget at h
-  read-complete zero at (n ∷ ns) h l = absurd (omega arith)
-  read-complete (suc budget) zero (n ∷ ns) h l = absurd (omega arith)
-  read-complete (suc budget) (suc at) (n ∷ ns) h l =
+  read-complete budget at [] h f l = chain-end test entries most budget at h
+  read-complete zero at (n ∷ ns) h f l = absurd (omega arith)
+  read-complete (suc budget) zero (n ∷ ns) h f l = absurd (omega arith)
+  read-complete (suc budget) (suc at) (n ∷ ns) h f l =
       let rest = subst (λ (k : ℕ). Linked entries most (linkOf entries k) ns) (sym (h .0)) (h .3) in
+      let passes = f (suc at) (inl (h .0)) in
       rw
-      (le-leb (suc at) most (omega arith), read-complete budget (linkOf entries (suc at)) ns rest (omega arith))
+      (le-leb (suc at) most (omega arith), passes, read-complete budget (linkOf entries (suc at)) ns rest (λ k i. f k (inr i)) (omega arith))
       (cc (h .0))
 
-  -- what was read is linked, and no longer than the budget
-  pub read-sound : (budget at : ℕ) (ns : List ℕ) → chain entries most budget at ≡ some ns
-      → Linked entries most at ns × (length ns ≤ budget)
+  -- what was read is linked, no longer than the budget, and its keys pass
+  pub read-sound : (budget at : ℕ) (ns : List ℕ) → chain test entries most budget at ≡ some ns
+      → Linked entries most at ns × (length ns ≤ budget) × Passing test entries ns
   unfolding Linked chain
-  read-sound zero zero [] e = (refl, omega arith)
+  read-sound zero zero [] e = (refl, omega arith, λ n i. absurd i)
   read-sound zero zero (n ∷ ns) e = let z : _≡_ {A = ℕ} 0 1 = cc in absurd (omega arith)
   read-sound zero (suc at) ns e = let z : _≡_ {A = ℕ} 0 1 = cc in absurd (omega arith)
-  read-sound (suc budget) zero [] e = (refl, omega arith)
+  read-sound (suc budget) zero [] e = (refl, omega arith, λ n i. absurd i)
   read-sound (suc budget) zero (n ∷ ns) e = let z : _≡_ {A = ℕ} 0 1 = cc in absurd (omega arith)
   read-sound (suc budget) (suc at) ns e =
-      let (ms, t, r, same) = met-some (leb (suc at) most) (suc at) (chain entries most budget (linkOf entries (suc at))) ns e in
+      let (ms, t, u, r, same) =
+      met-some (leb (suc at) most) (test (keyOf entries (suc at))) (suc at)
+      (chain test entries most budget (linkOf entries (suc at))) ns e in
       let rest = read-sound budget (linkOf entries (suc at)) ms r in
-      rw same ((refl, omega arith, leb-true (suc at) most t, rest .0), omega arith)
+      rw same (
+        (refl, omega arith, leb-true (suc at) most t, rest .0),
+        omega arith,
+        λ n i. elim i [ inl f ↦ rw f u | inr j ↦ rest .2 n j ],
+      )
 
+module _ (entries : List ℕ) (most : ℕ) where
   -- a head has one list
   pub linked-unique : (at : ℕ) (ns ms : List ℕ) → Linked entries most at ns → Linked entries most at ms → ns ≡ ms
+  unfolding anyKey
   linked-unique at ns ms h k =
-      let left = read-complete (length ns + length ms) at ns h (omega arith) in
-      let right = read-complete (length ns + length ms) at ms k (omega arith) in
+      let left = read-complete anyKey entries most (length ns + length ms) at ns h (λ n i. refl) (omega arith) in
+      let right = read-complete anyKey entries most (length ns + length ms) at ms k (λ n i. refl) (omega arith) in
       cc
 
   -- an entry of a list heads a list that is no longer
@@ -122,12 +137,13 @@ module _ (entries : List ℕ) (most : ℕ) where
   linked-wider most′ at [] l h = h
   linked-wider most′ at (n ∷ ns) l h = (h .0, h .1, omega arith, linked-wider most′ (linkOf entries n) ns l (h .3))
 
--- so a chain that was read is read the same
-pub chain-wider : (entries : List ℕ) (most most′ budget budget′ at : ℕ) (ns : List ℕ) → most ≤ most′ → budget ≤ budget′
-    → chain entries most budget at ≡ some ns → chain entries most′ budget′ at ≡ some ns
-chain-wider entries most most′ budget budget′ at ns m b e =
-    let (h, l) = read-sound entries most budget at ns e in
-    read-complete entries most′ budget′ at ns (linked-wider entries most most′ at ns m h) (omega arith)
+-- so a chain that was read is read the same, where its keys pass the other test too
+pub chain-wider : (test test′ : ℕ → Bool) (entries : List ℕ) (most most′ budget budget′ at : ℕ) (ns : List ℕ)
+    → ((key : ℕ) → test key ≡ true → test′ key ≡ true) → most ≤ most′ → budget ≤ budget′
+    → chain test entries most budget at ≡ some ns → chain test′ entries most′ budget′ at ≡ some ns
+chain-wider test test′ entries most most′ budget budget′ at ns p m b e =
+    let (h, l, f) = read-sound test entries most budget at ns e in
+    read-complete test′ entries most′ budget′ at ns (linked-wider entries most most′ at ns m h) (λ n i. p _ (f n i)) (omega arith)
 
 -- a linked list whose links are kept
 pub linked-kept : (e e' : List ℕ) (most at : ℕ) (ns : List ℕ) → ((n : ℕ) → In n ns → linkOf e' n ≡ linkOf e n)

@@ -2,7 +2,7 @@
 -- Assumes nothing.
 use Prim.Native.Nat.{ℕ, zero, suc, _*_, _≤_, _<_}
 use mathlib.Core.Path.{_≡_, refl, sym, subst, _∙_}
-use mathlib.Core.Bool.{Bool, true, false, cond}
+use mathlib.Core.Bool.{Bool, true, false, _&&_, cond}
 use mathlib.Core.List.{List, [], _∷_}
 use mathlib.Core.Option.{Option, none, some}
 use native.Mathlib.Omega.{arith}
@@ -44,21 +44,24 @@ unfolding InRange
 more-budget capacity budget [] h = tt
 more-budget capacity budget (n ∷ ns) h = (omega arith, h .1, h .2, more-budget capacity budget ns (h .3))
 
-met-in-range : (capacity budget n : ℕ) (t : Bool) (rest : Option (List ℕ)) → (t ≡ true → suc n ≤ capacity)
-    → InRangeIf capacity budget rest → InRangeIf capacity (suc budget) (met t (suc n) rest)
+met-in-range : (capacity budget n : ℕ) (t u : Bool) (rest : Option (List ℕ)) → (t ≡ true → suc n ≤ capacity)
+    → InRangeIf capacity budget rest → InRangeIf capacity (suc budget) (met (t && u) (suc n) rest)
 unfolding InRange InRangeIf met
-met-in-range capacity budget n false rest f h = tt
-met-in-range capacity budget n true none f h = tt
-met-in-range capacity budget n true (some ns) f h = (omega arith, omega arith, f refl, more-budget capacity budget ns h)
+met-in-range capacity budget n false u rest f h = tt
+met-in-range capacity budget n true false rest f h = tt
+met-in-range capacity budget n true true none f h = tt
+met-in-range capacity budget n true true (some ns) f h = (omega arith, omega arith, f refl, more-budget capacity budget ns h)
 
-chain-in-range : (entries : List ℕ) (capacity budget at : ℕ) → InRangeIf capacity budget (chain entries capacity budget at)
+chain-in-range : (test : ℕ → Bool) (entries : List ℕ) (capacity budget at : ℕ)
+    → InRangeIf capacity budget (chain test entries capacity budget at)
 unfolding InRange InRangeIf chain
-chain-in-range entries capacity zero zero = tt
-chain-in-range entries capacity zero (suc n) = tt
-chain-in-range entries capacity (suc budget) zero = tt
-chain-in-range entries capacity (suc budget) (suc n) =
-    met-in-range capacity budget n (leb (suc n) capacity) (chain entries capacity budget (linkOf entries (suc n)))
-    (leb-true (suc n) capacity) (chain-in-range entries capacity budget (linkOf entries (suc n)))
+chain-in-range test entries capacity zero zero = tt
+chain-in-range test entries capacity zero (suc n) = tt
+chain-in-range test entries capacity (suc budget) zero = tt
+chain-in-range test entries capacity (suc budget) (suc n) =
+    met-in-range capacity budget n (leb (suc n) capacity) (test (keyOf entries (suc n)))
+    (chain test entries capacity budget (linkOf entries (suc n))) (leb-true (suc n) capacity)
+    (chain-in-range test entries capacity budget (linkOf entries (suc n)))
 
 found-both : (s : State) (old new : Lookup) → Found s old → Found s new → Found s (both old new)
 unfolding Found both
@@ -91,7 +94,7 @@ module _ (s : State) (entries : List ℕ) (key : ℕ) (t : Table) (live : t ≡ 
 
   found-in : (current other : List ℕ) → Found s (lookupIn s current other entries key t)
   unfolding lookupIn chainAt keyPlace budgetAt
-  found-in current other = found-searched _ (chain-in-range entries (s .capacity) (usedOf s t) _)
+  found-in current other = found-searched _ (chain-in-range _ entries (s .capacity) (usedOf s t) _)
 
 module _ (s : State) (current other entries : List ℕ) (key : ℕ) where
   found-while : (t : Bool) → s .rehashing ≡ t → Found s (lookupWhile t s current other entries key)

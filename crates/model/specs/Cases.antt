@@ -3,11 +3,16 @@ use Prim.Native.Nat.{ℕ, _<_}
 use mathlib.Core.Path.{_≡_}
 use mathlib.Core.Bool.{Bool, true, false}
 use mathlib.Core.List.{List, [], _∷_}
+use mathlib.Core.Option.{some}
+use lib.ListN.{replicate}
 use Rattle.cursor.specs.Group.{Group, oneTable, twoTables}
-use Rattle.model.specs.Calls.{suggested}
+use Rattle.model.specs.Memory.{Place, chainAt}
+use Rattle.model.specs.Calls.{stateOf, oldNew, suggested}
+use Rattle.model.specs.Sequences.{World, world, KeyCall, Call, perform}
 
 -- A walk's cursor at one live table, or at two; the cursors of a whole walk; any cursor; the suggested size for some keys, and
--- for every number of keys above a given one.
+-- for every number of keys above a given one; some calls in a world, each of which answers that number; the entries of a
+-- sound chain, where the first buffer is the current one.
 pub data Row : Type 0 where
   at-one : (size cursor bucket next : ℕ) → Row
   at-two : (small large cursor bucket : ℕ) (buckets : List ℕ) (next : ℕ) → Row
@@ -15,6 +20,8 @@ pub data Row : Type 0 where
   at-any : (size next : ℕ) → Row
   suggests : (growing : Bool) (keys size : ℕ) → Row
   suggests-above : (growing : Bool) (keys size : ℕ) → Row
+  answers : (w : World) (calls : List Call) (number : ℕ) → Row
+  reads : (w : World) (p : Place) (entries : List ℕ) → Row
 
 -- the group is that bucket of the smaller table and those of the larger, and that cursor is answered
 unfoldable pub Gives : Group → ℕ → List ℕ → ℕ → Type 0
@@ -26,6 +33,10 @@ Walks size [] = Unit {0}
 Walks size (cursor ∷ []) = Unit {0}
 Walks size (cursor ∷ next ∷ rest) = Gives (oneTable size cursor) cursor [] next × Walks size (next ∷ rest)
 
+unfoldable pub Answers : World → List Call → ℕ → Type 0
+Answers w [] number = Unit {0}
+Answers w (c ∷ cs) number = (perform w c .reply .number ≡ number) × Answers w cs number
+
 unfoldable pub Holds : Row → Type 0
 Holds (Row.at-one size cursor bucket next) = Gives (oneTable size cursor) bucket [] next
 Holds (Row.at-two small large cursor bucket buckets next) = Gives (twoTables small large cursor) bucket buckets next
@@ -33,10 +44,38 @@ Holds (Row.walk size cursors) = Walks size cursors
 Holds (Row.at-any size next) = (cursor : ℕ) → oneTable size cursor .answered ≡ next
 Holds (Row.suggests growing keys size) = suggested growing keys ≡ size
 Holds (Row.suggests-above growing keys size) = (more : ℕ) → keys < more → suggested growing more ≡ size
+Holds (Row.answers w calls number) = Answers w calls number
+Holds (Row.reads w p entries) = chainAt (w .state) (w .first) (w .second) (w .entries) p ≡ some entries
 
 unfoldable pub AllHold : List Row → Type 0
 AllHold [] = Unit {0}
 AllHold (row ∷ rows) = Holds row × AllHold rows
+
+-- Stores of three entries, the third one free, with some key left in it. Keys a and b, in this order, are on the chain of bucket
+-- 0, at size 2: with no move, and during a move to size 4; or key a alone is, at size 4, behind a move from size 2.
+
+unfoldable pub bucketZero : ℕ → ℕ → List ℕ
+bucketZero a b = 2 ∷ a ∷ 10 ∷ 0 ∷ b ∷ 20 ∷ 0 ∷ 7 ∷ 70 ∷ []
+
+unfoldable pub resting : ℕ → ℕ → World
+resting a b = world (stateOf false (oldNew 2 0) (oldNew 2 0) false 0 3 3) (1 ∷ 0 ∷ []) [] (bucketZero a b)
+
+unfoldable pub leaving : ℕ → ℕ → World
+leaving a b = world (stateOf false (oldNew 2 4) (oldNew 2 0) true 0 3 3) (1 ∷ 0 ∷ []) (replicate 4 0) (bucketZero a b)
+
+unfoldable pub arrived : ℕ → World
+arrived a =
+    world (stateOf false (oldNew 2 4) (oldNew 0 1) true 2 3 3) (0 ∷ 0 ∷ []) (1 ∷ 0 ∷ 0 ∷ 0 ∷ []) (0 ∷ a ∷ 10 ∷ 0 ∷ 0 ∷ 0 ∷ 2 ∷ 7 ∷ 70 ∷ [])
+
+-- one of each call that reads a bucket's chain, but for a step: on a key, on another one to be added, and a walk from the start
+unfoldable pub readers : ℕ → ℕ → List Call
+readers key new =
+    Call.on key KeyCall.find
+    ∷ Call.on key (KeyCall.update 30)
+    ∷ Call.on new (KeyCall.add 30)
+    ∷ Call.on key KeyCall.delete
+    ∷ Call.scan 0 (replicate 4 0)
+    ∷ []
 
 unfoldable pub cases : List Row
 cases =
@@ -52,4 +91,14 @@ cases =
     ∷ Row.suggests true 5 16
     ∷ Row.suggests false 5 8
     ∷ Row.suggests-above true 32768 65536
+    ∷ Row.answers (resting 2 4) (readers 2 6) 0
+    ∷ Row.answers (resting 2 5) (readers 2 6) 2
+    ∷ Row.answers (resting 5 2) (readers 2 6) 2
+    ∷ Row.answers (resting 2 5) (Call.on 5 KeyCall.find ∷ []) 3
+    ∷ Row.answers (resting 2 5) (Call.scan 1 [] ∷ []) 0
+    ∷ Row.answers (leaving 2 4) (Call.rehashStep ∷ readers 2 6) 0
+    ∷ Row.answers (leaving 2 5) (Call.rehashStep ∷ readers 2 6) 2
+    ∷ Row.answers (arrived 4) (readers 4 8) 0
+    ∷ Row.answers (arrived 2) (readers 4 8) 2
+    ∷ Row.reads (resting 2 4) Place.free (3 ∷ [])
     ∷ []

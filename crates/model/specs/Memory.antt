@@ -87,18 +87,28 @@ unfoldable pub soundState : ℕ → ℕ → ℕ → State → Bool
 soundState current other entries s = soundBase current entries s && soundRehash other s (s .rehashing)
 
 -- A chain as it is read from a head: its entries in order, or none where it is not sound. Each number met is tested
--- before its entry is read, and at most the budget of entries may be met before 0.
+-- before its entry is read, the key of each entry must pass the chain's own test, and at most the budget of entries may be
+-- met before 0.
 
 unfoldable pub met : Bool → ℕ → Option (List ℕ) → Option (List ℕ)
 met true n rest = Option·map (λ ns. n ∷ ns) rest
 met false n rest = none
 
-unfoldable pub chain : List ℕ → ℕ → ℕ → ℕ → Option (List ℕ)
-chain entries capacity zero zero = some []
-chain entries capacity zero (suc n) = none
-chain entries capacity (suc budget) zero = some []
-chain entries capacity (suc budget) (suc n) =
-    met (leb (suc n) capacity) (suc n) (chain entries capacity budget (linkOf entries (suc n)))
+unfoldable pub chain : (ℕ → Bool) → List ℕ → ℕ → ℕ → ℕ → Option (List ℕ)
+chain test entries capacity zero zero = some []
+chain test entries capacity zero (suc n) = none
+chain test entries capacity (suc budget) zero = some []
+chain test entries capacity (suc budget) (suc n) =
+    met (leb (suc n) capacity && test (keyOf entries (suc n))) (suc n)
+    (chain test entries capacity budget (linkOf entries (suc n)))
+
+-- The test of a bucket's chain: the key's bucket of that size is that bucket. The free list's lets any key pass.
+
+unfoldable pub inBucket : ℕ → ℕ → ℕ → Bool
+inBucket size b key = eqb (bucketOf key size) b
+
+unfoldable pub anyKey : ℕ → Bool
+anyKey key = true
 
 -- The chains of a store: the free list's, and that of every live bucket.
 
@@ -124,8 +134,14 @@ unfoldable pub budgetAt : State → Place → ℕ
 budgetAt s Place.free = s .capacity - keysHeld s
 budgetAt s (Place.bucket t b) = usedOf s t
 
+-- the keys that belong there
+unfoldable pub belongs : State → Place → ℕ → Bool
+belongs s Place.free = anyKey
+belongs s (Place.bucket t b) = inBucket (sizeOf s t) b
+
 unfoldable pub chainAt : State → List ℕ → List ℕ → List ℕ → Place → Option (List ℕ)
-chainAt s current other entries p = chain entries (s .capacity) (budgetAt s p) (headAt s current other p)
+chainAt s current other entries p =
+    chain (belongs s p) entries (s .capacity) (budgetAt s p) (headAt s current other p)
 
 -- the entries of a chain that is sound, and none of one that is not
 unfoldable pub listed : Option (List ℕ) → List ℕ
@@ -140,7 +156,8 @@ unfoldable pub sum : (ℕ → ℕ) → ℕ → ℕ
 sum f zero = 0
 sum f (suc n) = sum f n + f n
 
--- An undamaged store. The entries of bucket b of table t are those at `Place.bucket t b`.
+-- An undamaged store. The entries of bucket b of table t are those at `Place.bucket t b`. That each has a key of that bucket is
+-- part of its chain being sound.
 pub record Undamaged (s : State) (current other entries : List ℕ) : Type 0 where
   pub state-sound : soundState (length current) (length other) (length entries) s ≡ true
   pub chains-sound : (p : Place) → Live s p
@@ -148,8 +165,6 @@ pub record Undamaged (s : State) (current other entries : List ℕ) : Type 0 whe
   pub on-a-chain : (n : ℕ) → 0 < n → n ≤ s .capacity → (p : Place) × Live s p × In n (entriesAt s current other entries p)
   pub on-one-chain : (n : ℕ) (p q : Place) → Live s p → Live s q
       → In n (entriesAt s current other entries p) → In n (entriesAt s current other entries q) → p ≡ q
-  pub in-its-bucket : (n : ℕ) (t : Table) (b : ℕ) → b < sizeOf s t
-      → In n (entriesAt s current other entries (Place.bucket t b)) → bucketOf (keyOf entries n) (sizeOf s t) ≡ b
   pub keys-distinct : (n m : ℕ) (t u : Table) (a b : ℕ) → a < sizeOf s t → b < sizeOf s u
       → In n (entriesAt s current other entries (Place.bucket t a)) → In m (entriesAt s current other entries (Place.bucket u b))
       → keyOf entries n ≡ keyOf entries m → n ≡ m

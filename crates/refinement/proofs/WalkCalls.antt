@@ -14,8 +14,9 @@ use Rattle.model.specs.Answers.{reply}
 use Rattle.model.specs.Walk.{Tables, tablesOf, groupPlaces, pairs}
 use Rattle.model.specs.Sequences.{World, Call, Outcome, kept, perform, Event, event, Pair, keysOf}
 use Rattle.model.proofs.Pairs.{length-pairs}
+use Rattle.model.proofs.Shared.{in-its-bucket}
 use Rattle.model.proofs.Tests.{Tells, told, tested}
-use Rattle.refinement.specs.Worlds.{UndamagedAt, Held}
+use Rattle.refinement.specs.Worlds.{current, other, UndamagedAt, Held}
 use Rattle.refinement.specs.Demand2.{groupEntries}
 use Rattle.refinement.specs.Demand3.{Lengths, Ideal, inGroup, groupPairs, scanAnswer, predict, pairsIn, handedOut, WalkCall, AsPredicted, Matches}
 use Rattle.invariant.proofs.Lists.{of-distinct-map, same-length, in-keep, of-keep, distinct-keep}
@@ -41,7 +42,7 @@ module _ (l : Lengths) (w : World) (i : Ideal) (u : UndamagedAt w) (m : Matches 
       → placeIn (i .tables) (i .unmoved) key ≡ Place.bucket (h .table) (h .index)
   unfolding placeIn UndamagedAt
   held-place {key} {value} h =
-      let home = u .in-its-bucket (h .entry) (h .table) (h .index) (h .live) (h .there) in
+      let home = in-its-bucket (w .state) (current w) (other w) (w .entries) (h .table) (h .index) (h .entry) (h .there) in
       cc (
         m .tables,
         m .each-table key value h,

@@ -10,7 +10,7 @@ use Rattle.cursor.specs.Member.{In}
 use Rattle.model.specs.declared.State.{State}
 use Rattle.model.specs.declared.Table.{Table}
 use Rattle.model.specs.Limits.{legalCapacity, legalSize}
-use Rattle.model.specs.Memory.{linkOf, keyOf, keysHeld, Place, keyPlace, headAt, budgetAt}
+use Rattle.model.specs.Memory.{linkOf, keyOf, keysHeld, Place, keyPlace, headAt, budgetAt, belongs}
 use Rattle.model.specs.Answers.{reply}
 use Rattle.model.specs.Calls.{sound, noState}
 use Rattle.model.specs.Walk.{tablesOf, groupPlaces}
@@ -21,24 +21,25 @@ use Rattle.refinement.specs.Worlds.{current, other}
 unfoldable pub BadState : World → Type 0
 BadState w = ¬ (sound (w .state) (current w) (other w) (w .entries) ≡ true)
 
--- A sound chain: from its head, link by link, every number met is at most the capacity, and 0 is met after at most as many
--- entries as the state says.
+-- A sound chain: from its head, link by link, every number met is at most the capacity, the key of every entry met belongs
+-- there, and 0 is met after at most as many entries as the state says.
 
 -- the number met after k links
 unfoldable pub nth : List ℕ → ℕ → ℕ → ℕ
 nth entries head zero = head
 nth entries head (suc k) = linkOf entries (nth entries head k)
 
--- that many entries are met, and then 0
-pub record Chain (entries : List ℕ) (capacity head count : ℕ) : Type 0 where
+-- that many entries are met, whose keys pass the test, and then 0
+pub record Chain (test : ℕ → Bool) (entries : List ℕ) (capacity head count : ℕ) : Type 0 where
   pub entry : (k : ℕ) → k < count → (0 < nth entries head k) × (nth entries head k ≤ capacity)
+  pub key : (k : ℕ) → k < count → test (keyOf entries (nth entries head k)) ≡ true
   pub end : nth entries head count ≡ 0
 
 unfoldable pub headOf : World → Place → ℕ
 headOf w p = headAt (w .state) (current w) (other w) p
 
 unfoldable pub ChainAt : World → Place → ℕ → Type 0
-ChainAt w p count = Chain (w .entries) (w .state .capacity) (headOf w p) count
+ChainAt w p count = Chain (belongs (w .state) p) (w .entries) (w .state .capacity) (headOf w p) count
 
 unfoldable pub SoundChain : World → Place → Type 0
 SoundChain w p = (count : ℕ) × (count ≤ budgetAt (w .state) p) × ChainAt w p count

@@ -8,7 +8,7 @@ use native.Mathlib.Omega.{arith}
 use lib.ListN.{length, getD, set, length-set}
 use Rattle.cursor.specs.Next.{next}
 use Rattle.model.specs.Keys.{bucketOf, hash}
-use Rattle.model.specs.Memory.{linkOf, keyOf, valueOf, listed}
+use Rattle.model.specs.Memory.{linkOf, keyOf, valueOf, anyKey, listed}
 use Rattle.model.specs.Walk.{joined}
 use Rattle.model.proofs.Linked.{Linked, room, read-sound, linked-first, linked-empty}
 use Rattle.scan_group.specs.Tables.{Sizes}
@@ -81,7 +81,7 @@ module _ (entries list₀ : List ℕ) (head from : ℕ) where
   pub writing-start : Writable list₀ from (linked entries head) → Writing entries list₀ head from head from list₀
   unfolding linked
   writing-start h =
-      let links = read-sound entries (room entries) (room entries) head (listed (linked entries head)) (h .sound) .0 in
+      let links = read-sound anyKey entries (room entries) (room entries) head (listed (linked entries head)) (h .sound) .0 in
       record {
         rest = listed (linked entries head);
         links = links;

@@ -1,16 +1,16 @@
 // How many entries the group of a walk call has. Every chain is tested here, before any is written. Chains with more
 // entries than the limit, all together, are no more sound than one that loops.
-use crate::bucket::bucket_head;
 use cursor::next_cursor;
 use memory::chain::ChainLength;
 use memory::chain::chain_length;
+use memory::state::bucket_index;
 ghost use mathlib.Core.Path.{_≡_};
 ghost use Prim.Native.Nat.{min};
 ghost use Rattle.cursor.specs.Group.{twoTables};
-ghost use Rattle.model.specs.Memory.{chain};
-ghost use Rattle.model.specs.Walk.{joined, atMost};
+ghost use Rattle.model.specs.Memory.{inBucket};
+ghost use Rattle.model.specs.Walk.{atMost};
 ghost use Rattle.memory.specs.Length.{lengthOf};
-ghost use Rattle.scan_group.specs.Chains.{chains};
+ghost use Rattle.scan_group.specs.Chains.{chains, groupChains};
 ghost use Rattle.scan_group.specs.Tables.{Larger};
 
 fn least(a: u32, b: u32) -> u32
@@ -34,13 +34,14 @@ fn count_large(
 ) -> ChainLength
     requires { ⌜ Larger (now larger) (now entries) capacity small large ⌝ }
     ensures { λ r. ⌜ r ≡ lengthOf (atMost limit
-        (chains (now (entries .entry)) capacity used (now (larger .entry)) (twoTables small large cursor .large))) ⌝ }
+        (chains (inBucket large) (now (entries .entry)) capacity used (now (larger .entry)) (twoTables small large cursor .large))) ⌝ }
 {
     let mut at = cursor;
     let mut left = limit;
     loop {
-        let head = bucket_head(larger, large, at);
-        let length = chain_length(entries, capacity, least(used, left), head);
+        let b = bucket_index(at, large);
+        let head = larger[b];
+        let length = chain_length(entries, capacity, least(used, left), head, large, b);
         match length {
             ChainLength::Unsound => return ChainLength::Unsound,
             ChainLength::Sound(n) => left -= n,
@@ -52,7 +53,7 @@ fn count_large(
     }
 }
 
-// Those of both tables: the smaller one's chain, from its head, then the larger one's. A chain may have as many as its
+// Those of both tables: the chain of the cursor's bucket in the smaller one, from its head, then the larger one's. A chain may have as many as its
 // table holds keys, and all of them together as many as the limit.
 pub fn count_group(
     head: u32,
@@ -67,10 +68,11 @@ pub fn count_group(
     cursor: u32,
 ) -> ChainLength
     requires { ⌜ Larger (now larger) (now entries) capacity small large ⌝ }
-    ensures { λ r. ⌜ r ≡ lengthOf (atMost limit (joined (chain (now (entries .entry)) capacity «small_used» head)
-        (chains (now (entries .entry)) capacity «large_used» (now (larger .entry)) (twoTables small large cursor .large)))) ⌝ }
+    ensures { λ r. ⌜ r ≡ lengthOf (atMost limit
+        (groupChains (now (entries .entry)) (now (larger .entry)) capacity «small_used» «large_used» head small large cursor)) ⌝ }
 {
-    let first = chain_length(entries, capacity, least(small_used, limit), head);
+    let b = bucket_index(cursor, small);
+    let first = chain_length(entries, capacity, least(small_used, limit), head, small, b);
     match first {
         ChainLength::Unsound => ChainLength::Unsound,
         ChainLength::Sound(n) => {

@@ -9,13 +9,14 @@ use Rattle.model.specs.declared.State.{State}
 use Rattle.model.specs.declared.Table.{Table}
 use Rattle.model.specs.declared.Lookup.{Lookup}
 use Rattle.model.specs.Keys.{bucketOf}
-use Rattle.model.specs.Memory.{chain, sizeOf, usedOf, bucketsOf, keyPlace, headAt, budgetAt, chainAt}
+use Rattle.model.specs.Memory.{chain, inBucket, sizeOf, usedOf, bucketsOf, keyPlace, headAt, budgetAt, belongs, chainAt}
 use Rattle.model.specs.Calls.{searched, lookupIn, both, lookupWhile, lookup}
 use Rattle.search.specs.Tables.{searchedIn}
 
 -- in one table, once the bucket is known
 pub looked-in : (entries : List ℕ) (capacity used : ℕ) (buckets : List ℕ) (size key b : ℕ) (t : Table) (r : Lookup)
-    → b ≡ bucketOf key size → r ≡ searched entries key t 0 (chain entries capacity used (getD buckets b 0))
+    → b ≡ bucketOf key size
+    → r ≡ searched entries key t 0 (chain (inBucket size b) entries capacity used (getD buckets b 0))
     → r ≡ searchedIn entries capacity used buckets size key t
 unfolding searchedIn
 looked-in entries capacity used buckets size key b t r e h = rw e at h
@@ -25,7 +26,7 @@ module _ (s : State) (current other entries : List ℕ) (key : ℕ) where
   in-table : (t : Table)
       → searchedIn entries (s .capacity) (usedOf s t) (bucketsOf current other t) (sizeOf s t) key t
       ≡ lookupIn s current other entries key t
-  unfolding searchedIn lookupIn chainAt keyPlace headAt budgetAt
+  unfolding searchedIn lookupIn chainAt keyPlace headAt budgetAt belongs
   in-table t = refl
 
   -- the old table's is the lookup ..

@@ -2,14 +2,14 @@
 -- Assumes nothing.
 use Prim.Native.Nat.{ℕ, zero, suc, _-_}
 use mathlib.Core.Path.{_≡_, refl, sym, ap, _∙_}
-use mathlib.Core.Bool.{Bool, true, false, _||_}
+use mathlib.Core.Bool.{Bool, true, false, _||_, _&&_}
 use mathlib.Core.List.{List, [], _∷_}
 use mathlib.Core.Option.{Option, none, some, Option·map}
 use lib.Dec.{leb, ltb, eqb, eqb·suc-zero}
 use Rattle.model.specs.declared.Table.{Table}
 use Rattle.model.specs.Memory.{linkOf, keyOf, chain, met}
 use Rattle.model.specs.Calls.{searched, firstWith}
-use Rattle.model.proofs.Chains.{chain-end, chain-bad, chain-good}
+use Rattle.model.proofs.Chains.{chain-end, chain-bad, chain-stray, chain-good}
 use Rattle.search.specs.declared.found.Found.{Found}
 use Rattle.search.specs.Found.{foundOf, firstOf, asFound}
 
@@ -23,8 +23,8 @@ seen entries key found none = Found.Damaged
 seen entries key found (some ns) = asFound (firstEntry entries key found ns)
 
 -- the search from here is the search from the head
-pub record Seeking (entries : List ℕ) (capacity budget head key at found left : ℕ) : Type 0 where
-  pub same : seen entries key found (chain entries capacity left at) ≡ seen entries key 0 (chain entries capacity budget head)
+pub record Seeking (test : ℕ → Bool) (entries : List ℕ) (capacity budget head key at found left : ℕ) : Type 0 where
+  pub same : seen entries key found (chain test entries capacity left at) ≡ seen entries key 0 (chain test entries capacity budget head)
 
 module _ (entries : List ℕ) (key : ℕ) where
   one-more : (found n : ℕ) (o : Option (List ℕ))
@@ -56,41 +56,50 @@ module _ (entries : List ℕ) (key : ℕ) where
   met-or-not table before n false o h = refl
 
   -- what the whole search answers
-  pub seen-searched : (capacity : ℕ) (table : Table) (budget head before : ℕ)
-      → seen entries key 0 (chain entries capacity budget head)
-      ≡ foundOf (searched entries key table before (chain entries capacity budget head))
+  pub seen-searched : (test : ℕ → Bool) (capacity : ℕ) (table : Table) (budget head before : ℕ)
+      → seen entries key 0 (chain test entries capacity budget head)
+      ≡ foundOf (searched entries key table before (chain test entries capacity budget head))
   unfolding chain seen firstEntry asFound foundOf searched firstWith
-  seen-searched capacity table zero zero before = refl
-  seen-searched capacity table zero (suc head) before = refl
-  seen-searched capacity table (suc budget) zero before = refl
-  seen-searched capacity table (suc budget) (suc head) before =
-      met-or-not table before head (leb (suc head) capacity) (chain entries capacity budget (linkOf entries (suc head)))
-      (seen-searched capacity table budget (linkOf entries (suc head)) (suc head))
+  seen-searched test capacity table zero zero before = refl
+  seen-searched test capacity table zero (suc head) before = refl
+  seen-searched test capacity table (suc budget) zero before = refl
+  seen-searched test capacity table (suc budget) (suc head) before =
+      met-or-not table before head (leb (suc head) capacity && test (keyOf entries (suc head)))
+      (chain test entries capacity budget (linkOf entries (suc head)))
+      (seen-searched test capacity table budget (linkOf entries (suc head)) (suc head))
 
-module _ (entries : List ℕ) (capacity budget head key : ℕ) where
-  pub seeking-start : Seeking entries capacity budget head key head 0 budget
+module _ (test : ℕ → Bool) (entries : List ℕ) (capacity budget head key : ℕ) where
+  pub seeking-start : Seeking test entries capacity budget head key head 0 budget
   seeking-start = record { same = refl }
 
-  module _ (at found left : ℕ) (h : Seeking entries capacity budget head key at found left) where
+  module _ (at found left : ℕ) (h : Seeking test entries capacity budget head key at found left) where
     pub seeking-out : (at ≡ 0 → ⊥) → (eqb left 0 || ltb capacity at) ≡ true
-        → (t : Table) → Found.Damaged ≡ foundOf (searched entries key t 0 (chain entries capacity budget head))
+        → (t : Table) → Found.Damaged ≡ foundOf (searched entries key t 0 (chain test entries capacity budget head))
     unfolding seen
-    seeking-out f b t = (rw (chain-bad entries capacity left at f b) at (h .same)) ∙ seen-searched entries key capacity t budget head 0
+    seeking-out f b t = (rw (chain-bad test entries capacity left at f b) at (h .same)) ∙ seen-searched entries key test capacity t budget head 0
+
+    pub seeking-stray : (k : ℕ) → (at ≡ 0 → ⊥) → (eqb left 0 || ltb capacity at) ≡ false → k ≡ keyOf entries at
+        → test k ≡ false
+        → (t : Table) → Found.Damaged ≡ foundOf (searched entries key t 0 (chain test entries capacity budget head))
+    unfolding seen
+    seeking-stray k f b e p t =
+        (rw (chain-stray test entries capacity left at f b (rw e at p)) at (h .same))
+        ∙ seen-searched entries key test capacity t budget head 0
 
     pub seeking-end : (r : Found) → at ≡ 0 → r ≡ asFound found
-        → (t : Table) → r ≡ foundOf (searched entries key t 0 (chain entries capacity budget head))
+        → (t : Table) → r ≡ foundOf (searched entries key t 0 (chain test entries capacity budget head))
     unfolding seen firstEntry
     seeking-end r e d t =
-        d ∙ (rw (chain-end entries capacity left at e) at (h .same)) ∙ seen-searched entries key capacity t budget head 0
+        d ∙ (rw (chain-end test entries capacity left at e) at (h .same)) ∙ seen-searched entries key test capacity t budget head 0
 
     pub seeking-next : (k next found′ : ℕ) (t : Bool) → (at ≡ 0 → ⊥) → (eqb left 0 || ltb capacity at) ≡ false
-        → k ≡ keyOf entries at → t ≡ eqb k key → found′ ≡ firstOf found t at → next ≡ linkOf entries at
-        → Seeking entries capacity budget head key next found′ (left - 1)
-    seeking-next k next found′ t f b ke te fe ne =
+        → k ≡ keyOf entries at → test k ≡ true → t ≡ eqb k key → found′ ≡ firstOf found t at → next ≡ linkOf entries at
+        → Seeking test entries capacity budget head key next found′ (left - 1)
+    seeking-next k next found′ t f b ke p te fe ne =
         record {
           same =
               rw (fe, te, ke, ne)
-              (one-more entries key found at (chain entries capacity (left - 1) (linkOf entries at))
-              ∙ ap (seen entries key found) (sym (chain-good entries capacity left at f b))
+              (one-more entries key found at (chain test entries capacity (left - 1) (linkOf entries at))
+              ∙ ap (seen entries key found) (sym (chain-good test entries capacity left at f b (rw ke at p)))
               ∙ h .same);
         }

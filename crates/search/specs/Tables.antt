@@ -9,13 +9,13 @@ use Rattle.model.specs.declared.Table.{Table}
 use Rattle.model.specs.declared.Lookup.{Lookup}
 use Rattle.model.specs.Keys.{bucketOf}
 use Rattle.model.specs.Limits.{legalSize}
-use Rattle.model.specs.Memory.{chain}
+use Rattle.model.specs.Memory.{chain, inBucket}
 use Rattle.model.specs.Calls.{oriented, searched, lookup}
 
 -- the key's chain in a table with that many keys, those buckets and that size
 unfoldable pub searchedIn : List ℕ → ℕ → ℕ → List ℕ → ℕ → ℕ → Table → Lookup
 searchedIn entries capacity used buckets size key t =
-    searched entries key t 0 (chain entries capacity used (getD buckets (bucketOf key size) 0))
+    let b = bucketOf key size in searched entries key t 0 (chain (inBucket size b) entries capacity used (getD buckets b 0))
 
 unfoldable pub lookupLent : State → List ℕ → List ℕ → List ℕ → ℕ → Lookup
 lookupLent s first second entries key =

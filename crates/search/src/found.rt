@@ -9,7 +9,8 @@ ghost use mathlib.Core.Bool.{true};
 ghost use Prim.Native.Nat.{_*_, _≤_};
 ghost use lib.ListN.{length};
 ghost use Rattle.model.specs.declared.Table.{Table};
-ghost use Rattle.model.specs.Memory.{chain};
+ghost use Rattle.model.specs.Limits.{legalSize};
+ghost use Rattle.model.specs.Memory.{chain, inBucket};
 ghost use Rattle.model.specs.Calls.{searched, both};
 ghost use Rattle.memory.specs.Lent.{soundLent};
 ghost use Rattle.search.specs.Tables.{searchedIn, lookupLent, Readable};
@@ -39,10 +40,21 @@ fn as_found(found: u32) -> Found
     }
 }
 
-// The first entry of a chain with the key. One loop reads the whole chain: it must be sound to its end.
-fn search_entry(entries: &[u32], capacity: u32, budget: u32, head: u32, key: u32) -> Found
+// The first entry with the key, on the chain of bucket b in a table of that size. One loop reads the whole chain: it must be
+// sound to its end.
+fn search_entry(
+    entries: &[u32],
+    capacity: u32,
+    budget: u32,
+    head: u32,
+    size: u32,
+    b: usize,
+    key: u32,
+) -> Found
     requires { ⌜ capacity * 3 ≤ length (now entries) ⌝ }
-    ensures { λ r. ⌜ ((t : Table) → r ≡ foundOf (searched (now (entries .entry)) key t 0 (chain (now (entries .entry)) capacity budget head))) ⌝ }
+    requires { ⌜ legalSize size ≡ true ⌝ }
+    ensures { λ r. ⌜ ((t : Table) → r ≡ foundOf (searched (now (entries .entry)) key t 0
+        (chain (inBucket size b) (now (entries .entry)) capacity budget head))) ⌝ }
 {
     let mut at = head;
     let mut found = 0;
@@ -51,8 +63,12 @@ fn search_entry(entries: &[u32], capacity: u32, budget: u32, head: u32, key: u32
         if (left == 0) | (capacity < at) {
             return Found::Damaged;
         }
+        let met = key_of(entries, at);
+        if bucket_index(met, size) != b {
+            return Found::Damaged;
+        }
         left -= 1;
-        found = first_of(found, key_of(entries, at) == key, at);
+        found = first_of(found, met == key, at);
         at = link_of(entries, at);
     }
     as_found(found)
@@ -71,7 +87,7 @@ pub fn entry_in(
     ensures { λ r. ⌜ ((t : Table) → r ≡ foundOf (searchedIn (now (entries .entry)) capacity used (now (buckets .entry)) size key t)) ⌝ }
 {
     let b = bucket_index(key, size);
-    search_entry(entries, capacity, used, buckets[b], key)
+    search_entry(entries, capacity, used, buckets[b], size, b, key)
 }
 
 // Both chains must be sound, and the old table's entry comes first.

@@ -8,24 +8,31 @@ use model::Lookup;
 use model::State;
 use model::Table;
 ghost use mathlib.Core.Path.{_≡_};
+ghost use mathlib.Core.Bool.{true};
 ghost use Prim.Native.Nat.{_*_, _≤_};
 ghost use lib.ListN.{length};
-ghost use Rattle.model.specs.Memory.{chain};
+ghost use Rattle.model.specs.Limits.{legalSize};
+ghost use Rattle.model.specs.Memory.{chain, inBucket};
 ghost use Rattle.model.specs.Calls.{searched, both, lookup};
 ghost use Rattle.model.proofs.Soundness.{Sound};
 ghost use Rattle.search.specs.Tables.{searchedIn, Readable};
 
-// The first entry of a chain with the key. The rest of the chain is read too: it must be sound to its end.
+// The first entry with the key, on the chain of bucket b in a table of that size. The rest of the chain is read too: it must be
+// sound to its end.
 fn search_chain(
     entries: &[u32],
     capacity: u32,
     budget: u32,
     head: u32,
+    size: u32,
+    b: usize,
     key: u32,
     table: Table,
 ) -> Lookup
     requires { ⌜ capacity * 3 ≤ length (now entries) ⌝ }
-    ensures { λ r. ⌜ r ≡ searched (now (entries .entry)) key table 0 (chain (now (entries .entry)) capacity budget head) ⌝ }
+    requires { ⌜ legalSize size ≡ true ⌝ }
+    ensures { λ r. ⌜ r ≡ searched (now (entries .entry)) key table 0
+        (chain (inBucket size b) (now (entries .entry)) capacity budget head) ⌝ }
 {
     let mut at = head;
     let mut before = 0;
@@ -34,10 +41,14 @@ fn search_chain(
         if (left == 0) | (capacity < at) {
             return Lookup::Damaged;
         }
+        let met = key_of(entries, at);
+        if bucket_index(met, size) != b {
+            return Lookup::Damaged;
+        }
         let next = link_of(entries, at);
         left -= 1;
-        if key_of(entries, at) == key {
-            let rest = chain_length(entries, capacity, left, next);
+        if met == key {
+            let rest = chain_length(entries, capacity, left, next, size, b);
             return match rest {
                 ChainLength::Unsound => Lookup::Damaged,
                 ChainLength::Sound(_) => Lookup::At {
@@ -67,7 +78,7 @@ fn lookup_in(
     ensures { λ r. ⌜ r ≡ searchedIn (now (entries .entry)) capacity used (now (buckets .entry)) size key table ⌝ }
 {
     let b = bucket_index(key, size);
-    search_chain(entries, capacity, used, buckets[b], key, table)
+    search_chain(entries, capacity, used, buckets[b], size, b, key, table)
 }
 
 // Both chains must be sound, and the old table's entry comes first.

@@ -46,12 +46,19 @@ addsNothing-excluded d =
     let h = at d 1 refl (add 1 10 ∷ []) .matches .contents .in-store 1 10 refl in
     in-no-bucket _ (h .entry) refl refl (λ h. h) (h .table) (h .index) (h .live) (h .there)
 
--- `undamaged`. Every chain is sound; ..
+-- `undamaged`. Every chain is sound: it comes to an end, ..
 pub addsLoop-excluded : Demand3 addsLoop → ⊥
 unfolding computing addsLoop
 addsLoop-excluded d =
     apart (λ o. elim o [ none ↦ 0 | some ns ↦ 1 ]) _ _ refl
     (at d 1 refl (add 1 10 ∷ []) .undamaged .chains-sound (Place.bucket Table.Old 0) (lit< tt))
+
+-- .. and a bucket's has keys of that bucket only; ..
+pub addsToFirst-excluded : Demand3 addsToFirst → ⊥
+unfolding computing addsToFirst wrong.adding
+addsToFirst-excluded d =
+    apart (λ o. elim o [ none ↦ 0 | some ns ↦ 1 ]) _ _ refl
+    (at d 2 refl (add 1 10 ∷ []) .undamaged .chains-sound (Place.bucket Table.Old 0) (lit< tt))
 
 -- .. each entry is on a chain, ..
 pub leaks-excluded : Demand3 leaks → ⊥
@@ -66,13 +73,6 @@ unfolding computing keepsFree
 keepsFree-excluded d =
     apart (λ p. elim p [ Place.free ↦ 0 | Place.bucket t b ↦ 1 ]) _ _ refl
     (at d 1 refl (add 1 10 ∷ []) .undamaged .on-one-chain 1 Place.free (Place.bucket Table.Old 0) tt (lit< tt) (inl refl) (inl refl))
-
--- .. an entry in a bucket has a key of that bucket; ..
-pub addsToFirst-excluded : Demand3 addsToFirst → ⊥
-unfolding computing addsToFirst wrong.adding
-addsToFirst-excluded d =
-    eqb-false 1 0 refl
-    (at d 2 refl (add 1 10 ∷ []) .undamaged .in-its-bucket 1 Table.Old 0 (lit< tt) (inl refl))
 
 -- .. no two in buckets have the same key; ..
 pub addsAgain-excluded : Demand3 addsAgain → ⊥

@@ -67,7 +67,6 @@ fresh-undamaged =
       chains-sound = fresh-chains;
       on-a-chain = λ n low high. (Place.free, tt, fresh-free n low high);
       on-one-chain = fresh-one-chain;
-      in-its-bucket = λ n t b live h. absurd (fresh-empty n t b live h);
       keys-distinct = λ n m t u a b live live′ h h′ same. absurd (fresh-empty n t a live h);
       passed-empty = λ b before. omega arith;
       counts = λ t. elim t [ Table.Old ↦ refl | Table.New ↦ refl ];

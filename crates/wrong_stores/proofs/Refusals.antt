@@ -3,7 +3,7 @@
 -- Assumes nothing.
 use Prim.Native.Nat.{ℕ, zero, suc, _<_, _≤_}
 use mathlib.Core.Path.{_≡_, refl, ap, subst}
-use mathlib.Core.Bool.{false}
+use mathlib.Core.Bool.{true, false}
 use mathlib.Core.Logic.{inl, inr}
 use mathlib.Core.List.{List, [], _∷_}
 use lib.ListN.{getD, replicate}
@@ -12,7 +12,7 @@ use borrow.Author.Tests.{eqb-false}
 use native.Mathlib.Omega.{arith}
 use Rattle.model.specs.declared.Table.{Table}
 use Rattle.model.specs.Limits.{largestCapacity}
-use Rattle.model.specs.Memory.{Place, linkOf}
+use Rattle.model.specs.Memory.{Place, linkOf, keyOf, inBucket}
 use Rattle.model.specs.Calls.{recounted, oldNew}
 use Rattle.model.specs.Sequences.{World, world, Call, Outcome, perform, run}
 use Rattle.refinement.specs.Demand1.{Demand1, nth, Chain, SoundChain, places, TooMany, rows, Decides}
@@ -109,24 +109,30 @@ miscounted =
     world (recounted (w .state) (w .state .«free_head») (oldNew 0 1)) (w .first) (w .second) (w .entries)
 
 -- a chain of one entry
-alone : (head : ℕ) → 0 < head → head ≤ 3 → linkOf (miscounted .entries) head ≡ 0
-    → Chain (miscounted .entries) (miscounted .state .capacity) head 1
+alone : (b head : ℕ) → 0 < head → head ≤ 3 → inBucket 2 b (keyOf (miscounted .entries) head) ≡ true
+    → linkOf (miscounted .entries) head ≡ 0
+    → Chain (inBucket 2 b) (miscounted .entries) (miscounted .state .capacity) head 1
 unfolding computing miscounted
-alone head pos fits end =
+alone b head pos fits own end =
     record {
       entry =
           λ k l.
           let first : 0 ≡ k = omega arith in
           subst (λ (j : ℕ). (0 < nth (miscounted .entries) head j) × (nth (miscounted .entries) head j ≤ 3)) first (pos, fits);
+      key =
+          λ k l.
+          let first : 0 ≡ k = omega arith in
+          subst (λ (j : ℕ). inBucket 2 b (keyOf (miscounted .entries) (nth (miscounted .entries) head j)) ≡ true) first own;
       end = end;
     }
 
 two-counted : TooMany miscounted (places miscounted 0)
 unfolding computing miscounted
 two-counted =
-    let nothing : Chain (miscounted .entries) 3 0 0 = record { entry = λ k l. absurd (omega arith); end = refl } in (
+    let nothing : Chain (inBucket 1 0) (miscounted .entries) 3 0 0 =
+    record { entry = λ k l. absurd (omega arith); key = λ k l. absurd (omega arith); end = refl } in (
       2,
-      (0, 2, nothing, (1, 1, alone 1 (lit< tt) (lit≤ tt) refl, (1, 0, alone 2 (lit< tt) (lit≤ tt) refl, refl, refl), refl), refl),
+      (0, 2, nothing, (1, 1, alone 0 1 (lit< tt) (lit≤ tt) refl refl, (1, 0, alone 1 2 (lit< tt) (lit≤ tt) refl refl, refl, refl), refl), refl),
       lit< tt,
     )
 

@@ -7,7 +7,6 @@ use mathlib.Core.Option.{some}
 use lib.ListN.{length, getD}
 use native.Mathlib.Omega.{arith}
 use Rattle.cursor.specs.Member.{In}
-use Rattle.model.specs.Keys.{bucketOf}
 use Rattle.model.specs.Memory.{keyOf, valueOf, sizeOf, Place, Live, chainAt, sum}
 use Rattle.model.specs.Sequences.{World, world}
 use Rattle.refinement.specs.Worlds.{current, other, UndamagedAt, Held}
@@ -52,10 +51,6 @@ module _ (w : World) (first second entries : List ℕ) (r : Reordered w (world (
             let h = u .on-a-chain n low high in
             (h .0, h .1, r .places (h .0) (h .1) .there n (h .2));
         on-one-chain = λ n p q live live′ h h′. u .on-one-chain n p q live live′ (r .places p live .back n h) (r .places q live′ .back n h′);
-        in-its-bucket =
-            λ n t b live h.
-            ap (λ k. bucketOf k (sizeOf (w .state) t)) (r .key n)
-            ∙ u .in-its-bucket n t b live (r .places (Place.bucket t b) live .back n h);
         keys-distinct =
             λ n m t t′ a b live live′ h h′ same.
             u .keys-distinct n m t t′ a b live live′ (r .places (Place.bucket t a) live .back n h)

@@ -1,14 +1,11 @@
--- `dict_rehash::rehash::move_bucket` meets its contract: the first filled bucket's chain is refused where it is not sound, and
--- moved where it is.
+-- `dict_rehash::rehash::move_bucket` meets its contract: a bucket's chain is refused where it is not sound, and moved where it
+-- is.
 -- Assumes nothing.
 use borrow.Author.Needs.{needs}
 use Rattle.dict_rehash.specs.Progress.{stepRoom}
-use Rattle.dict_rehash.proofs.Stepping.{index-fits, target-legal, target-fits, chain-of, bucket-none, bucket-unsound, bucket-moved, bucket-room}
+use Rattle.dict_rehash.proofs.Stepping.{target-legal, target-fits, chain-of, bucket-unsound, bucket-moved, bucket-room}
 use Rattle.dict_rehash.proofs.rehash.move_bucket.Statement.{statement}
 use Rattle.dict_rehash.proofs.rehash.move_bucket.Tie as tie
-
-first-filled-requires : tie.Need-first-filled-requires
-first-filled-requires c κs = (search index-fits, search needs)
 
 move-chain-requires : tie.Need-move-chain-requires
 move-chain-requires c κs = ((search target-legal, search target-fits), search chain-of)
@@ -20,16 +17,10 @@ returns c = (search bucket-unsound, tt)
 returns-2 : tie.Need-returns-2
 returns-2 c = (search bucket-moved, search bucket-room)
 
-returns-3 : tie.Need-returns-3
-unfolding stepRoom
-returns-3 c = (search bucket-none, tt)
-
 pub move-bucket-spec : {M : Type 1} → statement M
 move-bucket-spec =
     tie.close
     (tie.spec
-    first-filled-requires
-    (λ c. search needs)
     (λ c. search needs)
     (λ c. search needs)
     (λ c κs. search needs)
@@ -39,12 +30,8 @@ move-bucket-spec =
     (λ c. search needs)
     (λ c. search needs)
     (λ c. search needs)
-    (λ c. search needs)
-    (λ c. search needs)
     returns
     (λ c. search needs)
     (λ c. search needs)
     (λ c. search needs)
-    returns-2
-    (λ c. search needs)
-    returns-3)
+    returns-2)

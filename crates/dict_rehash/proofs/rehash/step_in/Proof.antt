@@ -8,8 +8,8 @@ use Rattle.dict_rehash.proofs.Stepping.{step-resting, step-finished, st
 use Rattle.dict_rehash.proofs.rehash.step_in.Statement.{statement}
 use Rattle.dict_rehash.proofs.rehash.step_in.Tie as tie
 
-move-bucket-requires : tie.Need-move-bucket-requires
-move-bucket-requires c κs = (search tested-sound, search needs)
+move-next-requires : tie.Need-move-next-requires
+move-next-requires c κs = (search tested-sound, search needs)
 
 returns : tie.Need-returns
 unfolding stepRoom
@@ -31,7 +31,7 @@ step-in-spec =
     tie.close
     (tie.spec
     (λ c κs. search needs)
-    move-bucket-requires
+    move-next-requires
     returns
     (λ c. search needs)
     (λ c. search needs)

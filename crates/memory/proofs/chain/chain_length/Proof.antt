@@ -1,17 +1,20 @@
 -- `memory::chain::chain_length` meets its contract: the entries met, counted by what is left of the budget, and the
 -- chain from here are the chain from the head.
 -- Assumes nothing.
+use borrow.Author.Needs.{needs}
 use native.Mathlib.Omega.{arith}
-use Rattle.model.proofs.Chains.{budget-left, in-range}
-use Rattle.memory.proofs.Counting.{Counting, counting-start, counting-out, counting-next, counting-end}
+use Rattle.model.specs.Memory.{inBucket}
+use Rattle.model.proofs.Chains.{budget-left, in-range, bucket-same, bucket-other}
+use Rattle.memory.proofs.Counting.{Counting, counting-start, counting-out, counting-stray, counting-next, counting-end}
 use Rattle.memory.proofs.chain.chain_length.Statement.{statement}
 use Rattle.memory.proofs.chain.chain_length.Tie as tie
 
 abbrev Inv-loop : tie.InvT-loop
-Inv-loop entries capacity budget head at₀ left₀ at left = Counting entries capacity budget head at left
+Inv-loop entries capacity budget head size b at₀ left₀ at left =
+    Counting (inBucket size b) entries capacity budget head at left
 
 abbrev μ-loop : tie.MeasureT-loop
-μ-loop entries capacity budget head at₀ left₀ at left = left
+μ-loop entries capacity budget head size b at₀ left₀ at left = left
 
 pub chain-length-spec : {M : Type 1} → statement M
 chain-length-spec =
@@ -22,8 +25,11 @@ chain-length-spec =
     (λ c. search counting-start)
     (λ c. search counting-out)
     (λ c κs. omega (arith, in-range))
-    (λ c. search budget-left)
+    (λ c κs. search needs)
+    (λ c. search (counting-stray, bucket-other))
+    (λ c κs. omega (arith, in-range))
     (λ c. omega (arith, budget-left))
-    (λ c. search counting-next)
+    (λ c. omega (arith, budget-left))
+    (λ c. search (counting-next, bucket-same))
     (λ c. omega arith)
     (λ c. search counting-end))

@@ -32,6 +32,8 @@ count-large-spec =
     μ-loop
     (λ c. search counting-start)
     (λ c κs. search needs)
+    (λ c. search needs)
+    (λ c. search needs)
     (λ c κs. search needs)
     (λ c κs. search needs)
     (λ c. search needs)

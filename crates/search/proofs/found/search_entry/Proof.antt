@@ -2,17 +2,18 @@
 -- Assumes nothing.
 use borrow.Author.Needs.{needs}
 use native.Mathlib.Omega.{arith}
-use Rattle.model.proofs.Chains.{budget-left, in-range}
-use Rattle.search.proofs.Seeking.{Seeking, seeking-start, seeking-out, seeking-next, seeking-end}
+use Rattle.model.specs.Memory.{inBucket}
+use Rattle.model.proofs.Chains.{budget-left, in-range, bucket-same, bucket-other}
+use Rattle.search.proofs.Seeking.{Seeking, seeking-start, seeking-out, seeking-stray, seeking-next, seeking-end}
 use Rattle.search.proofs.found.search_entry.Statement.{statement}
 use Rattle.search.proofs.found.search_entry.Tie as tie
 
 abbrev Inv-loop : tie.InvT-loop
-Inv-loop entries capacity budget head key at₀ found₀ left₀ at found left =
-    Seeking entries capacity budget head key at found left
+Inv-loop entries capacity budget head size b key at₀ found₀ left₀ at found left =
+    Seeking (inBucket size b) entries capacity budget head key at found left
 
 abbrev μ-loop : tie.MeasureT-loop
-μ-loop entries capacity budget head key at₀ found₀ left₀ at found left = left
+μ-loop entries capacity budget head size b key at₀ found₀ left₀ at found left = left
 
 pub search-entry-spec : {M : Type 1} → statement M
 search-entry-spec =
@@ -22,11 +23,13 @@ search-entry-spec =
     μ-loop
     (λ c. search seeking-start)
     (λ c. search seeking-out)
-    (λ c. search budget-left)
     (λ c κs. omega (arith, in-range))
+    (λ c κs. search needs)
+    (λ c. search (seeking-stray, bucket-other))
+    (λ c. omega (arith, budget-left))
     (λ c κs. search needs)
     (λ c κs. omega (arith, in-range))
     (λ c. omega (arith, budget-left))
-    (λ c. search seeking-next)
+    (λ c. search (seeking-next, bucket-same))
     (λ c κs. search needs)
     (λ c. search seeking-end))

@@ -2,17 +2,18 @@
 -- Assumes nothing.
 use borrow.Author.Needs.{needs}
 use native.Mathlib.Omega.{arith}
-use Rattle.model.proofs.Chains.{budget-left, in-range}
-use Rattle.search.proofs.Searching.{Searching, searching-start, searching-end, searching-out, searching-hit, searching-hit-bad, searching-next}
+use Rattle.model.specs.Memory.{inBucket}
+use Rattle.model.proofs.Chains.{budget-left, in-range, bucket-same, bucket-other}
+use Rattle.search.proofs.Searching.{Searching, searching-start, searching-end, searching-out, searching-stray, searching-hit, searching-hit-bad, searching-next}
 use Rattle.search.proofs.lookup.search_chain.Statement.{statement}
 use Rattle.search.proofs.lookup.search_chain.Tie as tie
 
 abbrev Inv-loop : tie.InvT-loop
-Inv-loop entries capacity budget head key table at₀ before₀ left₀ at before left =
-    Searching entries capacity budget head key table at before left
+Inv-loop entries capacity budget head size b key table at₀ before₀ left₀ at before left =
+    Searching (inBucket size b) entries capacity budget head key table at before left
 
 abbrev μ-loop : tie.MeasureT-loop
-μ-loop entries capacity budget head key table at₀ before₀ left₀ at before left = left
+μ-loop entries capacity budget head size b key table at₀ before₀ left₀ at before left = left
 
 pub search-chain-spec : {M : Type 1} → statement M
 search-chain-spec =
@@ -23,13 +24,15 @@ search-chain-spec =
     (λ c. search searching-start)
     (λ c. search searching-out)
     (λ c κs. omega (arith, in-range))
-    (λ c. search budget-left)
+    (λ c κs. search needs)
+    (λ c. search (searching-stray, bucket-other))
     (λ c κs. omega (arith, in-range))
+    (λ c. omega (arith, budget-left))
     (λ c κs. search needs)
     (λ c. search needs)
     (λ c. search needs)
-    (λ c. search searching-hit-bad)
-    (λ c. search searching-hit)
+    (λ c. search (searching-hit-bad, bucket-same))
+    (λ c. search (searching-hit, bucket-same))
     (λ c. omega (arith, budget-left))
-    (λ c. search searching-next)
+    (λ c. search (searching-next, bucket-same))
     (λ c. search searching-end))

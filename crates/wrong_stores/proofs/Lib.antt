@@ -7,6 +7,7 @@ pub mod HandOuts
 pub mod Rehashes
 pub mod ReadCalls
 pub mod Refusals
+pub mod Strays
 pub mod OneMoment
 pub mod Reordered
 pub mod SameNumbers

@@ -15,10 +15,10 @@ use Rattle.model.specs.Limits.{largestCapacity}
 use Rattle.model.specs.Memory.{Place, linkOf, keyOf, inBucket}
 use Rattle.model.specs.Calls.{recounted, oldNew}
 use Rattle.model.specs.Sequences.{World, world, Call, Outcome, perform, run}
-use Rattle.refinement.specs.Demand1.{Demand1, nth, Chain, SoundChain, places, TooMany, rows, Decides}
+use Rattle.refinement.specs.Demand1.{Demand1, nth, Chain, SoundChain, places, TooMany, GroupDamaged}
 use Rattle.refinement.specs.Demand3.{Demand3}
 use Rattle.wrong_stores.specs.Refusals.{refusesAll, refusesLarge, takesLarger, refusesResizes, overlooksDamage, losesState, writesFirst, refusesWalks, alwaysShort, readAgain, sumAfterShort, sumByCapacity, sumBelowKeys, roomForAll, shortMiscounts, countsRefused, writesRefused}
-use Rattle.wrong_stores.proofs.Start.{computing, zeros, started, room, find, update, add, at, apart, differ, neither, no-look}
+use Rattle.wrong_stores.proofs.Start.{computing, zeros, started, room, find, update, add, at, apart, differ, must-be-damaged, no-look}
 
 -- Demand 3, `begins`: the start's number is fixed by the limits and the lengths.
 pub refusesAll-excluded : Demand3 refusesAll → ⊥
@@ -96,9 +96,7 @@ loop-unsound (suc (suc count), fits, c) = omega arith
 pub overlooksDamage-excluded : Demand1 overlooksDamage → ⊥
 unfolding computing overlooksDamage looped
 overlooksDamage-excluded d =
-    neither (λ h. eqb-false 3 1 refl (h .1))
-    (λ h. neither (λ g. eqb-false 3 2 refl (g .1)) (λ g. g .0 (Place.bucket Table.Old 0, inl refl, loop-unsound)) (h .1))
-    (d .numbers looped (find 1))
+    must-be-damaged 3 refl refl (Place.bucket Table.Old 0, inl refl, loop-unsound) (d .numbers looped (find 1))
 
 -- .. and so is a group with more entries than the store holds keys: before short, and whatever the capacity.
 
@@ -136,20 +134,17 @@ two-counted =
       lit< tt,
     )
 
--- no number but 2 will do
-must-be-damaged : (n : ℕ) (lent : List ℕ) → eqb n 1 ≡ false → eqb n 2 ≡ false → Decides n (rows miscounted (Call.scan 0 lent)) → ⊥
+group-damaged : GroupDamaged miscounted 0
 unfolding computing miscounted
-must-be-damaged n lent f g =
-    neither (λ h. eqb-false n 1 f (h .1))
-    (λ h. neither (λ i. eqb-false n 2 g (i .1)) (λ i. i .0 (lit< tt, inr two-counted)) (h .1))
+group-damaged = (lit< tt, inr two-counted)
 
 pub sumAfterShort-excluded : Demand1 sumAfterShort → ⊥
 unfolding computing sumAfterShort readAgain miscounted
-sumAfterShort-excluded d = must-be-damaged 9 [] refl refl (d .numbers miscounted (Call.scan 0 []))
+sumAfterShort-excluded d = must-be-damaged 9 refl refl group-damaged (d .numbers miscounted (Call.scan 0 []))
 
 pub sumByCapacity-excluded : Demand1 sumByCapacity → ⊥
 unfolding computing sumByCapacity readAgain miscounted
-sumByCapacity-excluded d = must-be-damaged 0 room refl refl (d .numbers miscounted (Call.scan 0 room))
+sumByCapacity-excluded d = must-be-damaged 0 refl refl group-damaged (d .numbers miscounted (Call.scan 0 room))
 
 -- Demand 1, `refusals`. A refusal leaves the state, ..
 

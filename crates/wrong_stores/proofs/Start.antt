@@ -67,7 +67,7 @@ isScan = byCall (λ capacity size. 0) (λ key c. 0) (λ size. 0) 0 (λ cursor le
 
 -- ours but for one call
 unfoldable pub theStores : Unit {0}
-unfolding one.none one.byCall one.byKeyCall one.byReadCall one.but one.butInit one.butOn one.butResize one.butStep one.butScan one.butRead one.butFind one.butUpdate one.butAdd one.butDelete one.butSuggestedSize one.butLook one.byNumber one.ifDone one.ifRefused one.replying one.answering one.handingBack one.listing one.leaving
+unfolding one.none one.byCall one.byKeyCall one.byReadCall one.but one.butInit one.butOn one.butResize one.butStep one.butScan one.butRead one.butFind one.butUpdate one.butAdd one.butDelete one.butSuggestedSize one.butLook one.byNumber one.ifDone one.ifRefused one.ifDamaged one.replying one.answering one.handingBack one.listing one.leaving
 theStores = tt
 
 -- the demands, and what they say of a world
@@ -103,6 +103,12 @@ differ i xs ys e same = apart (λ (l : List ℕ). getD l i 0) xs ys e same
 pub neither : {A B : Type 0} → (A → ⊥) → (B → ⊥) → A ⊎ B → ⊥
 neither f g (inl a) = f a
 neither f g (inr b) = g b
+
+-- Where a call's first two rows are those of 1 and 2, and the second one's condition holds, no other number will do.
+pub must-be-damaged : {Bad Damaged Rest : Type 0} (n : ℕ) → eqb n 1 ≡ false → eqb n 2 ≡ false → Damaged
+    → (Bad × (n ≡ 1)) ⊎ ((¬ Bad) × ((Damaged × (n ≡ 2)) ⊎ ((¬ Damaged) × Rest))) → ⊥
+must-be-damaged n f g d =
+    neither (λ h. eqb-false n 1 f (h .1)) (λ h. neither (λ i. eqb-false n 2 g (i .1)) (λ i. i .0 d) (h .1))
 
 -- calls that are no look, and no walk call
 

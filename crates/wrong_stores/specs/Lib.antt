@@ -6,3 +6,4 @@ pub mod Walks
 pub mod Rehashes
 pub mod ReadCalls
 pub mod Refusals
+pub mod Strays

@@ -1,7 +1,8 @@
 -- Ours, but for the calls of one kind: those answer and leave something else, made from what ours answers and leaves.
 use Prim.Native.Nat.{ℕ, zero, suc}
-use mathlib.Core.Bool.{Bool}
+use mathlib.Core.Bool.{Bool, cond}
 use mathlib.Core.List.{List}
+use lib.Dec.{eqb}
 use Rattle.model.specs.declared.State.{State}
 use Rattle.model.specs.Answers.{Reply, reply}
 use Rattle.model.specs.Sequences.{World, KeyCall, ReadCall, Call, Outcome, perform}
@@ -77,7 +78,7 @@ butSuggestedSize suggestedSize = butRead (byReadCall suggestedSize none)
 unfoldable pub butLook : Change → World → Call → Outcome
 butLook look = butRead (byReadCall (λ growing. none) look)
 
--- What stands in place of ours: only where ours answers 0, or only where it refuses; ..
+-- What stands in place of ours: only where ours answers 0, or only where it refuses, or answers 2; ..
 
 unfoldable pub byNumber : {A : Type 0} → (done refused : A) → ℕ → A
 byNumber done refused zero = done
@@ -88,6 +89,9 @@ ifDone instead o = byNumber instead o (o .reply .number)
 
 unfoldable pub ifRefused : Outcome → Outcome → Outcome
 ifRefused instead o = byNumber o instead (o .reply .number)
+
+unfoldable pub ifDamaged : Outcome → Outcome → Outcome
+ifDamaged instead o = cond (eqb (o .reply .number) 2) instead o
 
 -- .. with other values, another state, another lent list, or other buffers.
 

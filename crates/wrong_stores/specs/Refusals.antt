@@ -17,7 +17,7 @@ use Rattle.model.specs.Calls.{noState}
 use Rattle.model.specs.Walk.{AfterScan, tablesOf, group, groupPlaces, chainsAt, atMost, scanned}
 use Rattle.model.specs.Sequences.{World, Call, Outcome, kept, keptScan, perform}
 use Rattle.refinement.specs.Worlds.{current, other}
-use Rattle.wrong_stores.specs.OneCall.{but, butInit, butFind, butUpdate, butResize, butScan, ifDone, ifRefused, answering, handingBack, listing, leaving}
+use Rattle.wrong_stores.specs.OneCall.{but, butInit, butFind, butUpdate, butResize, butScan, ifDone, ifRefused, ifDamaged, answering, handingBack, listing, leaving}
 
 -- refuses every call
 unfoldable pub refusesAll : World → Call → Outcome
@@ -38,8 +38,7 @@ refusesResizes = butResize (λ size w o. ifDone (kept w (resizeReply (w .state) 
 -- takes a chain that is not sound for one without the key
 unfoldable pub overlooksDamage : World → Call → Outcome
 overlooksDamage =
-    butFind
-    (λ key w o. cond (eqb (o .reply .number) 2) (kept w (findReply (w .state) (FindAnswer.Refused Error.Absent)) []) o)
+    butFind (λ key w o. ifDamaged (kept w (findReply (w .state) (FindAnswer.Refused Error.Absent)) []) o)
 
 -- a refusal hands back a state of zeros
 unfoldable pub losesState : World → Call → Outcome
@@ -90,9 +89,7 @@ sumAfterShort =
 -- as many entries in a group as the capacity
 unfoldable pub sumByCapacity : World → Call → Outcome
 sumByCapacity =
-    butScan
-    (λ cursor lent w o.
-    cond (eqb (o .reply .number) 2) (readAgain (λ w ns. atMost (w .state .capacity) ns) w cursor lent) o)
+    butScan (λ cursor lent w o. ifDamaged (readAgain (λ w ns. atMost (w .state .capacity) ns) w cursor lent) o)
 
 -- short unless the list has two places for every key held
 unfoldable pub roomForAll : World → Call → Outcome

@@ -3,17 +3,19 @@
 //!
 //! What makes the comparison fair: every call tests the whole state; every
 //! number is tested against the capacity, and every chain's length against the
-//! keys held, before an entry is read; a lookup reads both chains to their
-//! ends, even where the first entry has the key; a walk call has tested its
-//! chains, their sum and its room before it writes. There is no `unsafe`
-//! (Cargo.toml forbids it), and the state is hidden from the compiler
-//! (`work.rs`).
+//! keys held, before an entry is read; every key met on a bucket's chain is
+//! tested to belong in that bucket of that table, in the loop that reads the
+//! chain; a lookup reads both chains to their ends, even where the first entry
+//! has the key; a walk call has tested its chains, their sum and its room
+//! before it writes. There is no `unsafe` (Cargo.toml forbids it), and the
+//! state is hidden from the compiler (`work.rs`).
 //!
 //! It is the bar for the proved store, so it is tuned within that form. Tried,
-//! and kept: a bucket by a mask, one loop to a chain's end that carries what
-//! was found without a branch, errors as wide as the numbers beside them.
-//! Inlining is left to the compiler on both sides, since Rattle has no word
-//! for it. docs/COSTS.md says what a store does that leaves this form.
+//! and kept: a bucket by a mask, two buckets compared by one mask, one loop to
+//! a chain's end that carries what was found without a branch, errors as wide
+//! as the numbers beside them. Inlining is left to the compiler on both sides,
+//! since Rattle has no word for it. docs/COSTS.md says what a store does that
+//! leaves this form.
 
 pub const MAX_CAPACITY: u32 = 65536;
 pub const MAX_SIZE: u32 = 65536;
@@ -85,6 +87,12 @@ struct Table<'a> {
 impl Table<'_> {
     fn head(&self, hash: u32) -> u32 {
         self.buckets[bucket(hash, self.size)]
+    }
+
+    /// Whether two hashes have the same bucket here: one mask of the bits in
+    /// which they differ.
+    fn share_bucket(&self, hash: u32, other: u32) -> bool {
+        bucket(hash ^ other, self.size) == 0
     }
 }
 
@@ -198,12 +206,11 @@ impl<'a> Store<'a> {
     }
 
     fn scan_one(&self, table: Table, cursor: u32, list: &mut [u32]) -> Result<Scanned, ScanError> {
-        let head = table.head(cursor);
-        let count = self.chain_length(head, table.used)?;
+        let count = self.chain_length(table, cursor, table.used)?;
         if list.len() < count as usize * 2 {
             return Err(ScanError::Short(count));
         }
-        self.write_chain(head, list);
+        self.write_chain(table.head(cursor), list);
         Ok(Scanned {
             next: next_cursor(cursor, table.size),
             count,
@@ -220,11 +227,11 @@ impl<'a> Store<'a> {
         list: &mut [u32],
     ) -> Result<Scanned, ScanError> {
         let held = small.used + large.used;
-        let mut count = self.chain_length(small.head(cursor), small.used)?;
+        let mut count = self.chain_length(small, cursor, small.used)?;
         let mut at = cursor;
         loop {
             let most = large.used.min(held - count);
-            count += self.chain_length(large.head(at), most)?;
+            count += self.chain_length(large, at, most)?;
             at = next_cursor(at, large.size);
             if at < small.size {
                 break;
@@ -292,6 +299,8 @@ impl<'a> Store<'a> {
         Ok(first)
     }
 
+    /// The first entry with the key in one table, or 0 for none. Every key on
+    /// the chain must belong in the bucket, also behind the one that is found.
     fn search(&self, table: Table, key: u32) -> Result<u32, Error> {
         let mut found = 0;
         let mut at = table.head(key);
@@ -300,7 +309,11 @@ impl<'a> Store<'a> {
             if (left == 0) | (at > self.state.capacity) {
                 return Err(Error::Damaged);
             }
-            let is_first = (found == 0) & (self.key(at) == key);
+            let met = self.key(at);
+            if !table.share_bucket(met, key) {
+                return Err(Error::Damaged);
+            }
+            let is_first = (found == 0) & (met == key);
             found = if is_first { at } else { found };
             at = self.link(at);
             left -= 1;
@@ -308,12 +321,16 @@ impl<'a> Store<'a> {
         Ok(found)
     }
 
-    /// The length of a chain of at most so many entries.
-    fn chain_length(&self, head: u32, most: u32) -> Result<u32, Error> {
+    /// The length of the chain in the bucket of `hash`: at most so many
+    /// entries, each with a key that belongs there.
+    fn chain_length(&self, table: Table, hash: u32, most: u32) -> Result<u32, Error> {
         let mut count = 0;
-        let mut at = head;
+        let mut at = table.head(hash);
         while at != 0 {
             if (count == most) | (at > self.state.capacity) {
+                return Err(Error::Damaged);
+            }
+            if !table.share_bucket(self.key(at), hash) {
                 return Err(Error::Damaged);
             }
             at = self.link(at);
@@ -394,6 +411,8 @@ mod tests {
 
     const PAIRS: [u32; 6] = [9, 90, 5, 50, 1, 10];
 
+    const DAMAGED: Result<Scanned, ScanError> = Err(ScanError::Refused(Error::Damaged));
+
     /// Runs `test` on a store of capacity 8 and size 4 with three keys in one bucket.
     fn with_store(test: impl FnOnce(&mut Store)) {
         let (mut first, mut second, mut entries) = ([7; 4], [7; 8], [7; 24]);
@@ -441,8 +460,7 @@ mod tests {
             assert_eq!(store.find(9), Err(Error::Damaged));
             assert_eq!(store.add(13, 0), Err(Error::Damaged));
             let mut list = [7; 8];
-            let damaged = Err(ScanError::Refused(Error::Damaged));
-            assert_eq!(store.scan(1, &mut list), damaged);
+            assert_eq!(store.scan(1, &mut list), DAMAGED);
             assert_eq!(list, [7; 8]);
             store.entries[0] = 9;
             assert_eq!(store.find(1), Err(Error::Damaged));
@@ -484,13 +502,18 @@ mod tests {
         });
     }
 
+    /// What a resize does; this store has no such call.
+    fn begin_move(store: &mut Store, size: u32) {
+        store.second.fill(0);
+        store.state.new_size = size;
+        store.state.rehashing = true;
+    }
+
     /// Runs `test` during a move from size 4 to 8, with a fourth key in the new
     /// table. The group of cursor 1 has the chains of all four.
     fn with_two_tables(test: impl FnOnce(&mut Store)) {
         with_store(|store| {
-            store.second.fill(0);
-            store.state.new_size = 8;
-            store.state.rehashing = true;
+            begin_move(store, 8);
             assert_eq!(store.add(13, 130), Ok(()));
             assert_eq!(store.state.new_used, 1);
             test(store);
@@ -511,17 +534,209 @@ mod tests {
         });
     }
 
-    /// Each chain is sound by itself, but two of them are the same. That is
-    /// found before the list is too short.
+    /// Each chain is sound by itself, but the new table has one key more than
+    /// it counts. That is found before the list is too short.
     #[test]
     fn chains_that_pass_the_keys_held_are_damaged() {
         with_two_tables(|store| {
-            store.second[1] = store.second[5];
-            assert_eq!(store.find(9), Ok(90));
-            assert_eq!(store.find(13), Ok(130));
-            let damaged = Err(ScanError::Refused(Error::Damaged));
-            assert_eq!(store.scan(1, &mut [0; 10]), damaged);
-            assert_eq!(store.scan(1, &mut []), damaged);
+            assert_eq!(store.add(17, 170), Ok(()));
+            let counted = Scanned { next: 3, count: 5 };
+            assert_eq!(store.scan(1, &mut [0; 10]), Ok(counted));
+            store.state.new_used = 1;
+            for (key, value) in [(1, 10), (5, 50), (9, 90), (13, 130), (17, 170)] {
+                assert_eq!(store.find(key), Ok(value));
+            }
+            assert_eq!(store.scan(1, &mut [0; 10]), DAMAGED);
+            assert_eq!(store.scan(1, &mut []), DAMAGED);
+            // The group of cursor 5 has only one of the new table's two chains.
+            let answer = Scanned { next: 3, count: 4 };
+            assert_eq!(store.scan(5, &mut [0; 8]), Ok(answer));
         });
+    }
+
+    fn set_key(store: &mut Store, entry: u32, key: u32) {
+        store.entries[start_of(entry) + 1] = key;
+    }
+
+    /// Every call that reads the bucket of `hash` is refused, whether or not
+    /// that key is held, and whatever the room of a list.
+    fn expect_damaged(store: &mut Store, hash: u32) {
+        assert_eq!(store.find(hash), Err(Error::Damaged), "{hash}");
+        assert_eq!(store.add(hash, 0), Err(Error::Damaged), "{hash}");
+        let mut list = [7; 16];
+        assert_eq!(store.scan(hash, &mut list), DAMAGED, "{hash}");
+        assert_eq!(list, [7; 16]);
+        assert_eq!(store.scan(hash, &mut []), DAMAGED, "{hash}");
+    }
+
+    /// Calls that read only buckets 2 and 6 are answered; key 2 is held there.
+    fn expect_others_answered(store: &mut Store) {
+        assert_eq!(store.find(2), Ok(20));
+        assert_eq!(store.add(2, 0), Err(Error::Present));
+        assert_eq!(store.find(6), Err(Error::Absent));
+        let mut list = [0; 2];
+        let answer = Scanned { next: 1, count: 1 };
+        assert_eq!(store.scan(2, &mut list), Ok(answer));
+        assert_eq!(list, [2, 20]);
+    }
+
+    /// Of the chain's three entries the third is the head and the first the end.
+    #[test]
+    fn a_key_off_its_bucket_is_damage() {
+        for entry in 1..=3 {
+            with_store(|store| {
+                assert_eq!(store.add(2, 20), Ok(()));
+                let value = store.value(entry);
+                for key in [13, 65537, u32::MAX - 2] {
+                    set_key(store, entry, key);
+                    assert_eq!(store.find(key), Ok(value));
+                    let answer = Scanned { next: 3, count: 3 };
+                    assert_eq!(store.scan(1, &mut [0; 6]), Ok(answer));
+                }
+                for key in [0, 2, 3, 65536, u32::MAX] {
+                    set_key(store, entry, key);
+                    for hash in [1, 5, 9, 13] {
+                        expect_damaged(store, hash);
+                    }
+                    expect_others_answered(store);
+                }
+                assert_eq!(store.add(6, 60), Ok(()));
+            });
+        }
+    }
+
+    /// Runs `test` on tables of sizes 4 and 8, in a move from either to the
+    /// other. Entries 3, 2 and 1 are the chain of the smaller one's bucket 1,
+    /// entries 5 and 4 that of the larger one's bucket 5.
+    fn with_both_moves(test: fn(&mut Store)) {
+        for shrinks in [false, true] {
+            with_two_tables(|store| {
+                assert_eq!(store.add(21, 210), Ok(()));
+                assert_eq!(store.add(2, 20), Ok(()));
+                if shrinks {
+                    let grows = store.state;
+                    store.state = State {
+                        second_is_current: true,
+                        old_size: grows.new_size,
+                        new_size: grows.old_size,
+                        old_used: grows.new_used,
+                        new_used: grows.old_used,
+                        ..grows
+                    };
+                }
+                test(store);
+            });
+        }
+    }
+
+    #[test]
+    fn a_key_belongs_by_the_smaller_size_in_the_smaller_table() {
+        with_both_moves(|store| {
+            for entry in 1..=3 {
+                let (key, value) = (store.key(entry), store.value(entry));
+                // Bucket 1 by size 4. By size 8 they have the buckets 1 and 5.
+                for own in [17, 29] {
+                    set_key(store, entry, own);
+                    assert_eq!(store.find(own), Ok(value));
+                    let answer = Scanned { next: 3, count: 5 };
+                    assert_eq!(store.scan(1, &mut [0; 10]), Ok(answer));
+                }
+                for off in [0, 2, 3, 6, u32::MAX] {
+                    set_key(store, entry, off);
+                    for hash in [1, 5, 9, 13, 17, 21] {
+                        expect_damaged(store, hash);
+                    }
+                    expect_others_answered(store);
+                }
+                set_key(store, entry, key);
+            }
+            set_key(store, 1, 2);
+            assert_eq!(store.add(6, 60), Ok(()));
+        });
+    }
+
+    #[test]
+    fn a_key_belongs_by_the_larger_size_in_the_larger_table() {
+        with_both_moves(|store| {
+            for entry in 4..=5 {
+                let (key, value) = (store.key(entry), store.value(entry));
+                for own in [29, 65541] {
+                    set_key(store, entry, own);
+                    assert_eq!(store.find(own), Ok(value));
+                    let answer = Scanned { next: 3, count: 5 };
+                    assert_eq!(store.scan(1, &mut [0; 10]), Ok(answer));
+                }
+                // By size 4 the keys 17 and 25 have the same bucket as 5.
+                for off in [17, 25, 4, 7, u32::MAX] {
+                    set_key(store, entry, off);
+                    for hash in [5, 13, 21, 29] {
+                        expect_damaged(store, hash);
+                    }
+                    // The group of cursor 1 has the larger table's buckets 1
+                    // and 5. Lookups of 1, 9 and 17 read only the first there.
+                    assert_eq!(store.scan(1, &mut [0; 10]), DAMAGED);
+                    assert_eq!(store.find(1), Ok(10));
+                    assert_eq!(store.add(9, 0), Err(Error::Present));
+                    assert_eq!(store.find(17), Err(Error::Absent));
+                    expect_others_answered(store);
+                }
+                set_key(store, entry, key);
+            }
+            set_key(store, 4, 17);
+            assert_eq!(store.add(17, 170), Ok(()));
+        });
+    }
+
+    /// The pairs that a whole walk hands out, in the order of the values.
+    fn walked(store: &Store) -> Vec<(u32, u32)> {
+        let mut pairs = Vec::new();
+        let mut list = [0; 1000];
+        let mut cursor = 0;
+        loop {
+            let scanned = store.scan(cursor, &mut list).expect("a walk call");
+            let handed = list[..scanned.count as usize * 2].chunks_exact(2);
+            pairs.extend(handed.map(|pair| (pair[0], pair[1])));
+            cursor = scanned.next;
+            if cursor == 0 {
+                break;
+            }
+        }
+        pairs.sort_by_key(|pair| pair.1);
+        pairs
+    }
+
+    /// 500 adds, half of them to one table and half during a move.
+    #[test]
+    fn a_store_filled_by_adds_is_never_damaged() {
+        let key = |value: u32| value.wrapping_mul(2654435761);
+        let sizes = [
+            (1, 256),
+            (64, 256),
+            (128, 256),
+            (256, 128),
+            (256, 64),
+            (256, 1),
+        ];
+        for (old_size, new_size) in sizes {
+            let (mut first, mut second, mut entries) = ([7; 256], [7; 256], [7; 1500]);
+            let mut store = Store::new(&mut first, &mut second, &mut entries);
+            assert_eq!(store.init(500, old_size), Ok(()));
+            let mut held = Vec::new();
+            for value in 0..500 {
+                if value == 250 {
+                    begin_move(&mut store, new_size);
+                }
+                assert_eq!(store.find(key(value)), Err(Error::Absent));
+                assert_eq!(store.add(key(value), value), Ok(()));
+                held.push((key(value), value));
+                for &(key, value) in &held {
+                    assert_eq!(store.find(key), Ok(value));
+                }
+                assert_eq!(walked(&store), held);
+            }
+            assert_eq!((store.state.old_used, store.state.new_used), (250, 250));
+            assert_eq!(store.add(key(0), 0), Err(Error::Present));
+            assert_eq!(store.add(key(500), 0), Err(Error::Full));
+        }
     }
 }

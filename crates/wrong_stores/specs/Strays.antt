@@ -1,0 +1,106 @@
+-- Wrong stores by the keys on a chain: they pass over a key off its bucket, or take a key at its place for one that is not.
+use Prim.Native.Nat.{ℕ, _-_}
+use mathlib.Core.Bool.{Bool, cond}
+use mathlib.Core.List.{List, [], _∷_}
+use mathlib.Core.Option.{Option, none, some}
+use lib.Dec.{eqb}
+use Rattle.model.specs.declared.Table.{Table}
+use Rattle.model.specs.declared.Error.{Error}
+use Rattle.model.specs.declared.FindAnswer.{FindAnswer}
+use Rattle.model.specs.declared.AddAnswer.{AddAnswer}
+use Rattle.model.specs.declared.StepAnswer.{StepAnswer}
+use Rattle.model.specs.Keys.{bucketOf}
+use Rattle.model.specs.Memory.{keyOf, chain, inBucket, anyKey, Place, keyPlace, headAt, budgetAt, belongs}
+use Rattle.model.specs.Answers.{findReply, addReply, stepReply}
+use Rattle.model.specs.Calls.{After, back, searched, found, target, firstFilled, movedChain}
+use Rattle.model.specs.Walk.{tablesOf, group, groupPlaces, joined, scanned}
+use Rattle.model.specs.Sequences.{World, Call, Outcome, kept, keptScan, left}
+use Rattle.refinement.specs.Worlds.{current, other}
+use Rattle.wrong_stores.specs.OneCall.{butFind, butAdd, butStep, butScan, ifDamaged}
+
+-- A chain read in another way.
+
+unfoldable pub readBy : (ℕ → Bool) → World → Place → Option (List ℕ)
+readBy test w p =
+    let s = w .state in
+    chain test (w .entries) (s .capacity) (budgetAt s p) (headAt s (current w) (other w) p)
+
+-- any key may be on it
+unfoldable pub untested : World → Place → Option (List ℕ)
+untested = readBy anyKey
+
+-- the key of its first entry is tested, and no other
+unfoldable pub firstTested : World → Place → Option (List ℕ)
+firstTested w p =
+    cond (belongs (w .state) p (keyOf (w .entries) (headAt (w .state) (current w) (other w) p))) (untested w p) none
+
+-- Stores that read again where ours answers 2.
+
+-- a find in the only table
+unfoldable pub findBy : (World → Place → Option (List ℕ)) → World → ℕ → Place → Outcome
+findBy read w key p =
+    kept w (findReply (w .state) (found (w .entries) (searched (w .entries) key Table.Old 0 (read w p)))) []
+
+-- a find hands out a value whatever other keys are on the chain
+unfoldable pub findsAmongStrays : World → Call → Outcome
+findsAmongStrays = butFind (λ key w o. ifDamaged (findBy untested w key (keyPlace (w .state) key Table.Old)) o)
+
+-- .. but the first one
+unfoldable pub findsBehindFirst : World → Call → Outcome
+findsBehindFirst = butFind (λ key w o. ifDamaged (findBy firstTested w key (keyPlace (w .state) key Table.Old)) o)
+
+-- a walk call hands out whatever keys are on its chains
+unfoldable pub readAll : World → List Place → Option (List ℕ)
+readAll w [] = some []
+readAll w (p ∷ ps) = joined (untested w p) (readAll w ps)
+
+unfoldable pub walksStrays : World → Call → Outcome
+walksStrays =
+    butScan
+    (λ cursor lent w o.
+    let tables = tablesOf (w .state) in
+    ifDamaged (keptScan w (scanned (w .entries) lent (group tables cursor .answered) (readAll w (groupPlaces tables cursor)))) o)
+
+-- a step moves whatever keys are on its chain
+unfoldable pub movesAll : World → Option ℕ → After StepAnswer
+movesAll w none = After.after (StepAnswer.Refused Error.Damaged) (current w) (other w) (w .entries)
+movesAll w (some b) = movedChain (w .state) (current w) (other w) (w .entries) b (untested w (Place.bucket Table.Old b))
+
+unfoldable pub movesStrays : World → Call → Outcome
+movesStrays =
+    butStep
+    (λ w o.
+    let s = w .state in
+    ifDamaged
+    (left (stepReply s) (back (s .«second_is_current») (movesAll w (firstFilled (current w) (s .«rehash_index») (s .«old_size» - s .«rehash_index»)))))
+    o)
+
+-- A find that hands out the value of a key off its bucket: where ours answers 3, it looks on the chain of bucket 0 too.
+unfoldable pub findsElsewhere : World → Call → Outcome
+findsElsewhere = butFind (λ key w o. cond (eqb (o .reply .number) 3) (findBy untested w key (Place.bucket Table.Old 0)) o)
+
+-- Stores that find damage where there is none.
+
+unfoldable pub orDamaged : Option (List ℕ) → Outcome → Outcome → Outcome
+orDamaged none refused o = refused
+orDamaged (some ns) refused o = o
+
+-- a find during a rehash tests the old table's keys by the new table's size
+unfoldable pub testsOtherSize : World → Call → Outcome
+testsOtherSize =
+    butFind
+    (λ key w o.
+    let s = w .state in
+    cond (s .rehashing)
+    (orDamaged (readBy (inBucket (s .«new_size») (bucketOf key (s .«old_size»))) w (keyPlace s key Table.Old))
+    (kept w (findReply s (FindAnswer.Refused Error.Damaged)) []) o)
+    o)
+
+-- an add tests the first free entry's key as if it were in the bucket already
+unfoldable pub testsFree : World → Call → Outcome
+testsFree =
+    butAdd
+    (λ key value w o.
+    let s = w .state in
+    cond (belongs s (keyPlace s key (target (s .rehashing))) (keyOf (w .entries) (s .«free_head»))) o
+    (kept w (addReply s (AddAnswer.Refused Error.Damaged)) []))

@@ -16,6 +16,12 @@ Inv-loop entries capacity budget head size b at₀ left₀ at left =
 abbrev μ-loop : tie.MeasureT-loop
 μ-loop entries capacity budget head size b at₀ left₀ at left = left
 
+returns-2 : tie.Need-returns-2 Inv-loop μ-loop
+returns-2 c = search (counting-stray, bucket-other)
+
+loop-again : tie.Need-loop-again Inv-loop μ-loop
+loop-again c = search (counting-next, bucket-same)
+
 pub chain-length-spec : {M : Type 1} → statement M
 chain-length-spec =
     tie.close
@@ -26,10 +32,10 @@ chain-length-spec =
     (λ c. search counting-out)
     (λ c κs. omega (arith, in-range))
     (λ c κs. search needs)
-    (λ c. search (counting-stray, bucket-other))
+    returns-2
     (λ c κs. omega (arith, in-range))
     (λ c. omega (arith, budget-left))
     (λ c. omega (arith, budget-left))
-    (λ c. search (counting-next, bucket-same))
+    loop-again
     (λ c. omega arith)
     (λ c. search counting-end))

@@ -15,6 +15,12 @@ Inv-loop entries capacity budget head size b key at₀ found₀ left₀ at found
 abbrev μ-loop : tie.MeasureT-loop
 μ-loop entries capacity budget head size b key at₀ found₀ left₀ at found left = left
 
+returns-2 : tie.Need-returns-2 Inv-loop μ-loop
+returns-2 c = search (seeking-stray, bucket-other)
+
+loop-again : tie.Need-loop-again Inv-loop μ-loop
+loop-again c = search (seeking-next, bucket-same)
+
 pub search-entry-spec : {M : Type 1} → statement M
 search-entry-spec =
     tie.close
@@ -25,11 +31,11 @@ search-entry-spec =
     (λ c. search seeking-out)
     (λ c κs. omega (arith, in-range))
     (λ c κs. search needs)
-    (λ c. search (seeking-stray, bucket-other))
+    returns-2
     (λ c. omega (arith, budget-left))
     (λ c κs. search needs)
     (λ c κs. omega (arith, in-range))
     (λ c. omega (arith, budget-left))
-    (λ c. search (seeking-next, bucket-same))
+    loop-again
     (λ c κs. search needs)
     (λ c. search seeking-end))

@@ -15,6 +15,12 @@ Inv-loop entries capacity budget head size b key table at₀ before₀ left₀ a
 abbrev μ-loop : tie.MeasureT-loop
 μ-loop entries capacity budget head size b key table at₀ before₀ left₀ at before left = left
 
+returns-2 : tie.Need-returns-2 Inv-loop μ-loop
+returns-2 c = search (searching-stray, bucket-other)
+
+loop-again : tie.Need-loop-again Inv-loop μ-loop
+loop-again c = search (searching-next, bucket-same)
+
 pub search-chain-spec : {M : Type 1} → statement M
 search-chain-spec =
     tie.close
@@ -25,7 +31,7 @@ search-chain-spec =
     (λ c. search searching-out)
     (λ c κs. omega (arith, in-range))
     (λ c κs. search needs)
-    (λ c. search (searching-stray, bucket-other))
+    returns-2
     (λ c κs. omega (arith, in-range))
     (λ c. omega (arith, budget-left))
     (λ c κs. search needs)
@@ -34,5 +40,5 @@ search-chain-spec =
     (λ c. search (searching-hit-bad, bucket-same))
     (λ c. search (searching-hit, bucket-same))
     (λ c. omega (arith, budget-left))
-    (λ c. search (searching-next, bucket-same))
+    loop-again
     (λ c. search searching-end))

@@ -17,7 +17,7 @@ use Rattle.model.specs.Sequences.{World, Call}
 use Rattle.model.proofs.Tests.{true-not-false}
 use Rattle.refinement.specs.Demand1.{Demand1, Chain, ChainAt, SoundChain, Damaged, KeyHeld, keyPlaces, FirstFilled, StepDamaged, GroupDamaged}
 use Rattle.refinement.specs.Demand3.{Demand3}
-use Rattle.wrong_stores.specs.Strays.{readBy, untested, firstTested, findBy, findsAmongStrays, findsBehindFirst, readAll, walksStrays, movesAll, movesStrays, findsElsewhere, orDamaged, testsOtherSize, testsFree}
+use Rattle.wrong_stores.specs.Strays.{readBy, untested, firstTested, findBy, findsAmongStrays, findsBehindFirst, readAll, walksStrays, movedUntested, movesStrays, findsElsewhere, orDamaged, testsOtherSize, testsFree}
 use Rattle.wrong_stores.proofs.Start.{computing, find, add, room, at, neither, must-be-damaged}
 
 -- Demand 1, `numbers`: keys 2 and 5 on the chain of bucket 0, at size 2. It is not sound, ..
@@ -63,7 +63,7 @@ step-damaged =
     (lit< tt, inr (0, first, λ c. stray-unsound (c .0) (c .2)))
 
 pub movesStrays-excluded : Demand1 movesStrays → ⊥
-unfolding computing movesStrays movesAll untested readBy leaving bucketZero
+unfolding computing movesStrays movedUntested untested readBy leaving bucketZero
 movesStrays-excluded d =
     neither (λ h. eqb-false 0 1 refl (h .1))
     (λ h.

@@ -62,9 +62,9 @@ walksStrays =
     ifDamaged (keptScan w (scanned (w .entries) lent (group tables cursor .answered) (readAll w (groupPlaces tables cursor)))) o)
 
 -- a step moves whatever keys are on its chain
-unfoldable pub movesAll : World → Option ℕ → After StepAnswer
-movesAll w none = After.after (StepAnswer.Refused Error.Damaged) (current w) (other w) (w .entries)
-movesAll w (some b) = movedChain (w .state) (current w) (other w) (w .entries) b (untested w (Place.bucket Table.Old b))
+unfoldable pub movedUntested : World → Option ℕ → After StepAnswer
+movedUntested w none = After.after (StepAnswer.Refused Error.Damaged) (current w) (other w) (w .entries)
+movedUntested w (some b) = movedChain (w .state) (current w) (other w) (w .entries) b (untested w (Place.bucket Table.Old b))
 
 unfoldable pub movesStrays : World → Call → Outcome
 movesStrays =
@@ -72,7 +72,7 @@ movesStrays =
     (λ w o.
     let s = w .state in
     ifDamaged
-    (left (stepReply s) (back (s .«second_is_current») (movesAll w (firstFilled (current w) (s .«rehash_index») (s .«old_size» - s .«rehash_index»)))))
+    (left (stepReply s) (back (s .«second_is_current») (movedUntested w (firstFilled (current w) (s .«rehash_index») (s .«old_size» - s .«rehash_index»)))))
     o)
 
 -- A find that hands out the value of a key off its bucket: where ours answers 3, it looks on the chain of bucket 0 too.

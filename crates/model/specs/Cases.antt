@@ -94,6 +94,7 @@ cases =
     ∷ Row.answers (resting 2 4) (readers 2 6) 0
     ∷ Row.answers (resting 2 5) (readers 2 6) 2
     ∷ Row.answers (resting 5 2) (readers 2 6) 2
+    ∷ Row.answers (resting 2 5) (Call.on 2 (KeyCall.add 30) ∷ Call.scan 0 [] ∷ []) 2
     ∷ Row.answers (resting 2 5) (Call.on 5 KeyCall.find ∷ []) 3
     ∷ Row.answers (resting 2 5) (Call.scan 1 [] ∷ []) 0
     ∷ Row.answers (leaving 2 4) (Call.rehashStep ∷ readers 2 6) 0

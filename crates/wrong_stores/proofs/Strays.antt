@@ -17,7 +17,7 @@ use Rattle.model.specs.Sequences.{World, Call}
 use Rattle.model.proofs.Tests.{true-not-false}
 use Rattle.refinement.specs.Demand1.{Demand1, Chain, ChainAt, SoundChain, Damaged, KeyHeld, keyPlaces, FirstFilled, StepDamaged, GroupDamaged}
 use Rattle.refinement.specs.Demand3.{Demand3}
-use Rattle.wrong_stores.specs.Strays.{readBy, untested, firstTested, findBy, findsAmongStrays, findsBehindFirst, readAll, walksStrays, movedUntested, movesStrays, findsElsewhere, orDamaged, testsOtherSize, testsFree}
+use Rattle.wrong_stores.specs.Strays.{readBy, untested, firstTested, findBy, findsAmongStrays, findsBehindFirst, readAll, walksStrays, movedUntested, movesStrays, findsElsewhere, orDamaged, findsNoneBeside, testsOtherSize, testsFree}
 use Rattle.wrong_stores.proofs.Start.{computing, find, add, room, at, neither, must-be-damaged}
 
 -- Demand 1, `numbers`: keys 2 and 5 on the chain of bucket 0, at size 2. It is not sound, ..
@@ -87,6 +87,25 @@ findsElsewhere-excluded d =
     (λ h.
     neither (λ i. eqb-false 0 2 refl (i .1))
     (λ i. neither (λ j. eqb-false 0 3 refl (j .1)) (λ j. j .0 not-held) (i .1))
+    (h .1))
+    (d .numbers (resting 2 5) (find 5))
+
+-- .. and empty chains are sound, so the find is not damaged.
+beside-sound : Damaged (resting 2 5) (keyPlaces (resting 2 5) 5) → ⊥
+unfolding computing resting
+beside-sound (p, inr none, f) = none
+beside-sound (p, inl e, f) =
+    f
+    (subst (SoundChain (resting 2 5)) (sym e)
+    (0, lit≤ tt, record { entry = λ k l. absurd (omega arith); key = λ k l. absurd (omega arith); end = refl }))
+
+pub findsNoneBeside-excluded : Demand1 findsNoneBeside → ⊥
+unfolding computing findsNoneBeside orDamaged resting bucketZero
+findsNoneBeside-excluded d =
+    neither (λ h. eqb-false 2 1 refl (h .1))
+    (λ h.
+    neither (λ i. beside-sound (i .0))
+    (λ i. neither (λ j. eqb-false 2 3 refl (j .1)) (λ j. eqb-false 2 0 refl (j .1)) (i .1))
     (h .1))
     (d .numbers (resting 2 5) (find 5))
 

@@ -10,7 +10,7 @@ use Rattle.model.specs.declared.FindAnswer.{FindAnswer}
 use Rattle.model.specs.declared.AddAnswer.{AddAnswer}
 use Rattle.model.specs.declared.StepAnswer.{StepAnswer}
 use Rattle.model.specs.Keys.{bucketOf}
-use Rattle.model.specs.Memory.{keyOf, chain, inBucket, anyKey, Place, keyPlace, headAt, budgetAt, belongs}
+use Rattle.model.specs.Memory.{keyOf, chain, inBucket, anyKey, Place, keyPlace, headAt, budgetAt, belongs, chainAt}
 use Rattle.model.specs.Answers.{findReply, addReply, stepReply}
 use Rattle.model.specs.Calls.{After, back, searched, found, target, firstFilled, movedChain}
 use Rattle.model.specs.Walk.{tablesOf, group, groupPlaces, joined, scanned}
@@ -79,24 +79,30 @@ movesStrays =
 unfoldable pub findsElsewhere : World → Call → Outcome
 findsElsewhere = butFind (λ key w o. cond (eqb (o .reply .number) 3) (findBy untested w key (Place.bucket Table.Old 0)) o)
 
--- Stores that find damage where there is none.
+-- Stores that find damage where there is none: a find of theirs is damaged where that chain is not sound.
 
-unfoldable pub orDamaged : Option (List ℕ) → Outcome → Outcome → Outcome
-orDamaged none refused o = refused
-orDamaged (some ns) refused o = o
+unfoldable pub orDamaged : World → Option (List ℕ) → Outcome → Outcome
+orDamaged w none o = kept w (findReply (w .state) (FindAnswer.Refused Error.Damaged)) []
+orDamaged w (some ns) o = o
 
--- a find during a rehash tests the old table's keys by the new table's size
+-- the chain of bucket 0, whatever bucket is the key's
+unfoldable pub findsNoneBeside : World → Call → Outcome
+findsNoneBeside =
+    butFind
+    (λ key w o.
+    orDamaged w (chainAt (w .state) (current w) (other w) (w .entries) (Place.bucket Table.Old 0)) o)
+
+-- during a rehash the old table's chain, its keys tested by the new table's size
 unfoldable pub testsOtherSize : World → Call → Outcome
 testsOtherSize =
     butFind
     (λ key w o.
     let s = w .state in
     cond (s .rehashing)
-    (orDamaged (readBy (inBucket (s .«new_size») (bucketOf key (s .«old_size»))) w (keyPlace s key Table.Old))
-    (kept w (findReply s (FindAnswer.Refused Error.Damaged)) []) o)
+    (orDamaged w (readBy (inBucket (s .«new_size») (bucketOf key (s .«old_size»))) w (keyPlace s key Table.Old)) o)
     o)
 
--- an add tests the first free entry's key as if it were in the bucket already
+-- An add that tests the first free entry's key as if it were in the bucket already.
 unfoldable pub testsFree : World → Call → Outcome
 testsFree =
     butAdd

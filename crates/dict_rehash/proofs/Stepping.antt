@@ -14,7 +14,7 @@ use Rattle.model.specs.declared.State.{State}
 use Rattle.model.specs.declared.Error.{Error}
 use Rattle.model.specs.declared.StepAnswer.{StepAnswer}
 use Rattle.model.specs.Limits.{legalSize}
-use Rattle.model.specs.Memory.{sizeOf, usedOf, bucketsOf, chain, inBucket, headAt, budgetAt, belongs, chainAt, listed}
+use Rattle.model.specs.Memory.{sizeOf, usedOf, bucketsOf, chain, headAt, budgetAt, belongs, chainAt, listed}
 use Rattle.model.specs.Calls.{After, Chains, firstFilled, moved, movedChain, movedFrom, steppedPast, stepped}
 use Rattle.model.proofs.Soundness.{Sound}
 use Rattle.model.proofs.Linked.{Linked, room, read-sound, linked-wider}

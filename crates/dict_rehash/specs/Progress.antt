@@ -5,13 +5,14 @@ use mathlib.Core.List.{List}
 use mathlib.Core.Bool.{cond}
 use mathlib.Core.Option.{Option, none, some}
 use lib.Dec.{ltb}
-use lib.ListN.{length, getD}
+use lib.ListN.{length}
 use Rattle.model.specs.declared.State.{State}
 use Rattle.model.specs.declared.StepAnswer.{StepAnswer}
 use Rattle.model.specs.Keys.{bucketOf}
-use Rattle.model.specs.Memory.{linkOf, keyOf, chain, inBucket}
+use Rattle.model.specs.Memory.{linkOf, keyOf}
 use Rattle.model.specs.Calls.{Chains, push, moved, finished, steppedPast}
 use Rattle.model.proofs.Linked.{Linked, room}
+use Rattle.memory.specs.Length.{bucketChain}
 use Rattle.dict_rehash.specs.declared.rehash.Progress.{Progress}
 
 unfoldable pub stepAnswer : State → Progress → StepAnswer
@@ -26,9 +27,9 @@ stepRoom s Progress.Finished = Unit {0}
 stepRoom s (Progress.Past b count) =
     (count ≤ s .«old_used») × (s .«new_used» + count ≤ s .capacity) × (b < s .«old_size»)
 
--- the chain of bucket b of the old table, over the state's numbers
+-- the chain of bucket b of the old table
 abbrev pub oldChain : State → List ℕ → List ℕ → ℕ → Option (List ℕ)
-oldChain s current entries b = chain (inBucket (s .«old_size») b) entries (s .capacity) (s .«old_used») (getD current b 0)
+oldChain s current entries b = bucketChain (s .«old_size») entries (s .capacity) (s .«old_used») current b
 
 -- the first filled bucket as the code names it: the size where there is none
 unfoldable pub filledAt : ℕ → ℕ → Option ℕ

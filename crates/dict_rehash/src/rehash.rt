@@ -90,20 +90,21 @@ fn move_bucket(
         (oldChain s (now (current .entry)) (now (entries .entry)) b) ⌝ }
     ensures { λ r. ⌜ stepRoom s r ⌝ }
 {
-    let at = b as usize;
-    let head = current[at];
-    let length = chain_length(entries, s.capacity, s.old_used, head, s.old_size, at);
+    let index = b as usize;
+    let head = current[index];
+    let length = chain_length(entries, s.capacity, s.old_used, head, s.old_size, index);
     match length {
         ChainLength::Unsound => Progress::Refused(Error::Damaged),
         ChainLength::Sound(count) => {
             move_chain(other, entries, s.new_size, head, count);
-            current[at] = 0;
+            current[index] = 0;
             Progress::Past(b, count)
         }
     }
 }
 
-// The first filled bucket from the next one to move.
+// The first filled bucket from the next one on is the one that moves. The old table holds keys, so if there is none it is
+// damaged.
 fn move_next(current: &mut [u32], other: &mut [u32], entries: &mut [u32], s: State) -> Progress
     requires { ⌜ Sound s (length (now current)) (length (now other)) (length (now entries)) ⌝ }
     requires { ⌜ s .rehashing ≡ true ⌝ }

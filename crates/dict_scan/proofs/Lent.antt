@@ -17,12 +17,13 @@ use Rattle.model.specs.declared.Table.{Table}
 use Rattle.model.specs.declared.Error.{Error}
 use Rattle.model.specs.declared.ScanAnswer.{ScanAnswer}
 use Rattle.model.specs.Keys.{bucketOf, hash}
-use Rattle.model.specs.Memory.{sizeOf, usedOf, bucketsOf, keysHeld, Place, headAt, budgetAt, belongs, chainAt, chain, inBucket}
+use Rattle.model.specs.Memory.{sizeOf, usedOf, bucketsOf, keysHeld, Place, headAt, budgetAt, belongs, chainAt, inBucket}
 use Rattle.model.specs.Calls.{oriented}
 use Rattle.model.specs.Walk.{AfterScan, tablesBy, tablesOf, group, smallFirst, groupPlaces, joined, chainsAt, atMost, scanned}
 use Rattle.model.specs.Walk as walk
 use Rattle.model.proofs.Soundness.{Sound}
 use Rattle.model.proofs.AtMost.{at-most-few}
+use Rattle.memory.specs.Length.{bucketChain}
 use Rattle.memory.specs.Lent.{soundLent}
 use Rattle.memory.proofs.Tested.{lent-first, lent-second}
 use Rattle.memory.proofs.Orientation.{read-first, read-second, oriented-map, reading-refused, reading-sound}
@@ -42,17 +43,17 @@ module _ (s : State) (current other entries : List ℕ) where
   unfolding chainsAt chainAt budgetAt headAt belongs chains
   places-chains t [] = refl
   places-chains t (b ∷ bs) =
-      ap (joined (chain (inBucket (sizeOf s t) b) entries (s .capacity) (usedOf s t) (getD (bucketsOf current other t) b 0)))
+      ap (joined (bucketChain (sizeOf s t) entries (s .capacity) (usedOf s t) (bucketsOf current other t) b))
       (places-chains t bs)
 
   -- a bucket of one table, and some of the other
   group-chains : (t u : Table) (g : Group)
       → chainsAt s current other entries (smallFirst t u g)
-      ≡ joined (chain (inBucket (sizeOf s t) (g .small)) entries (s .capacity) (usedOf s t) (getD (bucketsOf current other t) (g .small) 0))
+      ≡ joined (bucketChain (sizeOf s t) entries (s .capacity) (usedOf s t) (bucketsOf current other t) (g .small))
       (chains (inBucket (sizeOf s u)) entries (s .capacity) (usedOf s u) (bucketsOf current other u) (g .large))
   unfolding smallFirst chainsAt chainAt budgetAt headAt belongs
   group-chains t u g =
-      ap (joined (chain (inBucket (sizeOf s t) (g .small)) entries (s .capacity) (usedOf s t) (getD (bucketsOf current other t) (g .small) 0)))
+      ap (joined (bucketChain (sizeOf s t) entries (s .capacity) (usedOf s t) (bucketsOf current other t) (g .small)))
       (places-chains u (g .large))
 
 -- In a sound state with keys held.
@@ -72,7 +73,7 @@ module _ (s : State) (entries list : List ℕ) (cursor : ℕ) where
   unfolding scannedBy tablesBy group groupPlaces oneTable sizeOf usedOf bucketsOf keysHeld chains bucketOf hash
   scanned-resting current other =
       let b = bucketOf cursor (s .«old_size») in
-      let read = chain (inBucket (s .«old_size») b) entries (s .capacity) (s .«old_used») (getD current b 0) in
+      let read = bucketChain (s .«old_size») entries (s .capacity) (s .«old_used») current b in
       ap (scanned entries list (oneTable (s .«old_size») cursor .answered))
       (sym
       (at-most-few (s .«old_used» + s .«new_used») read

@@ -22,7 +22,8 @@ ghost use Rattle.scan_group.specs.Chains.{cursorChain};
 ghost use Rattle.dict_scan.specs.Tables.{Holding, One, Both, Two};
 ghost use Rattle.dict_scan.specs.Groups.{scannedTwo, scannedBoth};
 
-// One live table: the chain of the cursor's bucket. Nothing is written before it was tested and the room is known.
+// One live table: the chain of the cursor's bucket, whose head the caller has read. Nothing is written before it was tested
+// and the room is known.
 fn scan_one(
     head: u32,
     entries: &[u32],

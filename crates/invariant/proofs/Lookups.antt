@@ -1,7 +1,7 @@
 -- What a lookup answers in a store of a shape: the entry that has the key, where it stands in the key's own bucket, or that no
 -- live bucket has the key. No chain is found damaged.
 -- Assumes nothing.
-use Prim.Native.Nat.{ℕ, _<_}
+use Prim.Native.Nat.{ℕ}
 use mathlib.Core.Path.{_≡_, refl, sym, ap, subst, _∙_}
 use mathlib.Core.Logic.{inl, inr}
 use mathlib.Core.Bool.{Bool, true, false, cond}
@@ -13,7 +13,7 @@ use Rattle.cursor.specs.Member.{In}
 use Rattle.model.specs.declared.State.{State}
 use Rattle.model.specs.declared.Lookup.{Lookup}
 use Rattle.model.specs.declared.Table.{Table}
-use Rattle.model.specs.Memory.{Place, Live, keyPlace, keyOf, chainAt}
+use Rattle.model.specs.Memory.{Place, Live, keyPlace, keyOf}
 use Rattle.model.specs.Calls.{firstWith, searched, both, lookupIn, lookupWhile, lookup}
 use Rattle.model.proofs.Shared.{lastOr}
 use Rattle.invariant.proofs.Lists.{in-right}

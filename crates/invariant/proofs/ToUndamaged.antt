@@ -7,21 +7,19 @@ use mathlib.Core.List.{List}
 use mathlib.Core.Option.{some}
 use native.Mathlib.Omega.{arith}
 use lib.ListN.{length}
-use borrow.Author.Tests.{eq-eqb}
 use Rattle.cursor.specs.Member.{In}
 use Rattle.model.specs.declared.State.{State}
-use Rattle.model.specs.declared.Table.{Table}
-use Rattle.model.specs.Keys.{bucketOf}
-use Rattle.model.specs.Memory.{Place, Live, sizeOf, usedOf, keysHeld, keyOf, headAt, budgetAt, belongs, anyKey, inBucket, chainAt, entriesAt, listed, Undamaged}
+use Rattle.model.specs.Memory.{Place, Live, sizeOf, keysHeld, keyOf, headAt, budgetAt, belongs, anyKey, chainAt, entriesAt, listed, Undamaged}
+use Rattle.model.proofs.Chains.{bucket-same}
 use Rattle.model.proofs.Linked.{read-complete}
 use Rattle.invariant.proofs.Sums.{sum-same, term-in-sum}
 use Rattle.invariant.proofs.Shape.{Home, IsBucket, Shape}
 
 -- a key at home belongs there
 home-belongs : (s : State) (key : ℕ) (p : Place) → Home s key p → belongs s p key ≡ true
-unfolding Home belongs anyKey inBucket
+unfolding Home belongs anyKey
 home-belongs s key Place.free h = refl
-home-belongs s key (Place.bucket t b) h = eq-eqb (bucketOf key (sizeOf s t)) b h
+home-belongs s key (Place.bucket t b) h = bucket-same (sizeOf s t) b key _ refl h
 
 module _ {s : State} {current other entries : List ℕ} (h : Shape s current other entries) where
   -- a place's chain is no longer than its budget

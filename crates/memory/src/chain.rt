@@ -1,5 +1,5 @@
-// Reading a bucket's chain without trusting it: every number met is tested before its entry is read, every key must belong in
-// the bucket, and the budget ends a loop.
+// Reading a bucket's chain without trusting it: every number met is tested before its entry is read, every key must belong
+// in the bucket, and the budget ends a loop.
 use crate::entry::key_of;
 use crate::entry::link_of;
 use crate::state::bucket_index;

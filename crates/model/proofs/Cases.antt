@@ -15,7 +15,7 @@ use Rattle.model.specs.Limits.{largestExponent}
 use Rattle.model.specs.Memory.{chainAt}
 use Rattle.model.specs.Calls.{suggested}
 use Rattle.model.specs.Sequences.{World, Call, perform}
-use Rattle.model.specs.Cases.{Row, Gives, Walks, Answers, Holds, AllHold, bucketZero, resting, leaving, arrived, readers, cases}
+use Rattle.model.specs.Cases.{Row, Gives, Walks, EachAnswers, Holds, AllHold, fresh, bucketZero, resting, moving, inBoth, readers, cases}
 use Rattle.model.proofs.Computing.{computing}
 use Rattle.model.proofs.Tests.{Tells, told, tells-true, tells-same, tells-and, tells-eq, tells-le}
 use Rattle.model.proofs.Suggested.{growing-capped}
@@ -61,8 +61,8 @@ answering : World → List Call → ℕ → Bool
 answering w [] number = true
 answering w (c ∷ cs) number = eqb (perform w c .reply .number) number && answering w cs number
 
-tells-answering : (w : World) (cs : List Call) (number : ℕ) → Tells (Answers w cs number) (answering w cs number)
-unfolding answering Answers
+tells-answering : (w : World) (cs : List Call) (number : ℕ) → Tells (EachAnswers w cs number) (answering w cs number)
+unfolding answering EachAnswers
 tells-answering w [] number = Tells.holds tt
 tells-answering w (c ∷ cs) number = tells-and (tells-eq (perform w c .reply .number) number) (tells-answering w cs number)
 
@@ -123,7 +123,7 @@ all-true (row ∷ rows) h =
     (row-true row (each .0), all-true rows (each .1))
 
 computed : testAll cases ≡ true
-unfolding computing testAll test gives walks answering reading same cases bucketZero resting leaving arrived readers
+unfolding computing testAll test gives walks answering reading same cases fresh bucketZero resting moving inBoth readers
 computed = refl
 
 pub cases-hold : AllHold cases

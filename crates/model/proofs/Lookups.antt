@@ -12,7 +12,7 @@ use borrow.Author.Tests.{leb-true}
 use Rattle.model.specs.declared.State.{State}
 use Rattle.model.specs.declared.Table.{Table}
 use Rattle.model.specs.declared.Lookup.{Lookup}
-use Rattle.model.specs.Memory.{linkOf, keyOf, usedOf, met, chain, headAt, budgetAt, chainAt, keyPlace}
+use Rattle.model.specs.Memory.{linkOf, keyOf, usedOf, met, chain, budgetAt, chainAt, keyPlace}
 use Rattle.model.specs.Calls.{firstWith, searched, both, lookupIn, lookupWhile, lookup}
 use Rattle.model.proofs.Soundness.{Sound}
 

@@ -4,7 +4,7 @@
 use Prim.Native.Nat.{ℕ}
 use mathlib.Core.Path.{_≡_, refl, sym, _∙_}
 use mathlib.Core.Logic.{inl, inr}
-use mathlib.Core.Bool.{Bool, true}
+use mathlib.Core.Bool.{Bool}
 use mathlib.Core.List.{List, [], _∷_}
 use mathlib.Core.Option.{Option, none, some}
 use borrow.Author.Tests.{eqb-true}
@@ -19,12 +19,6 @@ use Rattle.model.proofs.Linked.{Linked, read-sound, linked-unique}
 unfoldable pub lastOr : ℕ → List ℕ → ℕ
 lastOr before [] = before
 lastOr before (n ∷ ns) = lastOr n ns
-
--- it is one of them
-last-in : (before n : ℕ) (ns : List ℕ) → In (lastOr before (n ∷ ns)) (n ∷ ns)
-unfolding lastOr
-last-in before n [] = inl refl
-last-in before n (m ∷ ns) = inr (last-in n m ns)
 
 -- an entry of a linked list heads a list with the same last entry
 last-from : (entries : List ℕ) (most before at n : ℕ) (ns : List ℕ) → Linked entries most at ns → In n ns
@@ -45,11 +39,6 @@ module _ (test test′ : ℕ → Bool) (entries : List ℕ) (capacity budget bud
       let (vs, k, f) = last-from entries capacity 0 head′ n ms (read-sound test′ entries capacity budget′ head′ ms right .0) j in
       let same = linked-unique entries capacity n us vs h k in
       cc
-
--- and so the other way round: two lists that are not empty and have the same last entry share it
-pub last-shared : (n m : ℕ) (ns ms : List ℕ) → lastOr 0 (n ∷ ns) ≡ lastOr 0 (m ∷ ms)
-    → In (lastOr 0 (n ∷ ns)) (n ∷ ns) × In (lastOr 0 (n ∷ ns)) (m ∷ ms)
-last-shared n m ns ms e = (last-in 0 n ns, rw e (last-in 0 m ms))
 
 -- The chains of two buckets of a table of one size, whatever their budgets and heads, share no entry.
 

@@ -7,12 +7,12 @@ use mathlib.Core.Option.{some}
 use lib.ListN.{replicate}
 use Rattle.cursor.specs.Group.{Group, oneTable, twoTables}
 use Rattle.model.specs.Memory.{Place, chainAt}
-use Rattle.model.specs.Calls.{stateOf, oldNew, suggested}
+use Rattle.model.specs.Calls.{stateOf, oldNew, emptyState, freeEntries, suggested}
 use Rattle.model.specs.Sequences.{World, world, KeyCall, Call, perform}
 
--- A walk's cursor at one live table, or at two; the cursors of a whole walk; any cursor; the suggested size for some keys, and
--- for every number of keys above a given one; some calls in a world, each of which answers that number; the entries of a
--- sound chain, where the first buffer is the current one.
+-- A walk's cursor at one live table, or at two; the cursors of a whole walk; any cursor; the suggested size for some keys,
+-- and for every number of keys above a given one; some calls in a world, each of which answers that number; the entries of a
+-- chain that is sound, where the first buffer is the current one.
 pub data Row : Type 0 where
   at-one : (size cursor bucket next : ℕ) → Row
   at-two : (small large cursor bucket : ℕ) (buckets : List ℕ) (next : ℕ) → Row
@@ -33,9 +33,9 @@ Walks size [] = Unit {0}
 Walks size (cursor ∷ []) = Unit {0}
 Walks size (cursor ∷ next ∷ rest) = Gives (oneTable size cursor) cursor [] next × Walks size (next ∷ rest)
 
-unfoldable pub Answers : World → List Call → ℕ → Type 0
-Answers w [] number = Unit {0}
-Answers w (c ∷ cs) number = (perform w c .reply .number ≡ number) × Answers w cs number
+unfoldable pub EachAnswers : World → List Call → ℕ → Type 0
+EachAnswers w [] number = Unit {0}
+EachAnswers w (c ∷ cs) number = (perform w c .reply .number ≡ number) × EachAnswers w cs number
 
 unfoldable pub Holds : Row → Type 0
 Holds (Row.at-one size cursor bucket next) = Gives (oneTable size cursor) bucket [] next
@@ -44,15 +44,19 @@ Holds (Row.walk size cursors) = Walks size cursors
 Holds (Row.at-any size next) = (cursor : ℕ) → oneTable size cursor .answered ≡ next
 Holds (Row.suggests growing keys size) = suggested growing keys ≡ size
 Holds (Row.suggests-above growing keys size) = (more : ℕ) → keys < more → suggested growing more ≡ size
-Holds (Row.answers w calls number) = Answers w calls number
+Holds (Row.answers w calls number) = EachAnswers w calls number
 Holds (Row.reads w p entries) = chainAt (w .state) (w .first) (w .second) (w .entries) p ≡ some entries
 
 unfoldable pub AllHold : List Row → Type 0
 AllHold [] = Unit {0}
 AllHold (row ∷ rows) = Holds row × AllHold rows
 
--- Stores of three entries, the third one free, with some key left in it. Keys a and b, in this order, are on the chain of bucket
--- 0, at size 2: with no move, and during a move to size 4; or key a alone is, at size 4, behind a move from size 2.
+-- Stores of three entries. In the first all are free; in the others the third one is, with some key left in it. There keys a
+-- and b, in this order, are on the chain of bucket 0 of a table of size 2: with no rehash, and during one to size 4. Or,
+-- during that rehash, key 2 is on it, and key b on the chain of the new table's bucket 0.
+
+unfoldable pub fresh : World
+fresh = world (emptyState 2 1 3) (0 ∷ 0 ∷ []) [] (freeEntries 1 3)
 
 unfoldable pub bucketZero : ℕ → ℕ → List ℕ
 bucketZero a b = 2 ∷ a ∷ 10 ∷ 0 ∷ b ∷ 20 ∷ 0 ∷ 7 ∷ 70 ∷ []
@@ -60,14 +64,15 @@ bucketZero a b = 2 ∷ a ∷ 10 ∷ 0 ∷ b ∷ 20 ∷ 0 ∷ 7 ∷ 70 ∷ []
 unfoldable pub resting : ℕ → ℕ → World
 resting a b = world (stateOf false (oldNew 2 0) (oldNew 2 0) false 0 3 3) (1 ∷ 0 ∷ []) [] (bucketZero a b)
 
-unfoldable pub leaving : ℕ → ℕ → World
-leaving a b = world (stateOf false (oldNew 2 4) (oldNew 2 0) true 0 3 3) (1 ∷ 0 ∷ []) (replicate 4 0) (bucketZero a b)
+unfoldable pub moving : ℕ → ℕ → World
+moving a b = world (stateOf false (oldNew 2 4) (oldNew 2 0) true 0 3 3) (1 ∷ 0 ∷ []) (replicate 4 0) (bucketZero a b)
 
-unfoldable pub arrived : ℕ → World
-arrived a =
-    world (stateOf false (oldNew 2 4) (oldNew 0 1) true 2 3 3) (0 ∷ 0 ∷ []) (1 ∷ 0 ∷ 0 ∷ 0 ∷ []) (0 ∷ a ∷ 10 ∷ 0 ∷ 0 ∷ 0 ∷ 2 ∷ 7 ∷ 70 ∷ [])
+unfoldable pub inBoth : ℕ → World
+inBoth b =
+    world (stateOf false (oldNew 2 4) (oldNew 1 1) true 0 3 3) (1 ∷ 0 ∷ []) (2 ∷ 0 ∷ 0 ∷ 0 ∷ [])
+    (0 ∷ 2 ∷ 10 ∷ 0 ∷ b ∷ 20 ∷ 0 ∷ 7 ∷ 70 ∷ [])
 
--- one of each call that reads a bucket's chain, but for a step: on a key, on another one to be added, and a walk from the start
+-- one of each call that reads a bucket's chain, but for a step: on a key, on another one to be added, and a walk call
 unfoldable pub readers : ℕ → ℕ → List Call
 readers key new =
     Call.on key KeyCall.find
@@ -97,9 +102,11 @@ cases =
     ∷ Row.answers (resting 2 5) (Call.on 2 (KeyCall.add 30) ∷ Call.scan 0 [] ∷ []) 2
     ∷ Row.answers (resting 2 5) (Call.on 5 KeyCall.find ∷ []) 3
     ∷ Row.answers (resting 2 5) (Call.scan 1 [] ∷ []) 0
-    ∷ Row.answers (leaving 2 4) (Call.rehashStep ∷ readers 2 6) 0
-    ∷ Row.answers (leaving 2 5) (Call.rehashStep ∷ readers 2 6) 2
-    ∷ Row.answers (arrived 4) (readers 4 8) 0
-    ∷ Row.answers (arrived 2) (readers 4 8) 2
+    ∷ Row.answers (moving 2 4) (Call.rehashStep ∷ readers 2 6) 0
+    ∷ Row.answers (moving 2 5) (Call.rehashStep ∷ readers 2 6) 2
+    ∷ Row.answers (inBoth 4) (readers 4 8) 0
+    ∷ Row.answers (inBoth 6) (readers 4 8) 2
+    ∷ Row.answers (inBoth 6) (Call.rehashStep ∷ Call.on 2 KeyCall.find ∷ []) 0
+    ∷ Row.reads fresh Place.free (1 ∷ 2 ∷ 3 ∷ [])
     ∷ Row.reads (resting 2 4) Place.free (3 ∷ [])
     ∷ []

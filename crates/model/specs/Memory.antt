@@ -156,8 +156,8 @@ unfoldable pub sum : (ℕ → ℕ) → ℕ → ℕ
 sum f zero = 0
 sum f (suc n) = sum f n + f n
 
--- An undamaged store. The entries of bucket b of table t are those at `Place.bucket t b`. That each has a key of that bucket is
--- part of its chain being sound.
+-- An undamaged store. The entries of bucket b of table t are those at `Place.bucket t b`. That each has a key of that bucket
+-- is part of its chain being sound.
 pub record Undamaged (s : State) (current other entries : List ℕ) : Type 0 where
   pub state-sound : soundState (length current) (length other) (length entries) s ≡ true
   pub chains-sound : (p : Place) → Live s p

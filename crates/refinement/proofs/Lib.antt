@@ -34,3 +34,4 @@ pub mod Demand2
 pub mod Demand3
 pub mod ExactlyOnce
 pub mod Tally
+pub mod NeverDamaged

@@ -15,7 +15,7 @@ use Rattle.model.specs.Memory.{chain, inBucket, listed}
 use Rattle.model.specs.Walk.{joined, atMost}
 use Rattle.model.proofs.AtMost.{at-most-few, at-most-some, at-most-joined, chain-at-most}
 use Rattle.memory.specs.declared.chain.ChainLength.{ChainLength}
-use Rattle.memory.specs.Length.{lengthOf}
+use Rattle.memory.specs.Length.{bucketChain, lengthOf}
 use Rattle.memory.proofs.Counted.{counted}
 use Rattle.scan_group.specs.Chains.{cursorChain, chains}
 use Rattle.scan_group.specs.Tables.{Larger}
@@ -93,10 +93,10 @@ module _ (entries larger : List ℕ) (capacity used limit small large : ℕ) (g 
 
   module _ (at left b budget : ℕ) (h : Counting entries larger capacity used limit small large cursor at left)
       (i : b ≡ bucketOf at large) (r : ChainLength) (few : budget ≡ min used left)
-      (l : r ≡ lengthOf (chain (inBucket large b) entries capacity budget (getD larger b 0))) where
+      (l : r ≡ lengthOf (bucketChain large entries capacity budget larger b)) where
     -- this chain, ..
     chain-here : Option (List ℕ)
-    chain-here = chain (inBucket large b) entries capacity used (getD larger b 0)
+    chain-here = bucketChain large entries capacity used larger b
 
     -- .. and those behind it
     chains-behind : Option (List ℕ)

@@ -53,8 +53,8 @@ fn count_large(
     }
 }
 
-// Those of both tables: the chain of the cursor's bucket in the smaller one, from its head, then the larger one's. A chain may have as many as its
-// table holds keys, and all of them together as many as the limit.
+// Those of both tables: the chain of the cursor's bucket in the smaller one, whose head the caller has read, then the larger
+// one's. A chain may have as many as its table holds keys, and all of them together as many as the limit.
 pub fn count_group(
     head: u32,
     larger: &[u32],

@@ -4,13 +4,12 @@ use Prim.Native.Nat.{ℕ}
 use mathlib.Core.Path.{_≡_, refl, ap, ap₂, _∙_}
 use mathlib.Core.Bool.{true, false}
 use mathlib.Core.List.{List}
-use lib.ListN.{getD}
 use Rattle.model.specs.declared.State.{State}
 use Rattle.model.specs.declared.Table.{Table}
 use Rattle.model.specs.declared.Lookup.{Lookup}
 use Rattle.model.specs.Keys.{bucketOf}
-use Rattle.model.specs.Memory.{chain, inBucket}
 use Rattle.model.specs.Calls.{searched, both, lookup}
+use Rattle.memory.specs.Length.{bucketChain}
 use Rattle.memory.proofs.Orientation.{read-first, read-second}
 use Rattle.search.specs.declared.found.Found.{Found}
 use Rattle.search.specs.Tables.{searchedIn, lookupLent}
@@ -19,8 +18,7 @@ use Rattle.search.proofs.Lookups.{looked-in, lookup-resting, lookup-reh
 
 pub entry-in-one : (entries : List ℕ) (capacity used : ℕ) (buckets : List ℕ) (size key b : ℕ) (r : Found)
     → b ≡ bucketOf key size
-    → ((t : Table) → r ≡ foundOf (searched entries key t 0
-    (chain (inBucket size b) entries capacity used (getD buckets b 0))))
+    → ((t : Table) → r ≡ foundOf (searched entries key t 0 (bucketChain size entries capacity used buckets b)))
     → (t : Table) → r ≡ foundOf (searchedIn entries capacity used buckets size key t)
 entry-in-one entries capacity used buckets size key b r e h t =
     h t ∙ ap foundOf (looked-in entries capacity used buckets size key b t _ e refl)

@@ -4,19 +4,19 @@ use Prim.Native.Nat.{ℕ}
 use mathlib.Core.Path.{_≡_, refl, sym, ap, ap₂, _∙_}
 use mathlib.Core.Bool.{Bool, true, false}
 use mathlib.Core.List.{List}
-use lib.ListN.{getD}
 use Rattle.model.specs.declared.State.{State}
 use Rattle.model.specs.declared.Table.{Table}
 use Rattle.model.specs.declared.Lookup.{Lookup}
 use Rattle.model.specs.Keys.{bucketOf}
-use Rattle.model.specs.Memory.{chain, inBucket, sizeOf, usedOf, bucketsOf, keyPlace, headAt, budgetAt, belongs, chainAt}
+use Rattle.model.specs.Memory.{sizeOf, usedOf, bucketsOf, keyPlace, headAt, budgetAt, belongs, chainAt}
 use Rattle.model.specs.Calls.{searched, lookupIn, both, lookupWhile, lookup}
+use Rattle.memory.specs.Length.{bucketChain}
 use Rattle.search.specs.Tables.{searchedIn}
 
 -- in one table, once the bucket is known
 pub looked-in : (entries : List ℕ) (capacity used : ℕ) (buckets : List ℕ) (size key b : ℕ) (t : Table) (r : Lookup)
     → b ≡ bucketOf key size
-    → r ≡ searched entries key t 0 (chain (inBucket size b) entries capacity used (getD buckets b 0))
+    → r ≡ searched entries key t 0 (bucketChain size entries capacity used buckets b)
     → r ≡ searchedIn entries capacity used buckets size key t
 unfolding searchedIn
 looked-in entries capacity used buckets size key b t r e h = rw e at h

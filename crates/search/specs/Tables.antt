@@ -3,19 +3,18 @@ use Prim.Native.Nat.{ℕ, _*_, _≤_}
 use mathlib.Core.Path.{_≡_}
 use mathlib.Core.Bool.{true}
 use mathlib.Core.List.{List}
-use lib.ListN.{getD}
 use Rattle.model.specs.declared.State.{State}
 use Rattle.model.specs.declared.Table.{Table}
 use Rattle.model.specs.declared.Lookup.{Lookup}
 use Rattle.model.specs.Keys.{bucketOf}
 use Rattle.model.specs.Limits.{legalSize}
-use Rattle.model.specs.Memory.{chain, inBucket}
 use Rattle.model.specs.Calls.{oriented, searched, lookup}
+use Rattle.memory.specs.Length.{bucketChain}
 
 -- the key's chain in a table with that many keys, those buckets and that size
 unfoldable pub searchedIn : List ℕ → ℕ → ℕ → List ℕ → ℕ → ℕ → Table → Lookup
 searchedIn entries capacity used buckets size key t =
-    let b = bucketOf key size in searched entries key t 0 (chain (inBucket size b) entries capacity used (getD buckets b 0))
+    searched entries key t 0 (bucketChain size entries capacity used buckets (bucketOf key size))
 
 unfoldable pub lookupLent : State → List ℕ → List ℕ → List ℕ → ℕ → Lookup
 lookupLent s first second entries key =

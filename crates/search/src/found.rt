@@ -40,8 +40,8 @@ fn as_found(found: u32) -> Found
     }
 }
 
-// The first entry with the key, on the chain of bucket b in a table of that size. One loop reads the whole chain: it must be
-// sound to its end.
+// The first entry with the key, on the chain of bucket b in a table of that size. One loop reads the whole chain: it must
+// be sound to its end.
 fn search_entry(
     entries: &[u32],
     capacity: u32,

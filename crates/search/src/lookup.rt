@@ -17,8 +17,8 @@ ghost use Rattle.model.specs.Calls.{searched, both, lookup};
 ghost use Rattle.model.proofs.Soundness.{Sound};
 ghost use Rattle.search.specs.Tables.{searchedIn, Readable};
 
-// The first entry with the key, on the chain of bucket b in a table of that size. The rest of the chain is read too: it must be
-// sound to its end.
+// The first entry with the key, on the chain of bucket b in a table of that size. The rest of the chain is read too: it must
+// be sound to its end.
 fn search_chain(
     entries: &[u32],
     capacity: u32,

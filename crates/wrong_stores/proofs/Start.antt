@@ -63,7 +63,7 @@ isLook = byCall (λ capacity size. 0) (λ key c. 0) (λ size. 0) 0 (λ cursor le
 unfoldable pub isScan : Call → ℕ
 isScan = byCall (λ capacity size. 0) (λ key c. 0) (λ size. 0) 0 (λ cursor lent. 1) (λ c. 0)
 
--- All that a history computes with, opened by one name: to unfold `computing` is to unfold every definition named here.
+-- All that a refutation computes with, opened by one name, `computing`: what a history computes with, and these.
 
 -- ours but for one call
 unfoldable pub theStores : Unit {0}

@@ -1,43 +1,51 @@
--- The stores of specs/Strays are excluded. A key off its bucket is met in no history of ours, so demand 1, which is about any
--- world, excludes those that pass over one: the worlds are those of model's case table. Demand 3 excludes those that find
--- damage in a store where each key is in its own bucket.
+-- The stores of specs/Strays are excluded. No history of ours meets a key off its bucket, so what a store does with one is
+-- for demand 1, which is about any world: those here are of model's case table. Demand 3 excludes the stores that find
+-- damage where each key is in its own bucket.
 -- Assumes nothing.
-use Prim.Native.Nat.{ℕ, zero, suc, _≤_}
-use mathlib.Core.Path.{_≡_, refl, sym, subst}
+use Prim.Native.Nat.{ℕ, zero, suc}
+use mathlib.Core.Path.{refl, sym, subst}
 use mathlib.Core.Logic.{inl, inr}
-use mathlib.Core.List.{List, [], _∷_}
-use lib.ListN.{replicate}
-use lib.Dec.{eqb, lit<, lit≤}
+use mathlib.Core.List.{[], _∷_}
+use lib.Dec.{lit<, lit≤}
 use borrow.Author.Tests.{eqb-false}
 use native.Mathlib.Omega.{arith}
 use Rattle.model.specs.declared.Table.{Table}
 use Rattle.model.specs.Memory.{Place, inBucket}
-use Rattle.model.specs.Cases.{bucketZero, resting, leaving}
-use Rattle.model.specs.Sequences.{World, Call}
+use Rattle.model.specs.Cases.{bucketZero, resting, moving}
+use Rattle.model.specs.Sequences.{Call}
 use Rattle.model.proofs.Tests.{true-not-false}
 use Rattle.refinement.specs.Demand1.{Demand1, Chain, ChainAt, SoundChain, Damaged, KeyHeld, keyPlaces, FirstFilled, StepDamaged, GroupDamaged}
 use Rattle.refinement.specs.Demand3.{Demand3}
-use Rattle.wrong_stores.specs.Strays.{readBy, untested, firstTested, findBy, findsAmongStrays, findsBehindFirst, readAll, walksStrays, movedUntested, movesStrays, findsElsewhere, orDamaged, findsNoneBeside, testsOtherSize, testsFree}
+use Rattle.wrong_stores.specs.Strays.{readBy, untested, firstTested, lookupBy, findBy, findsAmongStrays, findsBehindFirst, readAll, walksStrays, movedUntested, movesStrays, findsElsewhere, orDamaged, findsNoneBeside, testsOtherSize, testsFree}
 use Rattle.wrong_stores.proofs.Start.{computing, find, add, room, at, neither, must-be-damaged}
 
--- Demand 1, `numbers`: keys 2 and 5 on the chain of bucket 0, at size 2. It is not sound, ..
-stray-unsound : (count : ℕ) → Chain (inBucket 2 0) (bucketZero 2 5) 3 1 count → ⊥
+-- Demand 1, `numbers`: keys 2 and 5 on the chain of bucket 0, at size 2, in either order. It is not sound, ..
+
+second-off : (count : ℕ) → Chain (inBucket 2 0) (bucketZero 2 5) 3 1 count → ⊥
 unfolding computing bucketZero
-stray-unsound zero c = eqb-false 1 0 refl (c .end)
-stray-unsound (suc zero) c = eqb-false 2 0 refl (c .end)
-stray-unsound (suc (suc count)) c = true-not-false (sym (c .key 1 (omega arith)))
+second-off zero c = eqb-false 1 0 refl (c .end)
+second-off (suc zero) c = eqb-false 2 0 refl (c .end)
+second-off (suc (suc count)) c = true-not-false (sym (c .key 1 (omega arith)))
+
+first-off : (count : ℕ) → Chain (inBucket 2 0) (bucketZero 5 2) 3 1 count → ⊥
+unfolding computing bucketZero
+first-off zero c = eqb-false 1 0 refl (c .end)
+first-off (suc count) c = true-not-false (sym (c .key 0 (omega arith)))
 
 -- .. and so a find of key 2 is damaged, ..
+
 find-damaged : Damaged (resting 2 5) (keyPlaces (resting 2 5) 2)
 unfolding computing resting
-find-damaged = (Place.bucket Table.Old 0, inl refl, λ c. stray-unsound (c .0) (c .2))
+find-damaged = (Place.bucket Table.Old 0, inl refl, λ c. second-off (c .0) (c .2))
 
 pub findsAmongStrays-excluded : Demand1 findsAmongStrays → ⊥
-unfolding computing findsAmongStrays findBy untested readBy resting bucketZero
-findsAmongStrays-excluded d = must-be-damaged 0 refl refl find-damaged (d .numbers (resting 2 5) (find 2))
+unfolding computing findsAmongStrays findBy lookupBy untested readBy resting bucketZero
+findsAmongStrays-excluded d =
+    must-be-damaged 0 refl refl (Place.bucket Table.Old 0, inl refl, λ c. first-off (c .0) (c .2))
+    (d .numbers (resting 5 2) (find 2))
 
 pub findsBehindFirst-excluded : Demand1 findsBehindFirst → ⊥
-unfolding computing findsBehindFirst findBy firstTested untested readBy resting bucketZero
+unfolding computing findsBehindFirst findBy lookupBy firstTested untested readBy resting bucketZero
 findsBehindFirst-excluded d = must-be-damaged 0 refl refl find-damaged (d .numbers (resting 2 5) (find 2))
 
 -- .. a walk call from cursor 0, ..
@@ -50,27 +58,27 @@ unfolding computing walksStrays readAll untested readBy resting bucketZero
 walksStrays-excluded d = must-be-damaged 0 refl refl walk-damaged (d .numbers (resting 2 5) (Call.scan 0 room))
 
 -- .. and a step from that table.
-step-damaged : StepDamaged (leaving 2 5)
-unfolding computing leaving
+step-damaged : StepDamaged (moving 2 5)
+unfolding computing moving
 step-damaged =
-    let first : FirstFilled (leaving 2 5) 0 =
+    let first : FirstFilled (moving 2 5) 0 =
     record {
       from-next = lit≤ tt;
       in-table = lit< tt;
       filled = eqb-false 1 0 refl;
       empty-before = λ b from before. absurd (omega arith);
     } in
-    (lit< tt, inr (0, first, λ c. stray-unsound (c .0) (c .2)))
+    (lit< tt, inr (0, first, λ c. second-off (c .0) (c .2)))
 
 pub movesStrays-excluded : Demand1 movesStrays → ⊥
-unfolding computing movesStrays movedUntested untested readBy leaving bucketZero
+unfolding computing movesStrays movedUntested untested readBy moving bucketZero
 movesStrays-excluded d =
     neither (λ h. eqb-false 0 1 refl (h .1))
     (λ h.
     neither (λ i. true-not-false (i .0))
     (λ i. neither (λ j. eqb-false 0 2 refl (j .1)) (λ j. j .0 step-damaged) (i .1))
     (h .1))
-    (d .numbers (leaving 2 5) Call.rehashStep)
+    (d .numbers (moving 2 5) Call.rehashStep)
 
 -- Key 5 is on that chain, but not held: its own bucket is empty.
 not-held : KeyHeld (resting 2 5) 5 → ⊥

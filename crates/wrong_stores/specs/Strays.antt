@@ -6,17 +6,18 @@ use mathlib.Core.Option.{Option, none, some}
 use lib.Dec.{eqb}
 use Rattle.model.specs.declared.Table.{Table}
 use Rattle.model.specs.declared.Error.{Error}
+use Rattle.model.specs.declared.Lookup.{Lookup}
 use Rattle.model.specs.declared.FindAnswer.{FindAnswer}
 use Rattle.model.specs.declared.AddAnswer.{AddAnswer}
 use Rattle.model.specs.declared.StepAnswer.{StepAnswer}
 use Rattle.model.specs.Keys.{bucketOf}
-use Rattle.model.specs.Memory.{keyOf, chain, inBucket, anyKey, Place, keyPlace, headAt, budgetAt, belongs, chainAt}
+use Rattle.model.specs.Memory.{keyOf, keysHeld, chain, inBucket, anyKey, Place, keyPlace, headAt, budgetAt, belongs, chainAt}
 use Rattle.model.specs.Answers.{findReply, addReply, stepReply}
-use Rattle.model.specs.Calls.{After, back, searched, found, target, firstFilled, movedChain}
-use Rattle.model.specs.Walk.{tablesOf, group, groupPlaces, joined, scanned}
+use Rattle.model.specs.Calls.{After, back, searched, both, found, target, firstFilled, movedChain}
+use Rattle.model.specs.Walk.{tablesOf, group, groupPlaces, joined, atMost, scanned}
 use Rattle.model.specs.Sequences.{World, Call, Outcome, kept, keptScan, left}
 use Rattle.refinement.specs.Worlds.{current, other}
-use Rattle.wrong_stores.specs.OneCall.{butFind, butAdd, butStep, butScan, ifDamaged}
+use Rattle.wrong_stores.specs.OneCall.{butFind, butAdd, butStep, butScan, ifDone, ifDamaged}
 
 -- A chain read in another way.
 
@@ -36,18 +37,23 @@ firstTested w p =
 
 -- Stores that read again where ours answers 2.
 
--- a find in the only table
-unfoldable pub findBy : (World → Place → Option (List ℕ)) → World → ℕ → Place → Outcome
-findBy read w key p =
-    kept w (findReply (w .state) (found (w .entries) (searched (w .entries) key Table.Old 0 (read w p)))) []
+-- a lookup by that reading
+unfoldable pub lookupBy : (World → Place → Option (List ℕ)) → World → ℕ → Lookup
+lookupBy read w key =
+    let s = w .state in
+    let at : Table → Lookup = λ t. searched (w .entries) key t 0 (read w (keyPlace s key t)) in
+    cond (s .rehashing) (both (at Table.Old) (at Table.New)) (at Table.Old)
+
+unfoldable pub findBy : World → Lookup → Outcome
+findBy w l = kept w (findReply (w .state) (found (w .entries) l)) []
 
 -- a find hands out a value whatever other keys are on the chain
 unfoldable pub findsAmongStrays : World → Call → Outcome
-findsAmongStrays = butFind (λ key w o. ifDamaged (findBy untested w key (keyPlace (w .state) key Table.Old)) o)
+findsAmongStrays = butFind (λ key w o. ifDamaged (findBy w (lookupBy untested w key)) o)
 
 -- .. but the first one
 unfoldable pub findsBehindFirst : World → Call → Outcome
-findsBehindFirst = butFind (λ key w o. ifDamaged (findBy firstTested w key (keyPlace (w .state) key Table.Old)) o)
+findsBehindFirst = butFind (λ key w o. ifDamaged (findBy w (lookupBy firstTested w key)) o)
 
 -- a walk call hands out whatever keys are on its chains
 unfoldable pub readAll : World → List Place → Option (List ℕ)
@@ -59,7 +65,11 @@ walksStrays =
     butScan
     (λ cursor lent w o.
     let tables = tablesOf (w .state) in
-    ifDamaged (keptScan w (scanned (w .entries) lent (group tables cursor .answered) (readAll w (groupPlaces tables cursor)))) o)
+    ifDamaged
+    (keptScan w
+    (scanned (w .entries) lent (group tables cursor .answered)
+    (atMost (keysHeld (w .state)) (readAll w (groupPlaces tables cursor)))))
+    o)
 
 -- a step moves whatever keys are on its chain
 unfoldable pub movedUntested : World → Option ℕ → After StepAnswer
@@ -77,7 +87,12 @@ movesStrays =
 
 -- A find that hands out the value of a key off its bucket: where ours answers 3, it looks on the chain of bucket 0 too.
 unfoldable pub findsElsewhere : World → Call → Outcome
-findsElsewhere = butFind (λ key w o. cond (eqb (o .reply .number) 3) (findBy untested w key (Place.bucket Table.Old 0)) o)
+findsElsewhere =
+    butFind
+    (λ key w o.
+    cond (eqb (o .reply .number) 3)
+    (findBy w (searched (w .entries) key Table.Old 0 (untested w (Place.bucket Table.Old 0))))
+    o)
 
 -- Stores that find damage where there is none: a find of theirs is damaged where that chain is not sound.
 
@@ -109,4 +124,4 @@ testsFree =
     (λ key value w o.
     let s = w .state in
     cond (belongs s (keyPlace s key (target (s .rehashing))) (keyOf (w .entries) (s .«free_head»))) o
-    (kept w (addReply s (AddAnswer.Refused Error.Damaged)) []))
+    (ifDone (kept w (addReply s (AddAnswer.Refused Error.Damaged)) []) o))

@@ -1,5 +1,4 @@
--- `dict_rehash::rehash::move_bucket` meets its contract: a bucket's chain is refused where it is not sound, and moved where it
--- is.
+-- `dict_rehash::rehash::move_bucket` meets its contract: a bucket's chain is refused where it is not sound, and else moved.
 -- Assumes nothing.
 use borrow.Author.Needs.{needs}
 use Rattle.dict_rehash.specs.Progress.{stepRoom}

@@ -1,0 +1,107 @@
+-- Over every sequence of calls of a store that meets demand 3 no chain is found damaged: every chain is sound, in demand 1's
+-- words, and no call answers 2. So no such store ever meets a key off its bucket.
+-- Assumes nothing.
+use Prim.Native.Nat.{ℕ, zero, suc, _*_}
+use mathlib.Core.Path.{_≡_, refl, sym, subst, _∙_}
+use mathlib.Core.Bool.{Bool, true, false, _&&_, cond}
+use mathlib.Core.List.{List, [], _∷_}
+use mathlib.Core.Option.{Option, none, some}
+use lib.ListN.{length}
+use lib.Dec.{leb, eqb}
+use borrow.Author.Tests.{eqb-false}
+use Rattle.model.specs.Limits.{legalCapacity, legalSize}
+use Rattle.model.specs.Memory.{Place, Live}
+use Rattle.model.specs.Answers.{Reply, reply}
+use Rattle.model.specs.Calls.{longEnough, acceptable}
+use Rattle.model.specs.Walk.{Tables}
+use Rattle.model.specs.Sequences.{World, KeyCall, ReadCall, Call, Outcome, carry, run, Event, events, PlainMap, valueFor, mapAnswer, mapDoes}
+use Rattle.refinement.specs.Worlds.{UndamagedAt}
+use Rattle.refinement.specs.Demand1.{SoundChain}
+use Rattle.refinement.specs.Demand3.{Lengths, lengthsOf, Ideal, begun, startNumber, startAnswer, keyAnswer, resizeAnswer, stepAnswer, groupPairs, scanAnswer, readAnswer, predict, Answered, Demand3}
+use Rattle.refinement.proofs.Demand1Chains.{AtPlace, place-read, place-sound}
+
+-- every chain of an undamaged store
+pub always-sound : (w : World) → UndamagedAt w → (p : Place) → Live (w .state) p → SoundChain w p
+unfolding UndamagedAt
+always-sound w u p live = place-sound w p _ (subst (AtPlace w p) (u .chains-sound p live) (place-read w p))
+
+-- No answer of the ideal has the number 2.
+
+abbrev Other : {A : Type 0} → Reply A → Type 0
+Other r = ¬ (r .number ≡ 2)
+
+other : (n : ℕ) → eqb n 2 ≡ false → ¬ (n ≡ 2)
+other n e = eqb-false n 2 e
+
+either : {A : Type 0} (t : Bool) (a b : Reply A) → Other a → Other b → Other (cond t a b)
+either true a b f g = f
+either false a b f g = g
+
+map-other : (m : PlainMap) (key : ℕ) (c : KeyCall) (o : Option ℕ) → Other (mapAnswer m key c o)
+unfolding mapAnswer reply
+map-other m key KeyCall.find none = other 3 refl
+map-other m key KeyCall.find (some held) = other 0 refl
+map-other m key (KeyCall.update value) none = other 3 refl
+map-other m key (KeyCall.update value) (some held) = other 0 refl
+map-other m key (KeyCall.add value) (some held) = other 4 refl
+map-other m key (KeyCall.add value) none = either (eqb (length (m .pairs)) (m .capacity)) _ _ (other 5 refl) (other 0 refl)
+map-other m key KeyCall.delete none = other 3 refl
+map-other m key KeyCall.delete (some held) = other 0 refl
+
+module _ (l : Lengths) (i : Ideal) where
+  start-other : (capacity size number : ℕ) → ¬ (number ≡ 2) → Other (startAnswer i capacity size number)
+  unfolding startAnswer reply
+  start-other capacity size zero f = f
+  start-other capacity size (suc number) f = f
+
+  limits-other : (t u : Bool) → ¬ (_≡_ {A = ℕ} (cond t (cond u 0 1) 6) 2)
+  limits-other true true = other 0 refl
+  limits-other true false = other 1 refl
+  limits-other false u = other 6 refl
+
+  resize-other : (size : ℕ) (tables : Tables) → Other (resizeAnswer l i size tables)
+  unfolding resizeAnswer reply
+  resize-other size (Tables.two old new) = other 7 refl
+  resize-other size (Tables.one old) = either (acceptable old _ size) _ _ (other 0 refl) (other 6 refl)
+
+  step-other : (tables : Tables) (unmoved : List ℕ) → Other (stepAnswer i tables unmoved)
+  unfolding stepAnswer reply
+  step-other (Tables.one size) unmoved = other 8 refl
+  step-other (Tables.two old new) [] = other 0 refl
+  step-other (Tables.two old new) (k ∷ ks) = other 0 refl
+
+  predicted-other : (c : Call) → Other (predict l i c)
+  unfolding predict keyAnswer mapDoes scanAnswer readAnswer startNumber reply
+  predicted-other (Call.init capacity size) =
+      start-other capacity size _
+      (limits-other (legalCapacity capacity && legalSize size) (longEnough capacity size (l .first) (l .entries)))
+  predicted-other (Call.on key c) = map-other (i .plain) key c (valueFor key (i .plain .pairs))
+  predicted-other (Call.resize size) = resize-other size (i .tables)
+  predicted-other Call.rehashStep = step-other (i .tables) (i .unmoved)
+  predicted-other (Call.scan cursor lent) =
+      either (leb (length (groupPairs i cursor) * 2) (length lent)) _ _ (other 0 refl) (other 9 refl)
+  predicted-other (Call.read (ReadCall.suggestedSize growing)) = other 0 refl
+  predicted-other (Call.read ReadCall.currentTable) = other 0 refl
+
+-- of none of these calls the number is 2
+unfoldable pub NoneDamaged : List Event → Type 0
+NoneDamaged [] = Unit {0}
+NoneDamaged (e ∷ es) = (¬ (e .number ≡ 2)) × NoneDamaged es
+
+answered-other : (l : Lengths) (i : Ideal) (es : List Event) → Answered l i es → NoneDamaged es
+unfolding Answered NoneDamaged
+answered-other l i [] a = tt
+answered-other l i (e ∷ es) a =
+    (λ two. predicted-other l i (e .call) (sym (a .0 .number) ∙ two), answered-other l (predict l i (e .call) .state) es (a .1))
+
+-- Of a sequence that begins with a start answered 0.
+
+module _ (does : World → Call → Outcome) (d : Demand3 does) (w : World) (capacity size : ℕ)
+    (started : does w (Call.init capacity size) .reply .number ≡ 0) (calls : List Call) where
+  pub none-damaged : NoneDamaged (events does (carry w (does w (Call.init capacity size))) calls)
+  none-damaged =
+      answered-other (lengthsOf w) (begun capacity size) _ (d .sequence w capacity size started calls .answers)
+
+  pub chains-stay-sound : (p : Place) → Live (run does (carry w (does w (Call.init capacity size))) calls .state) p
+      → SoundChain (run does (carry w (does w (Call.init capacity size))) calls) p
+  chains-stay-sound p live = always-sound _ (d .sequence w capacity size started calls .undamaged) p live

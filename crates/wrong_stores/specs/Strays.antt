@@ -1,6 +1,6 @@
 -- Wrong stores by the keys on a chain: they pass over a key off its bucket, or take a key at its place for one that is not.
 use Prim.Native.Nat.{ℕ, _-_}
-use mathlib.Core.Bool.{Bool, cond}
+use mathlib.Core.Bool.{Bool, _||_, cond}
 use mathlib.Core.List.{List, [], _∷_}
 use mathlib.Core.Option.{Option, none, some}
 use lib.Dec.{eqb}
@@ -30,10 +30,11 @@ readBy test w p =
 unfoldable pub untested : World → Place → Option (List ℕ)
 untested = readBy anyKey
 
--- the key of its first entry is tested, and no other
+-- the key of its first entry, if there is one, is tested, and no other
 unfoldable pub firstTested : World → Place → Option (List ℕ)
 firstTested w p =
-    cond (belongs (w .state) p (keyOf (w .entries) (headAt (w .state) (current w) (other w) p))) (untested w p) none
+    let head = headAt (w .state) (current w) (other w) p in
+    cond (eqb head 0 || belongs (w .state) p (keyOf (w .entries) head)) (untested w p) none
 
 -- Stores that read again where ours answers 2.
 
@@ -94,15 +95,16 @@ findsElsewhere =
     (findBy w (searched (w .entries) key Table.Old 0 (untested w (Place.bucket Table.Old 0))))
     o)
 
--- Stores that find damage where there is none: a find of theirs is damaged where that chain is not sound.
+-- Stores that find damage where there is none: in a sound state a find of theirs is damaged where that chain is not sound.
 
 unfoldable pub orDamaged : World → Option (List ℕ) → Outcome → Outcome
-orDamaged w none o = kept w (findReply (w .state) (FindAnswer.Refused Error.Damaged)) []
+orDamaged w none o =
+    cond (eqb (o .reply .number) 1) o (kept w (findReply (w .state) (FindAnswer.Refused Error.Damaged)) [])
 orDamaged w (some ns) o = o
 
 -- the chain of bucket 0, whatever bucket is the key's
-unfoldable pub findsNoneBeside : World → Call → Outcome
-findsNoneBeside =
+unfoldable pub testsNeighbour : World → Call → Outcome
+testsNeighbour =
     butFind
     (λ key w o.
     orDamaged w (chainAt (w .state) (current w) (other w) (w .entries) (Place.bucket Table.Old 0)) o)

@@ -61,14 +61,7 @@ module _ (r : ChainLength) (count : ℕ) (c : r ≡ ChainLength.Sound count) (te
 
 -- ---- the chain of a bucket of the old table
 
-module _ (s : State) (current other entries : List ℕ) (b : ℕ) (r : ChainLength)
-    (e : r ≡ lengthOf (oldChain s current entries b)) where
-  pub bucket-unsound : r ≡ ChainLength.Unsound
-      → After.after (stepAnswer s (Progress.Refused Error.Damaged)) current other entries
-      ≡ movedChain s current other entries b (oldChain s current entries b)
-  unfolding movedChain stepAnswer
-  bucket-unsound u = rw (uncounted r (oldChain s current entries b) u e)
-
+module _ (s : State) (current other entries : List ℕ) (b : ℕ) where
   moved-by : (c : Option (List ℕ)) (ns : List ℕ) (count : ℕ) (then : Chains) → c ≡ some ns → length ns ≡ count
       → then ≡ moved (s .«new_size») ns (chains other entries)
       → After.after (stepAnswer s (Progress.Past b count)) (set current b 0) (then .buckets) (then .entries)
@@ -76,22 +69,29 @@ module _ (s : State) (current other entries : List ℕ) (b : ℕ) (r : ChainLeng
   unfolding movedChain stepAnswer
   moved-by c ns count then ce n t = rw (ce, t, ← n)
 
-  module _ (count : ℕ) (c : r ≡ ChainLength.Sound count) (h : Sound s (length current) (length other) (length entries)) where
-    pub bucket-moved : (other′ entries′ : List ℕ)
-        → ChainMoved (s .«new_size») (getD current b 0) (chains other entries) (chains other′ entries′)
-        → After.after (stepAnswer s (Progress.Past b count)) (set current b 0) other′ entries′
+  module _ (r : ChainLength) (e : r ≡ lengthOf (oldChain s current entries b)) where
+    pub bucket-unsound : r ≡ ChainLength.Unsound
+        → After.after (stepAnswer s (Progress.Refused Error.Damaged)) current other entries
         ≡ movedChain s current other entries b (oldChain s current entries b)
-    bucket-moved other′ entries′ m =
-        let o = oldChain s current entries b in
-        let (read, n) = counted r count o c e in
-        let linked = read-linked _ entries (s .capacity) (s .«old_used») (getD current b 0) (listed o) read (h .entries-fit) in
-        moved-by o (listed o) count (chains other′ entries′) read n (m .each (listed o) linked)
+    unfolding movedChain stepAnswer
+    bucket-unsound u = rw (uncounted r (oldChain s current entries b) u e)
 
-    pub bucket-room : b < s .«old_size» → stepRoom s (Progress.Past b count)
-    unfolding stepRoom
-    bucket-room l =
-        let short = count-fits r count c _ entries (s .capacity) (s .«old_used») (getD current b 0) e in
-        (short, omega (arith, h .used-fits), l)
+    module _ (count : ℕ) (c : r ≡ ChainLength.Sound count) (h : Sound s (length current) (length other) (length entries)) where
+      pub bucket-moved : (other′ entries′ : List ℕ)
+          → ChainMoved (s .«new_size») (getD current b 0) (chains other entries) (chains other′ entries′)
+          → After.after (stepAnswer s (Progress.Past b count)) (set current b 0) other′ entries′
+          ≡ movedChain s current other entries b (oldChain s current entries b)
+      bucket-moved other′ entries′ m =
+          let o = oldChain s current entries b in
+          let (read, n) = counted r count o c e in
+          let linked = read-linked _ entries (s .capacity) (s .«old_used») (getD current b 0) (listed o) read (h .entries-fit) in
+          moved-by o (listed o) count (chains other′ entries′) read n (m .each (listed o) linked)
+
+      pub bucket-room : b < s .«old_size» → stepRoom s (Progress.Past b count)
+      unfolding stepRoom
+      bucket-room l =
+          let short = count-fits r count c _ entries (s .capacity) (s .«old_used») (getD current b 0) e in
+          (short, omega (arith, h .used-fits), l)
 
 -- ---- the first filled one
 

@@ -1,19 +1,19 @@
 -- What a lookup's answer names: entries in range, in a table that is live and not empty.
 -- Assumes nothing.
-use Prim.Native.Nat.{ℕ, zero, suc, _*_, _≤_, _<_}
+use Prim.Native.Nat.{ℕ, _*_, _≤_, _<_}
 use mathlib.Core.Path.{_≡_, refl, sym, subst, _∙_}
-use mathlib.Core.Bool.{Bool, true, false, _&&_, cond}
+use mathlib.Core.Bool.{Bool, true, false, cond}
 use mathlib.Core.List.{List, [], _∷_}
 use mathlib.Core.Option.{Option, none, some}
 use native.Mathlib.Omega.{arith}
 use lib.ListN.{length}
-use lib.Dec.{leb, eqb}
-use borrow.Author.Tests.{leb-true}
+use lib.Dec.{eqb}
 use Rattle.model.specs.declared.State.{State}
 use Rattle.model.specs.declared.Table.{Table}
 use Rattle.model.specs.declared.Lookup.{Lookup}
-use Rattle.model.specs.Memory.{linkOf, keyOf, usedOf, met, chain, budgetAt, chainAt, keyPlace}
+use Rattle.model.specs.Memory.{linkOf, keyOf, usedOf, chain, budgetAt, chainAt, keyPlace}
 use Rattle.model.specs.Calls.{firstWith, searched, both, lookupIn, lookupWhile, lookup}
+use Rattle.model.proofs.Linked.{Linked, read-sound}
 use Rattle.model.proofs.Soundness.{Sound}
 
 -- an entry that a lookup found, and the one before it
@@ -39,29 +39,20 @@ InRangeIf : ℕ → ℕ → Option (List ℕ) → Type 0
 InRangeIf capacity budget none = Unit {0}
 InRangeIf capacity budget (some ns) = InRange capacity budget ns
 
-more-budget : (capacity budget : ℕ) (ns : List ℕ) → InRange capacity budget ns → InRange capacity (suc budget) ns
-unfolding InRange
-more-budget capacity budget [] h = tt
-more-budget capacity budget (n ∷ ns) h = (omega arith, h .1, h .2, more-budget capacity budget ns (h .3))
+linked-range : (entries : List ℕ) (capacity budget at : ℕ) (ns : List ℕ) → Linked entries capacity at ns → length ns ≤ budget
+    → InRange capacity budget ns
+unfolding Linked InRange
+linked-range entries capacity budget at [] h l = tt
+linked-range entries capacity budget at (n ∷ ns) h l =
+    (omega arith, h .1, h .2, linked-range entries capacity budget (linkOf entries n) ns (h .3) (omega arith))
 
-met-in-range : (capacity budget n : ℕ) (t u : Bool) (rest : Option (List ℕ)) → (t ≡ true → suc n ≤ capacity)
-    → InRangeIf capacity budget rest → InRangeIf capacity (suc budget) (met (t && u) (suc n) rest)
-unfolding InRange InRangeIf met
-met-in-range capacity budget n false u rest f h = tt
-met-in-range capacity budget n true false rest f h = tt
-met-in-range capacity budget n true true none f h = tt
-met-in-range capacity budget n true true (some ns) f h = (omega arith, omega arith, f refl, more-budget capacity budget ns h)
-
-chain-in-range : (test : ℕ → Bool) (entries : List ℕ) (capacity budget at : ℕ)
-    → InRangeIf capacity budget (chain test entries capacity budget at)
-unfolding InRange InRangeIf chain
-chain-in-range test entries capacity zero zero = tt
-chain-in-range test entries capacity zero (suc n) = tt
-chain-in-range test entries capacity (suc budget) zero = tt
-chain-in-range test entries capacity (suc budget) (suc n) =
-    met-in-range capacity budget n (leb (suc n) capacity) (test (keyOf entries (suc n)))
-    (chain test entries capacity budget (linkOf entries (suc n))) (leb-true (suc n) capacity)
-    (chain-in-range test entries capacity budget (linkOf entries (suc n)))
+chain-in-range : (test : ℕ → Bool) (entries : List ℕ) (capacity budget at : ℕ) (o : Option (List ℕ))
+    → chain test entries capacity budget at ≡ o → InRangeIf capacity budget o
+unfolding InRangeIf
+chain-in-range test entries capacity budget at none e = tt
+chain-in-range test entries capacity budget at (some ns) e =
+    let (linked, short, passing) = read-sound test entries capacity budget at ns e in
+    linked-range entries capacity budget at ns linked short
 
 found-both : (s : State) (old new : Lookup) → Found s old → Found s new → Found s (both old new)
 unfolding Found both
@@ -94,7 +85,7 @@ module _ (s : State) (entries : List ℕ) (key : ℕ) (t : Table) (live : t ≡ 
 
   found-in : (current other : List ℕ) → Found s (lookupIn s current other entries key t)
   unfolding lookupIn chainAt keyPlace budgetAt
-  found-in current other = found-searched _ (chain-in-range _ entries (s .capacity) (usedOf s t) _)
+  found-in current other = found-searched _ (chain-in-range _ entries (s .capacity) (usedOf s t) _ _ refl)
 
 module _ (s : State) (current other entries : List ℕ) (key : ℕ) where
   found-while : (t : Bool) → s .rehashing ≡ t → Found s (lookupWhile t s current other entries key)

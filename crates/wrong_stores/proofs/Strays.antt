@@ -16,7 +16,7 @@ use Rattle.model.specs.Sequences.{Call}
 use Rattle.model.proofs.Tests.{true-not-false}
 use Rattle.refinement.specs.Demand1.{Demand1, Chain, ChainAt, SoundChain, Damaged, KeyHeld, keyPlaces, FirstFilled, StepDamaged, GroupDamaged}
 use Rattle.refinement.specs.Demand3.{Demand3}
-use Rattle.wrong_stores.specs.Strays.{readBy, untested, firstTested, lookupBy, findBy, findsAmongStrays, findsBehindFirst, readAll, walksStrays, movedUntested, movesStrays, findsElsewhere, orDamaged, testsNeighbour, testsOtherSize, testsFree}
+use Rattle.wrong_stores.specs.Strays.{readBy, untested, firstTested, lookupBy, findBy, findsAmongStrays, findsBehindFirst, readAll, walksStrays, movedUntested, movesStrays, findsElsewhere, orDamaged, testsBucketZero, testsOtherSize, testsFree}
 use Rattle.wrong_stores.proofs.Start.{computing, find, add, room, at, neither, must-be-damaged}
 
 -- Demand 1, `numbers`: keys 2 and 5 on the chain of bucket 0, at size 2, in either order. It is not sound, ..
@@ -107,9 +107,9 @@ beside-sound (p, inl e, f) =
     (subst (SoundChain (resting 2 5)) (sym e)
     (0, lit≤ tt, record { entry = λ k l. absurd (omega arith); key = λ k l. absurd (omega arith); end = refl }))
 
-pub testsNeighbour-excluded : Demand1 testsNeighbour → ⊥
-unfolding computing testsNeighbour orDamaged resting bucketZero
-testsNeighbour-excluded d =
+pub testsBucketZero-excluded : Demand1 testsBucketZero → ⊥
+unfolding computing testsBucketZero orDamaged resting bucketZero
+testsBucketZero-excluded d =
     neither (λ h. eqb-false 2 1 refl (h .1))
     (λ h.
     neither (λ i. beside-sound (i .0))

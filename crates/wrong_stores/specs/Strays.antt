@@ -1,4 +1,5 @@
--- Wrong stores by the keys on a chain: they pass over a key off its bucket, or take a key at its place for one that is not.
+-- Wrong stores by the keys on a chain: they pass over a key off its bucket, look for it where it does not belong, or find
+-- damage where there is none.
 use Prim.Native.Nat.{ℕ, _-_}
 use mathlib.Core.Bool.{Bool, _||_, cond}
 use mathlib.Core.List.{List, [], _∷_}
@@ -82,9 +83,8 @@ movesStrays =
     butStep
     (λ w o.
     let s = w .state in
-    ifDamaged
-    (left (stepReply s) (back (s .«second_is_current») (movedUntested w (firstFilled (current w) (s .«rehash_index») (s .«old_size» - s .«rehash_index»)))))
-    o)
+    let b = firstFilled (current w) (s .«rehash_index») (s .«old_size» - s .«rehash_index») in
+    ifDamaged (left (stepReply s) (back (s .«second_is_current») (movedUntested w b))) o)
 
 -- A find that hands out the value of a key off its bucket: where ours answers 3, it looks on the chain of bucket 0 too.
 unfoldable pub findsElsewhere : World → Call → Outcome
@@ -103,8 +103,8 @@ orDamaged w none o =
 orDamaged w (some ns) o = o
 
 -- the chain of bucket 0, whatever bucket is the key's
-unfoldable pub testsNeighbour : World → Call → Outcome
-testsNeighbour =
+unfoldable pub testsBucketZero : World → Call → Outcome
+testsBucketZero =
     butFind
     (λ key w o.
     orDamaged w (chainAt (w .state) (current w) (other w) (w .entries) (Place.bucket Table.Old 0)) o)

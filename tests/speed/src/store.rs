@@ -580,29 +580,48 @@ mod tests {
         assert_eq!(list, [2, 20]);
     }
 
+    /// Puts other keys into an entry whose chain is in the group of cursor 1,
+    /// which has `count` keys: `own` are those of the entry's bucket, `off` are
+    /// not, and the calls on `hashes` read that bucket.
+    fn expect_own_keys(
+        store: &mut Store,
+        entry: u32,
+        own: &[u32],
+        off: &[u32],
+        hashes: &[u32],
+        count: u32,
+    ) {
+        let (key, value) = (store.key(entry), store.value(entry));
+        for &own in own {
+            set_key(store, entry, own);
+            assert_eq!(store.find(own), Ok(value));
+            let answer = Scanned { next: 3, count };
+            assert_eq!(store.scan(1, &mut [0; 10]), Ok(answer));
+        }
+        for &off in off {
+            set_key(store, entry, off);
+            assert_eq!(store.scan(1, &mut [0; 10]), DAMAGED, "{off}");
+            for &hash in hashes {
+                expect_damaged(store, hash);
+            }
+            expect_others_answered(store);
+        }
+        set_key(store, entry, key);
+    }
+
     /// Of the chain's three entries the third is the head and the first the end.
     #[test]
     fn a_key_off_its_bucket_is_damage() {
-        for entry in 1..=3 {
-            with_store(|store| {
-                assert_eq!(store.add(2, 20), Ok(()));
-                let value = store.value(entry);
-                for key in [13, 65537, u32::MAX - 2] {
-                    set_key(store, entry, key);
-                    assert_eq!(store.find(key), Ok(value));
-                    let answer = Scanned { next: 3, count: 3 };
-                    assert_eq!(store.scan(1, &mut [0; 6]), Ok(answer));
-                }
-                for key in [0, 2, 3, 65536, u32::MAX] {
-                    set_key(store, entry, key);
-                    for hash in [1, 5, 9, 13] {
-                        expect_damaged(store, hash);
-                    }
-                    expect_others_answered(store);
-                }
-                assert_eq!(store.add(6, 60), Ok(()));
-            });
-        }
+        with_store(|store| {
+            assert_eq!(store.add(2, 20), Ok(()));
+            for entry in 1..=3 {
+                let own = [13, 65537, u32::MAX - 2];
+                let off = [0, 2, 3, 65536, u32::MAX];
+                expect_own_keys(store, entry, &own, &off, &[1, 5, 9, 13], 3);
+            }
+            set_key(store, 1, 2);
+            assert_eq!(store.add(6, 60), Ok(()));
+        });
     }
 
     /// Runs `test` on tables of sizes 4 and 8, in a move from either to the
@@ -633,22 +652,10 @@ mod tests {
     fn a_key_belongs_by_the_smaller_size_in_the_smaller_table() {
         with_both_moves(|store| {
             for entry in 1..=3 {
-                let (key, value) = (store.key(entry), store.value(entry));
                 // Bucket 1 by size 4. By size 8 they have the buckets 1 and 5.
-                for own in [17, 29] {
-                    set_key(store, entry, own);
-                    assert_eq!(store.find(own), Ok(value));
-                    let answer = Scanned { next: 3, count: 5 };
-                    assert_eq!(store.scan(1, &mut [0; 10]), Ok(answer));
-                }
-                for off in [0, 2, 3, 6, u32::MAX] {
-                    set_key(store, entry, off);
-                    for hash in [1, 5, 9, 13, 17, 21] {
-                        expect_damaged(store, hash);
-                    }
-                    expect_others_answered(store);
-                }
-                set_key(store, entry, key);
+                let own = [17, 29];
+                let off = [0, 2, 3, 6, u32::MAX];
+                expect_own_keys(store, entry, &own, &off, &[1, 5, 9, 13, 17, 21], 5);
             }
             set_key(store, 1, 2);
             assert_eq!(store.add(6, 60), Ok(()));
@@ -659,30 +666,16 @@ mod tests {
     fn a_key_belongs_by_the_larger_size_in_the_larger_table() {
         with_both_moves(|store| {
             for entry in 4..=5 {
-                let (key, value) = (store.key(entry), store.value(entry));
-                for own in [29, 65541] {
-                    set_key(store, entry, own);
-                    assert_eq!(store.find(own), Ok(value));
-                    let answer = Scanned { next: 3, count: 5 };
-                    assert_eq!(store.scan(1, &mut [0; 10]), Ok(answer));
-                }
+                let own = [29, 65541];
                 // By size 4 the keys 17 and 25 have the same bucket as 5.
-                for off in [17, 25, 4, 7, u32::MAX] {
-                    set_key(store, entry, off);
-                    for hash in [5, 13, 21, 29] {
-                        expect_damaged(store, hash);
-                    }
-                    // The group of cursor 1 has the larger table's buckets 1
-                    // and 5. Lookups of 1, 9 and 17 read only the first there.
-                    assert_eq!(store.scan(1, &mut [0; 10]), DAMAGED);
-                    assert_eq!(store.find(1), Ok(10));
-                    assert_eq!(store.add(9, 0), Err(Error::Present));
-                    assert_eq!(store.find(17), Err(Error::Absent));
-                    expect_others_answered(store);
-                }
-                set_key(store, entry, key);
+                let off = [17, 25, 4, 7, u32::MAX];
+                expect_own_keys(store, entry, &own, &off, &[5, 13, 21, 29], 5);
             }
+            // Lookups of 1, 9 and 17 read bucket 1 of the larger table, not 5.
             set_key(store, 4, 17);
+            assert_eq!(store.find(1), Ok(10));
+            assert_eq!(store.add(9, 0), Err(Error::Present));
+            assert_eq!(store.find(17), Err(Error::Absent));
             assert_eq!(store.add(17, 170), Ok(()));
         });
     }

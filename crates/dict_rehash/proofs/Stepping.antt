@@ -5,24 +5,27 @@ use mathlib.Core.Path.{_≡_, refl, sym, ap, _∙_}
 use mathlib.Core.Bool.{Bool, true, false}
 use mathlib.Core.List.{List}
 use mathlib.Core.Option.{Option, some}
+use native.Mathlib.Numerals.{add-one}
 use native.Mathlib.Omega.{arith}
 use lib.ListN.{length, getD, set}
 use mir.Syntax.{w32}
 use mir.Val.{Fits}
-use borrow.Author.Tests.{lt-ltb, le-ltb, eq-eqb, ne-eqb}
+use borrow.Author.Tests.{eq-eqb, ne-eqb}
 use Rattle.model.specs.declared.State.{State}
 use Rattle.model.specs.declared.Error.{Error}
+use Rattle.model.specs.declared.Ahead.{Ahead}
 use Rattle.model.specs.declared.StepAnswer.{StepAnswer}
 use Rattle.model.specs.Limits.{legalSize}
-use Rattle.model.specs.Memory.{sizeOf, usedOf, bucketsOf, chain, headAt, budgetAt, belongs, chainAt, listed}
-use Rattle.model.specs.Calls.{After, Chains, firstFilled, moved, movedChain, movedFrom, steppedPast, stepped}
-use Rattle.model.proofs.Soundness.{Sound}
+use Rattle.model.specs.Memory.{sizeOf, usedOf, bucketsOf, chain, headAt, budgetAt, belongs, chainAt, listed, soundState}
+use Rattle.model.specs.Calls.{After, Chains, stateOf, oldNew, retabled, moved, advanced, finished, settled, stepDone, movedChain, movedFrom, ahead, aheadOf, stepped}
+use Rattle.model.proofs.Soundness.{Sound, tested-sound}
 use Rattle.model.proofs.Linked.{Linked, room, read-sound, linked-wider}
 use Rattle.memory.specs.declared.chain.ChainLength.{ChainLength}
 use Rattle.memory.specs.Length.{lengthOf}
 use Rattle.memory.proofs.Counted.{counted, uncounted}
 use Rattle.dict_rehash.specs.declared.rehash.Progress.{Progress}
-use Rattle.dict_rehash.specs.Progress.{stepAnswer, stepRoom, oldChain, filledAt, chains, ChainOf, ChainMoved}
+use Rattle.dict_rehash.specs.Progress.{stepAnswer, stepRoom, oldChain, chains, ChainOf, ChainMoved}
+use Rattle.dict_rehash.proofs.LookingAhead.{filled-below}
 
 -- what a sound state says of the two tables during a rehash
 module _ (s : State) (current other entries : ℕ) (h : Sound s current other entries) (e : s .rehashing ≡ true) where
@@ -64,10 +67,10 @@ module _ (r : ChainLength) (count : ℕ) (c : r ≡ ChainLength.Sound count) (te
 module _ (s : State) (current other entries : List ℕ) (b : ℕ) where
   moved-by : (c : Option (List ℕ)) (ns : List ℕ) (count : ℕ) (then : Chains) → c ≡ some ns → length ns ≡ count
       → then ≡ moved (s .«new_size») ns (chains other entries)
-      → After.after (stepAnswer s (Progress.Past b count)) (set current b 0) (then .buckets) (then .entries)
+      → After.after (stepAnswer s (Progress.Moved count (b + 1))) (set current b 0) (then .buckets) (then .entries)
       ≡ movedChain s current other entries b c
   unfolding movedChain stepAnswer
-  moved-by c ns count then ce n t = rw (ce, t, ← n)
+  moved-by c ns count then ce n t = rw (ce, t, ← n, add-one)
 
   module _ (r : ChainLength) (e : r ≡ lengthOf (oldChain s current entries b)) where
     pub bucket-unsound : r ≡ ChainLength.Unsound
@@ -79,7 +82,7 @@ module _ (s : State) (current other entries : List ℕ) (b : ℕ) where
     module _ (count : ℕ) (c : r ≡ ChainLength.Sound count) (h : Sound s (length current) (length other) (length entries)) where
       pub bucket-moved : (other′ entries′ : List ℕ)
           → ChainMoved (s .«new_size») (getD current b 0) (chains other entries) (chains other′ entries′)
-          → After.after (stepAnswer s (Progress.Past b count)) (set current b 0) other′ entries′
+          → After.after (stepAnswer s (Progress.Moved count (b + 1))) (set current b 0) other′ entries′
           ≡ movedChain s current other entries b (oldChain s current entries b)
       bucket-moved other′ entries′ m =
           let o = oldChain s current entries b in
@@ -87,24 +90,50 @@ module _ (s : State) (current other entries : List ℕ) (b : ℕ) where
           let linked = read-linked _ entries (s .capacity) (s .«old_used») (getD current b 0) (listed o) read (h .entries-fit) in
           moved-by o (listed o) count (chains other′ entries′) read n (m .each (listed o) linked)
 
-      pub bucket-room : b < s .«old_size» → stepRoom s (Progress.Past b count)
+      pub bucket-room : (next : ℕ) → stepRoom s (Progress.Moved count next)
       unfolding stepRoom
-      bucket-room l =
+      bucket-room next =
           let short = count-fits r count c _ entries (s .capacity) (s .«old_used») (getD current b 0) e in
-          (short, omega (arith, h .used-fits), l)
+          (short, omega (arith, h .used-fits))
 
--- ---- the first filled one
+  -- the number of the bucket behind it
+  pub bucket-behind : b < s .«old_size» → Fits w32 (s .«old_size») → Fits w32 (b + 1)
+  bucket-behind l f = omega arith
 
-module _ (s : State) (current other entries : List ℕ) (b : ℕ) (o : Option ℕ) (f : filledAt (s .«old_size») b ≡ o) where
-  pub next-none : s .«old_size» ≤ b
+-- ---- what comes from the next bucket on
+
+-- no key has moved
+pub none-moved : (s : State) (current other entries : ℕ) → Sound s current other entries → (next : ℕ)
+    → stepRoom s (Progress.Moved 0 next)
+unfolding stepRoom
+none-moved s current other entries h next = (omega arith, omega (arith, h .used-fits))
+
+pub none-moved-tested : (s : State) (current other entries : ℕ) (r : Bool) → r ≡ soundState current other entries s → r ≡ true
+    → (next : ℕ) → stepRoom s (Progress.Moved 0 next)
+none-moved-tested s current other entries r e h next =
+    none-moved s current other entries (tested-sound s current other entries r e h) next
+
+-- a filled bucket lies in the old table
+pub next-below : (r : Ahead) (buckets : List ℕ) (from size visits : ℕ) → r ≡ ahead buckets from (size - from) visits
+    → from ≤ size → (b : ℕ) → r ≡ Ahead.Filled b → b < size
+next-below r buckets from size visits e l b f =
+    omega (arith, filled-below buckets from (size - from) visits b (sym e ∙ f))
+
+module _ (s : State) (current other entries : List ℕ) (r o : Ahead) (f : r ≡ o) where
+  pub next-end : r ≡ Ahead.End
       → After.after (stepAnswer s (Progress.Refused Error.Damaged)) current other entries ≡ movedFrom s current other entries o
-  unfolding filledAt movedFrom stepAnswer
-  next-none l = rw (← f, le-ltb b (s .«old_size») l)
+  unfolding movedFrom stepAnswer
+  next-end e = rw (← f, e)
 
-  pub next-moved : b < s .«old_size» → (a : After StepAnswer)
+  pub next-empty : (b : ℕ) → r ≡ Ahead.Empty b
+      → After.after (stepAnswer s (Progress.Moved 0 b)) current other entries ≡ movedFrom s current other entries o
+  unfolding movedFrom stepAnswer
+  next-empty b e = rw (← f, e)
+
+  pub next-filled : (b : ℕ) → r ≡ Ahead.Filled b → (a : After StepAnswer)
       → a ≡ movedChain s current other entries b (oldChain s current entries b) → a ≡ movedFrom s current other entries o
-  unfolding filledAt movedFrom chainAt headAt budgetAt belongs sizeOf usedOf bucketsOf
-  next-moved l a e = rw (← f, lt-ltb b (s .«old_size») l) e
+  unfolding movedFrom chainAt headAt budgetAt belongs sizeOf usedOf bucketsOf
+  next-filled b e a h = rw (← f, e) h
 
 -- ---- a step in a sound state
 
@@ -116,39 +145,50 @@ module _ (s : State) (current other entries : List ℕ) where
   step-resting p = rw p
 
   pub step-finished : s .rehashing ≡ true → s .«old_used» ≡ 0
-      → After.after (stepAnswer s Progress.Finished) current other entries ≡ stepped s current other entries (s .rehashing)
+      → After.after (stepAnswer s (Progress.Moved 0 (s .«rehash_index»))) current other entries
+      ≡ stepped s current other entries (s .rehashing)
   unfolding stepped stepAnswer
   step-finished p z = rw (p, eq-eqb (s .«old_used») 0 z)
 
   pub step-moved : (a : After StepAnswer) → s .rehashing ≡ true → (s .«old_used» ≡ 0 → ⊥)
-      → a ≡ movedFrom s current other entries (firstFilled current (s .«rehash_index») (s .«old_size» - s .«rehash_index»))
+      → a ≡ movedFrom s current other entries (aheadOf s current)
       → a ≡ stepped s current other entries (s .rehashing)
   unfolding stepped
   step-moved a p z d = (rw (ne-eqb (s .«old_used») 0 z) d) ∙ ap (stepped s current other entries) (sym p)
+
+-- ---- the state then
+
+module _ (s : State) (count next : ℕ) where
+  pub settled-end : count ≡ s .«old_used» → finished (advanced s count next) ≡ settled (advanced s count next)
+  unfolding settled advanced retabled stateOf oldNew
+  settled-end e = let none-left : s .«old_used» - count ≡ 0 = omega arith in rw (eq-eqb (s .«old_used» - count) 0 none-left)
+
+  pub settled-on : count ≤ s .«old_used» → (count ≡ s .«old_used» → ⊥) → advanced s count next ≡ settled (advanced s count next)
+  unfolding settled advanced retabled stateOf oldNew
+  settled-on l f =
+      let some-left : s .«old_used» - count ≡ 0 → ⊥ = λ e. f (omega arith) in rw (ne-eqb (s .«old_used» - count) 0 some-left)
 
 -- ---- the answer, once it is known what happened
 
 module _ (s : State) (m : Progress) (x y e : List ℕ) (meant : After StepAnswer)
     (d : After.after (stepAnswer s m) x y e ≡ meant) where
-  pub answered : (p : Progress) (a : StepAnswer) → m ≡ p → a ≡ stepAnswer s p → After.after a x y e ≡ meant
-  answered p a h k = rw (k, ← h) d
-
-  -- (the bucket and the count shown, for the state that is made of them)
-  pub answered-past : (b count : ℕ) → m ≡ Progress.Past b count
-      → After.after (StepAnswer.Stepped count (steppedPast s b count)) x y e ≡ meant
+  pub answered-refused : (error : Error) → m ≡ Progress.Refused error
+      → After.after (StepAnswer.Refused error) x y e ≡ meant
   unfolding stepAnswer
-  answered-past b count h = answered (Progress.Past b count) (StepAnswer.Stepped count (steppedPast s b count)) h refl
+  answered-refused error h = rw (← d, h)
 
-module _ (s : State) (m : Progress) (b count : ℕ) (h : m ≡ Progress.Past b count) (r : stepRoom s m) where
-  past-room : (count ≤ s .«old_used») × (s .«new_used» + count ≤ s .capacity) × (b < s .«old_size»)
+  pub answered-moved : (count next : ℕ) (t : State) → m ≡ Progress.Moved count next → t ≡ settled (advanced s count next)
+      → After.after (StepAnswer.Stepped count t) x y e ≡ meant
+  unfolding stepAnswer stepDone
+  answered-moved count next t h k = rw (← d, h, k)
+
+module _ (s : State) (m : Progress) (count next : ℕ) (h : m ≡ Progress.Moved count next) (r : stepRoom s m) where
+  moved-room : (count ≤ s .«old_used») × (s .«new_used» + count ≤ s .capacity)
   unfolding stepRoom
-  past-room = rw h at r
+  moved-room = rw h at r
 
-  pub past-old : count ≤ s .«old_used»
-  past-old = past-room .0
+  pub moved-old : count ≤ s .«old_used»
+  moved-old = moved-room .0
 
-  pub past-new : Fits w32 (s .capacity) → Fits w32 (s .«new_used» + count)
-  past-new f = let r = past-room .1 in omega arith
-
-  pub past-index : Fits w32 (s .«old_size») → Fits w32 (b + 1)
-  past-index f = let r = past-room .2 in omega arith
+  pub moved-new : s .«new_used» + count ≤ s .capacity
+  moved-new = moved-room .1

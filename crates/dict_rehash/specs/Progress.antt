@@ -1,39 +1,30 @@
 -- The answer of a rehash step, from what happened to the buffers.
-use Prim.Native.Nat.{ℕ, _+_, _<_, _≤_}
+use Prim.Native.Nat.{ℕ, _+_, _≤_}
 use mathlib.Core.Path.{_≡_}
 use mathlib.Core.List.{List}
-use mathlib.Core.Bool.{cond}
-use mathlib.Core.Option.{Option, none, some}
-use lib.Dec.{ltb}
+use mathlib.Core.Option.{Option}
 use lib.ListN.{length}
 use Rattle.model.specs.declared.State.{State}
 use Rattle.model.specs.declared.StepAnswer.{StepAnswer}
 use Rattle.model.specs.Keys.{bucketOf}
 use Rattle.model.specs.Memory.{linkOf, keyOf}
-use Rattle.model.specs.Calls.{Chains, push, moved, finished, steppedPast}
+use Rattle.model.specs.Calls.{Chains, push, moved, stepDone}
 use Rattle.model.proofs.Linked.{Linked, room}
 use Rattle.memory.specs.Length.{bucketChain}
 use Rattle.dict_rehash.specs.declared.rehash.Progress.{Progress}
 
 unfoldable pub stepAnswer : State → Progress → StepAnswer
 stepAnswer s (Progress.Refused e) = StepAnswer.Refused e
-stepAnswer s Progress.Finished = StepAnswer.Stepped 0 (finished s)
-stepAnswer s (Progress.Past b count) = StepAnswer.Stepped count (steppedPast s b count)
+stepAnswer s (Progress.Moved count next) = stepDone s count next
 
--- the counts and the index that change stay in range
+-- the counts that change stay in range
 unfoldable pub stepRoom : State → Progress → Type 0
 stepRoom s (Progress.Refused e) = Unit {0}
-stepRoom s Progress.Finished = Unit {0}
-stepRoom s (Progress.Past b count) =
-    (count ≤ s .«old_used») × (s .«new_used» + count ≤ s .capacity) × (b < s .«old_size»)
+stepRoom s (Progress.Moved count next) = (count ≤ s .«old_used») × (s .«new_used» + count ≤ s .capacity)
 
 -- the chain of bucket b of the old table
 abbrev pub oldChain : State → List ℕ → List ℕ → ℕ → Option (List ℕ)
 oldChain s current entries b = bucketChain (s .«old_size») entries (s .capacity) (s .«old_used») current b
-
--- the first filled bucket as the code names it: the size where there is none
-unfoldable pub filledAt : ℕ → ℕ → Option ℕ
-filledAt size b = cond (ltb b size) (some b) none
 
 abbrev pub chains : List ℕ → List ℕ → Chains
 chains buckets entries = record { buckets = buckets; entries = entries }

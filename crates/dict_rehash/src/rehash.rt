@@ -6,43 +6,51 @@ use memory::entry::link_of;
 use memory::entry::set_link;
 use memory::state::bucket_index;
 use memory::state::is_sound;
+use model::Ahead;
+use model::EMPTY_VISITS;
 use model::Error;
 use model::State;
 use model::StepAnswer;
 ghost use mathlib.Core.Path.{_≡_};
 ghost use mathlib.Core.Bool.{true};
-ghost use Prim.Native.Nat.{_-_, _*_, _≤_, _<_};
+ghost use Prim.Native.Nat.{_+_, _-_, _*_, _≤_, _<_};
 ghost use lib.ListN.{length};
 ghost use Rattle.model.specs.declared.Error.the-variants as why;
 ghost use Rattle.model.specs.declared.StepAnswer.the-variants as answer;
-ghost use Rattle.model.specs.Limits.{legalSize};
+ghost use Rattle.model.specs.Limits.{legalSize, emptyVisits};
 ghost use Rattle.model.specs.Calls as calls;
 ghost use Rattle.model.specs.Calls.After.{after};
 ghost use Rattle.model.proofs.Soundness.{Sound};
-ghost use Rattle.dict_rehash.specs.Progress.{stepAnswer, stepRoom, oldChain, filledAt, chains, ChainOf, ChainMoved, EntryMoved};
+ghost use Rattle.dict_rehash.specs.Progress.{stepAnswer, stepRoom, oldChain, chains, ChainOf, ChainMoved, EntryMoved};
 
 // What happened to the buffers, in numbers: the public call makes the answer of it.
 enum Progress {
     Refused(Error),
-    // The old table holds no keys.
-    Finished,
-    // The chain of this bucket of the old table has moved, of that many entries.
-    Past(u32, u32),
+    // So many keys have moved, and this bucket is the next one.
+    Moved(u32, u32),
 }
 
-// The first filled bucket from that one on, or the size where there is none.
-fn first_filled(buckets: &[u32], from: u32, size: u32) -> u32
+// What comes from that bucket on in a table of that size: a step passes only so many empty buckets, and must then see one
+// more, filled or not, before the table's end.
+fn look_ahead(buckets: &[u32], from: u32, size: u32) -> Ahead
     requires { ⌜ (from ≤ size) × (size ≤ length (now buckets)) ⌝ }
-    ensures { λ r. ⌜ filledAt size r ≡ calls.firstFilled (now (buckets .entry)) from (size - from) ⌝ }
+    ensures { λ r. ⌜ r ≡ calls.ahead (now (buckets .entry)) from (size - from) emptyVisits ⌝ }
 {
     let mut b = from;
-    while b < size {
+    for _ in 0..EMPTY_VISITS {
+        if b >= size {
+            return Ahead::End;
+        }
         if buckets[b as usize] != 0 {
-            return b;
+            return Ahead::Filled(b);
         }
         b += 1;
     }
-    b
+    if b < size {
+        Ahead::Empty(b)
+    } else {
+        Ahead::End
+    }
 }
 
 // An entry to the head of its bucket in a table of that size; the answer is the next entry of the chain that it leaves.
@@ -98,26 +106,26 @@ fn move_bucket(
         ChainLength::Sound(count) => {
             move_chain(other, entries, s.new_size, head, count);
             current[index] = 0;
-            Progress::Past(b, count)
+            Progress::Moved(count, b + 1)
         }
     }
 }
 
-// The first filled bucket from the next one on is the one that moves. The old table holds keys, so if there is none it is
-// damaged.
+// The first filled bucket from the next one on is the one that moves, unless more empty ones come first than a step passes.
+// The old table holds keys, so if its end comes first it is damaged.
 fn move_next(current: &mut [u32], other: &mut [u32], entries: &mut [u32], s: State) -> Progress
     requires { ⌜ Sound s (length (now current)) (length (now other)) (length (now entries)) ⌝ }
     requires { ⌜ s .rehashing ≡ true ⌝ }
     ensures { λ r. ⌜ after (stepAnswer s r) (now (current .exit)) (now (other .exit)) (now (entries .exit))
         ≡ calls.movedFrom s (now (current .entry)) (now (other .entry)) (now (entries .entry))
-        (calls.firstFilled (now (current .entry)) (s .«rehash_index») (s .«old_size» - s .«rehash_index»)) ⌝ }
+        (calls.aheadOf s (now (current .entry))) ⌝ }
     ensures { λ r. ⌜ stepRoom s r ⌝ }
 {
-    let b = first_filled(current, s.rehash_index, s.old_size);
-    if b < s.old_size {
-        move_bucket(current, other, entries, s, b)
-    } else {
-        Progress::Refused(Error::Damaged)
+    let ahead = look_ahead(current, s.rehash_index, s.old_size);
+    match ahead {
+        Ahead::Filled(b) => move_bucket(current, other, entries, s, b),
+        Ahead::Empty(b) => Progress::Moved(0, b),
+        Ahead::End => Progress::Refused(Error::Damaged),
     }
 }
 
@@ -131,7 +139,7 @@ fn step_in(current: &mut [u32], other: &mut [u32], entries: &mut [u32], s: State
     if is_sound(current.len(), other.len(), entries.len(), s) {
         if s.rehashing {
             if s.old_used == 0 {
-                Progress::Finished
+                Progress::Moved(0, s.rehash_index)
             } else {
                 move_next(current, other, entries, s)
             }
@@ -156,7 +164,32 @@ fn step_oriented(first: &mut [u32], second: &mut [u32], entries: &mut [u32], s: 
     }
 }
 
-// Moves the chain of one bucket of the old table, or ends the rehash once that table holds no keys.
+// The state once so many keys have moved, and that bucket is the next one. With no keys left in the old table the rehash is
+// over: the new table becomes the only one.
+fn state_after(s: State, count: u32, next: u32) -> State
+    requires { ⌜ (count ≤ s .«old_used») × (s .«new_used» + count ≤ s .capacity) ⌝ }
+    ensures { λ r. ⌜ r ≡ calls.settled (calls.advanced s count next) ⌝ }
+{
+    let mut n = s;
+    let new_used = s.new_used + count;
+    if count == s.old_used {
+        n.second_is_current = !s.second_is_current;
+        n.old_size = s.new_size;
+        n.new_size = 0;
+        n.old_used = new_used;
+        n.new_used = 0;
+        n.rehashing = false;
+        n.rehash_index = 0;
+    } else {
+        n.old_used = s.old_used - count;
+        n.new_used = new_used;
+        n.rehashing = true;
+        n.rehash_index = next;
+    }
+    n
+}
+
+// Moves the chain of one bucket of the old table, or passes empty ones, and ends the rehash once that table holds no keys.
 pub fn rehash_step(
     first: &mut [u32],
     second: &mut [u32],
@@ -169,24 +202,6 @@ pub fn rehash_step(
     let progress = step_oriented(first, second, entries, s);
     match progress {
         Progress::Refused(e) => StepAnswer::Refused(e),
-        Progress::Finished => {
-            let mut n = s;
-            n.second_is_current = !s.second_is_current;
-            n.old_size = s.new_size;
-            n.new_size = 0;
-            n.old_used = s.new_used;
-            n.new_used = 0;
-            n.rehashing = false;
-            n.rehash_index = 0;
-            StepAnswer::Stepped(0, n)
-        }
-        Progress::Past(b, count) => {
-            let mut n = s;
-            n.old_used = s.old_used - count;
-            n.new_used = s.new_used + count;
-            n.rehashing = true;
-            n.rehash_index = b + 1;
-            StepAnswer::Stepped(count, n)
-        }
+        Progress::Moved(count, next) => StepAnswer::Stepped(count, state_after(s, count, next)),
     }
 }

@@ -1,6 +1,6 @@
 -- What the calls answer in a store of a shape, each as the one case of its definition that is left.
 -- Assumes nothing.
-use Prim.Native.Nat.{ℕ, _+_, _-_}
+use Prim.Native.Nat.{ℕ, _+_, _<_}
 use mathlib.Core.Path.{_≡_, ap, _∙_}
 use mathlib.Core.Logic.{_≢_}
 use mathlib.Core.Bool.{Bool, true, false, cond}
@@ -13,16 +13,17 @@ use Rattle.model.specs.declared.State.{State}
 use Rattle.model.specs.declared.Table.{Table}
 use Rattle.model.specs.declared.Error.{Error}
 use Rattle.model.specs.declared.Lookup.{Lookup}
+use Rattle.model.specs.declared.Ahead.{Ahead}
 use Rattle.model.specs.declared.FindAnswer.{FindAnswer}
 use Rattle.model.specs.declared.UpdateAnswer.{UpdateAnswer}
 use Rattle.model.specs.declared.AddAnswer.{AddAnswer}
 use Rattle.model.specs.declared.DeleteAnswer.{DeleteAnswer}
 use Rattle.model.specs.declared.StepAnswer.{StepAnswer}
 use Rattle.model.specs.Memory.{Place, Live, keysHeld, sizeOf, keyOf, valueOf, setValue, chainAt}
-use Rattle.model.specs.Calls.{After, lookup, held, found, updated, takeable, target, pushed, added, removed, deleted, firstFilled, finished, movedChain, movedFrom, stepped}
+use Rattle.model.specs.Calls.{After, lookup, held, found, updated, takeable, target, pushed, added, removed, deleted, stepDone, movedChain, movedFrom, aheadOf, stepped}
 use Rattle.invariant.proofs.Shape.{IsBucket, Shape}
 use Rattle.invariant.proofs.ToUndamaged.{chain-at}
-use Rattle.invariant.proofs.FirstEntries.{FilledFirst, free-taken}
+use Rattle.invariant.proofs.FirstEntries.{free-taken}
 use Rattle.invariant.proofs.Lookups.{FoundAt, NotHeld, found-at, lookup-held, lookup-none}
 
 module _ {s : State} {current other entries : List ℕ} (h : Shape s current other entries) where
@@ -108,15 +109,15 @@ module _ {s : State} {current other entries : List ℕ} (h : Shape s current oth
 
   step-rehashing : (empty : Bool) → s .rehashing ≡ true → eqb (s .«old_used») 0 ≡ empty
       → stepped s current other entries (s .rehashing)
-      ≡ cond empty (After.after (StepAnswer.Stepped 0 (finished s)) current other entries)
-      (movedFrom s current other entries (firstFilled current (s .«rehash_index») (s .«old_size» - s .«rehash_index»)))
+      ≡ cond empty (After.after (stepDone s 0 (s .«rehash_index»)) current other entries)
+      (movedFrom s current other entries (aheadOf s current))
   unfolding stepped
   step-rehashing empty t e =
       ap (stepped s current other entries) t
       ∙ ap
       (λ (f : Bool).
-      cond f (After.after (StepAnswer.Stepped 0 (finished s)) current other entries)
-      (movedFrom s current other entries (firstFilled current (s .«rehash_index») (s .«old_size» - s .«rehash_index»))))
+      cond f (After.after (stepDone s 0 (s .«rehash_index»)) current other entries)
+      (movedFrom s current other entries (aheadOf s current)))
       e
 
   -- with no rehash it is refused
@@ -126,18 +127,26 @@ module _ {s : State} {current other entries : List ℕ} (h : Shape s current oth
   unfolding stepped
   step-none f = ap (stepped s current other entries) f
 
-  -- with no keys in the old table it ends the rehash
-  pub step-finishes : s .rehashing ≡ true → s .«old_used» ≡ 0
+  -- with no keys in the old table it moves none
+  pub step-idle : s .rehashing ≡ true → s .«old_used» ≡ 0
       → stepped s current other entries (s .rehashing)
-      ≡ After.after (StepAnswer.Stepped 0 (finished s)) current other entries
-  step-finishes t e = step-rehashing true t (eq-eqb (s .«old_used») 0 e)
+      ≡ After.after (stepDone s 0 (s .«rehash_index»)) current other entries
+  step-idle t e = step-rehashing true t (eq-eqb (s .«old_used») 0 e)
 
-  -- else it moves the chain of the first filled bucket
-  pub step-moves : s .rehashing ≡ true → s .«old_used» ≢ 0 → (b : ℕ) → FilledFirst h b
-      → stepped s current other entries (s .rehashing)
-      ≡ movedChain s current other entries b (some (h .at (Place.bucket Table.Old b)))
-  unfolding movedFrom Live sizeOf
-  step-moves t f b first =
-      step-rehashing false t (ne-eqb (s .«old_used») 0 f)
-      ∙ ap (movedFrom s current other entries) (first .is-first)
-      ∙ ap (movedChain s current other entries b) (chain-at h (Place.bucket Table.Old b) (first .live))
+  module _ (t : s .rehashing ≡ true) (f : s .«old_used» ≢ 0) (b : ℕ) where
+    -- else it goes by what comes: with as many empty buckets as it passes it moves none either
+    pub step-passes : aheadOf s current ≡ Ahead.Empty b
+        → stepped s current other entries (s .rehashing) ≡ After.after (stepDone s 0 b) current other entries
+    unfolding movedFrom
+    step-passes e =
+        step-rehashing false t (ne-eqb (s .«old_used») 0 f) ∙ ap (movedFrom s current other entries) e
+
+    -- and it moves the chain of the first filled bucket
+    pub step-moves : aheadOf s current ≡ Ahead.Filled b → b < s .«old_size»
+        → stepped s current other entries (s .rehashing)
+        ≡ movedChain s current other entries b (some (h .at (Place.bucket Table.Old b)))
+    unfolding movedFrom Live sizeOf
+    step-moves e live =
+        step-rehashing false t (ne-eqb (s .«old_used») 0 f)
+        ∙ ap (movedFrom s current other entries) e
+        ∙ ap (movedChain s current other entries b) (chain-at h (Place.bucket Table.Old b) live)

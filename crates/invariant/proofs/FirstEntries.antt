@@ -1,11 +1,10 @@
--- The first free entry, which add takes, and the first filled bucket of the old table, which a step moves.
+-- The first free entry, which add takes, and what a step meets in the old table.
 -- Assumes nothing.
 use Prim.Native.Nat.{ℕ, zero, suc, _+_, _-_, _<_, _≤_}
 use mathlib.Core.Path.{_≡_, refl, sym, ap, subst, _∙_}
 use mathlib.Core.Logic.{_≢_}
 use mathlib.Core.Bool.{Bool, true, false, cond, not, _&&_}
 use mathlib.Core.List.{List, [], _∷_}
-use mathlib.Core.Option.{Option, none, some}
 use native.Mathlib.Decide.{decLt}
 use native.Mathlib.Omega.{arith}
 use lib.ListN.{length, getD}
@@ -13,57 +12,74 @@ use lib.Dec.{eqb, leb}
 use borrow.Author.Tests.{eqb-true, eqb-false, le-leb, ne-eqb}
 use Rattle.model.specs.declared.State.{State}
 use Rattle.model.specs.declared.Table.{Table}
+use Rattle.model.specs.declared.Ahead.{Ahead}
+use Rattle.model.specs.Limits.{emptyVisits}
 use Rattle.model.specs.Memory.{Place, Live, sizeOf, usedOf, bucketsOf, headAt, linkOf}
-use Rattle.model.specs.Calls.{firstFilled, takeable}
+use Rattle.model.specs.Calls.{takeable, ahead, aheadOf}
 use Rattle.model.proofs.Linked.{Linked, linked-head, linked-empty, linked-filled}
 use Rattle.invariant.proofs.Lists.{no-length}
 use Rattle.invariant.proofs.Sums.{term-in-sum, sum-zero}
 use Rattle.invariant.proofs.Shape.{Shape, facts}
 
--- the first filled bucket of the old table: the buckets before it are empty
-pub record FilledFirst {s : State} {current other entries : List ℕ} (h : Shape s current other entries) (b : ℕ) : Type 0 where
-  pub is-first : firstFilled current (s .«rehash_index») (s .«old_size» - s .«rehash_index») ≡ some b
+-- a bucket of the old table before which every other is empty
+pub record EmptyBefore {s : State} {current other entries : List ℕ} (h : Shape s current other entries) (b : ℕ) : Type 0 where
   pub live : b < s .«old_size»
-  pub filled : h .at (Place.bucket Table.Old b) ≢ []
-  pub empty-before : (c : ℕ) → c < b → h .at (Place.bucket Table.Old c) ≡ []
+  pub empty : (c : ℕ) → c < b → h .at (Place.bucket Table.Old c) ≡ []
+
+-- what a step meets: the first filled bucket, or one behind as many empty buckets as it passes
+pub data Meets {s : State} {current other entries : List ℕ} (h : Shape s current other entries) : Type 0 where
+  filled : (b : ℕ) → aheadOf s current ≡ Ahead.Filled b → EmptyBefore h b → h .at (Place.bucket Table.Old b) ≢ []
+      → b < s .«rehash_index» + emptyVisits → Meets h
+  passed : (b : ℕ) → aheadOf s current ≡ Ahead.Empty b → EmptyBefore h b → b ≡ s .«rehash_index» + emptyVisits → Meets h
 
 -- add's tests of the first free entry
 tests : (head link capacity : ℕ) → 0 < head → link ≤ capacity → (not (eqb head 0) && leb link capacity) ≡ true
 tests head link capacity z l = rw (ne-eqb head 0 (omega arith), le-leb link capacity l)
 
--- The search for a filled bucket from b on, up to an end: the first one, or that none is filled.
+-- What comes from bucket b on, up to an end, of which a step passes at most so many empty ones.
 
-unfoldable pub AllBefore : List ℕ → ℕ → ℕ → Type 0
-AllBefore buckets b end = (c : ℕ) → b ≤ c → c < end → getD buckets c 0 ≡ 0
+unfoldable pub AllEmpty : List ℕ → ℕ → ℕ → Type 0
+AllEmpty buckets b end = (c : ℕ) → b ≤ c → c < end → getD buckets c 0 ≡ 0
 
-unfoldable pub Filled : List ℕ → ℕ → ℕ → Option ℕ → Type 0
-Filled buckets b end none = AllBefore buckets b end
-Filled buckets b end (some f) = (b ≤ f) × (f < end) × (getD buckets f 0 ≢ 0) × AllBefore buckets b f
+unfoldable pub Comes : List ℕ → ℕ → ℕ → ℕ → Ahead → Type 0
+Comes buckets b end passes (Ahead.Filled f) =
+    (b ≤ f) × (f < end) × (f < b + passes) × (getD buckets f 0 ≢ 0) × AllEmpty buckets b f
+Comes buckets b end passes (Ahead.Empty f) = (f ≡ b + passes) × (f < end) × AllEmpty buckets b f
+Comes buckets b end passes Ahead.End = (end ≤ b + passes) × AllEmpty buckets b end
 
 module _ (buckets : List ℕ) where
+  -- none
+  none-empty : (b end : ℕ) → end ≤ b → AllEmpty buckets b end
+  unfolding AllEmpty
+  none-empty b end l c from below = absurd (omega arith)
+
   -- one bucket more in front, which is empty
-  empty-behind : (b end : ℕ) → getD buckets b 0 ≡ 0 → AllBefore buckets (suc b) end → AllBefore buckets b end
-  unfolding AllBefore
-  empty-behind b end z h c from below =
+  one-more : (b end : ℕ) → getD buckets b 0 ≡ 0 → AllEmpty buckets (suc b) end → AllEmpty buckets b end
+  unfolding AllEmpty
+  one-more b end z h c from below =
       elim (decLt b c) [ yes l ↦ h c l below | no l ↦ subst (λ (i : ℕ). getD buckets i 0 ≡ 0) (omega arith) z ]
 
-  filled-behind : (b end : ℕ) (r : Option ℕ) → getD buckets b 0 ≡ 0 → Filled buckets (suc b) end r → Filled buckets b end r
-  unfolding Filled
-  filled-behind b end none z h = empty-behind b end z h
-  filled-behind b end (some f) z (from, below, filled, before) = (omega arith, below, filled, empty-behind b f z before)
+  comes-behind : (b end passes : ℕ) (r : Ahead) → getD buckets b 0 ≡ 0 → Comes buckets (suc b) end passes r
+      → Comes buckets b end (suc passes) r
+  unfolding Comes
+  comes-behind b end passes (Ahead.Filled f) z (from, below, reach, some-there, before) =
+      (omega arith, below, omega arith, some-there, one-more b f z before)
+  comes-behind b end passes (Ahead.Empty f) z (is, below, before) = (omega arith, below, one-more b f z before)
+  comes-behind b end passes Ahead.End z (reach, before) = (omega arith, one-more b end z before)
 
-  pub search-filled : (b left end : ℕ) → b + left ≡ end → Filled buckets b end (firstFilled buckets b left)
-  unfolding AllBefore Filled firstFilled
-  search-filled b zero end e = λ c from below. absurd (omega arith)
-  search-filled b (suc left) end e =
-      pick (eqb (getD buckets b 0) 0) refl (search-filled (suc b) left end (omega arith))
+  pub ahead-comes : (b left passes end : ℕ) → b + left ≡ end → Comes buckets b end passes (ahead buckets b left passes)
+  unfolding Comes ahead
+  ahead-comes b zero passes end e = (omega arith, none-empty b end (omega arith))
+  ahead-comes b (suc left) zero end e = (omega arith, omega arith, none-empty b b (omega arith))
+  ahead-comes b (suc left) (suc passes) end e =
+      pick (eqb (getD buckets b 0) 0) refl (ahead-comes (suc b) left passes end (omega arith))
     where
-      pick : (t : Bool) → eqb (getD buckets b 0) 0 ≡ t → Filled buckets (suc b) end (firstFilled buckets (suc b) left)
-          → Filled buckets b end (cond t (firstFilled buckets (suc b) left) (some b))
+      pick : (t : Bool) → eqb (getD buckets b 0) 0 ≡ t → Comes buckets (suc b) end passes (ahead buckets (suc b) left passes)
+          → Comes buckets b end (suc passes) (cond t (ahead buckets (suc b) left passes) (Ahead.Filled b))
       pick true z h =
-          filled-behind b end (firstFilled buckets (suc b) left) (eqb-true (getD buckets b 0) 0 z) h
+          comes-behind b end passes (ahead buckets (suc b) left passes) (eqb-true (getD buckets b 0) 0 z) h
       pick false z h =
-          (omega arith, omega arith, eqb-false (getD buckets b 0) 0 z, λ c from below. absurd (omega arith))
+          (omega arith, omega arith, omega arith, eqb-false (getD buckets b 0) 0 z, none-empty b b (omega arith))
 
 module _ {s : State} {current other entries : List ℕ} (h : Shape s current other entries) where
   -- a store that is not full has a first free entry, which can be taken
@@ -97,18 +113,18 @@ module _ {s : State} {current other entries : List ℕ} (h : Shape s current oth
       no-length (h .at (Place.bucket Table.Old b))
       (omega (arith, h .counts Table.Old, term-in-sum (λ i. length (h .at (Place.bucket Table.Old i))) (s .«old_size») b l))
 
-  -- during a rehash, with keys in the old table, a step finds the first filled bucket
-  pub first-filled : s .rehashing ≡ true → s .«old_used» ≢ 0 → (b : ℕ) × FilledFirst h b
-  unfolding headAt bucketsOf sizeOf usedOf Live AllBefore Filled
-  first-filled t f =
-      pick (firstFilled current (s .«rehash_index») (s .«old_size» - s .«rehash_index»)) refl
-      (search-filled current (s .«rehash_index») (s .«old_size» - s .«rehash_index») (s .«old_size») (omega (arith, fits)))
+  -- during a rehash, with keys in the old table, a step does not meet the table's end
+  pub step-meets : s .rehashing ≡ true → s .«old_used» ≢ 0 → Meets h
+  unfolding headAt bucketsOf sizeOf usedOf Live AllEmpty Comes aheadOf
+  step-meets t f =
+      pick (aheadOf s current) refl
+      (ahead-comes current (s .«rehash_index») (s .«old_size» - s .«rehash_index») emptyVisits (s .«old_size») (omega (arith, fits)))
     where
       fits : s .«rehash_index» ≤ s .«old_size»
       fits = facts h .rehashing t .index-fits
 
-      -- the buckets passed are empty, and those from there up to an end
-      empty : (end : ℕ) → end ≤ s .«old_size» → AllBefore current (s .«rehash_index») end → (c : ℕ) → c < end
+      -- the buckets passed before are empty, and those from there up to an end
+      empty : (end : ℕ) → end ≤ s .«old_size» → AllEmpty current (s .«rehash_index») end → (c : ℕ) → c < end
           → h .at (Place.bucket Table.Old c) ≡ []
       empty end e z c l =
           elim (decLt c (s .«rehash_index»)) [
@@ -116,18 +132,13 @@ module _ {s : State} {current other entries : List ℕ} (h : Shape s current oth
             | no p ↦ empty-at (Place.bucket Table.Old c) (omega arith) (z c (omega arith) l)
           ]
 
-      pick : (r : Option ℕ) → firstFilled current (s .«rehash_index») (s .«old_size» - s .«rehash_index») ≡ r
-          → Filled current (s .«rehash_index») (s .«old_size») r → (b : ℕ) × FilledFirst h b
-      pick none e z =
+      pick : (r : Ahead) → aheadOf s current ≡ r → Comes current (s .«rehash_index») (s .«old_size») emptyVisits r → Meets h
+      pick Ahead.End e (reach, z) =
           let all = empty (s .«old_size») (omega arith) z in
           absurd
           (f (h .counts Table.Old ∙ sum-zero (λ b. length (h .at (Place.bucket Table.Old b))) (s .«old_size») (λ b l. ap length (all b l))))
-      pick (some b) e (from, below, filled, before) = (
-        b,
-        record {
-          is-first = e;
-          live = below;
-          filled = filled-at (Place.bucket Table.Old b) below filled;
-          empty-before = empty b (omega arith) before;
-        },
-      )
+      pick (Ahead.Empty b) e (is, below, before) =
+          Meets.passed b e (record { live = below; empty = empty b (omega arith) before }) is
+      pick (Ahead.Filled b) e (from, below, reach, some-there, before) =
+          Meets.filled b e (record { live = below; empty = empty b (omega arith) before })
+          (filled-at (Place.bucket Table.Old b) below some-there) reach

@@ -6,18 +6,16 @@ use mathlib.Core.Path.{_≡_, refl, sym, ap, subst, subst₃, _∙_}
 use mathlib.Core.Logic.{_⊎_, inl, inr}
 use mathlib.Core.Bool.{true}
 use mathlib.Core.List.{List, [], _∷_}
-use mathlib.Core.Option.{some}
 use native.Mathlib.Omega.{arith}
 use native.Mathlib.Decide.{ℕ-discrete}
 use lib.ListN.{length, getD, set}
 use lib.Seq.{getD-set-same, getD-set-other, set-set, set-getD}
 use Rattle.cursor.specs.Member.{In}
 use Rattle.model.specs.declared.State.{State}
-use Rattle.model.specs.declared.StepAnswer.{StepAnswer}
 use Rattle.model.specs.Keys.{bucketOf}
 use Rattle.model.specs.declared.Table.{Table}
 use Rattle.model.specs.Memory.{Place, Live, headAt, sizeOf, usedOf, bucketsOf, keysHeld, keyPlace, linkOf, keyOf, valueOf, setLink, sum}
-use Rattle.model.specs.Calls.{Chains, push, moved, movedChain, stateOf, oldNew, recounted, retabled, steppedPast}
+use Rattle.model.specs.Calls.{After, Chains, push, moved, stateOf, oldNew, recounted, retabled, advanced}
 use Rattle.model.proofs.Linked.{Linked}
 use Rattle.invariant.proofs.Sums.{term-in-sum}
 use Rattle.invariant.proofs.Shape.{Home, IsBucket, Shape, facts}
@@ -122,7 +120,7 @@ goesTo : State → List ℕ → ℕ → Place
 goesTo s entries n = Place.bucket Table.New (bucketOf (keyOf entries n) (s .«new_size»))
 
 -- the new table and the entries, once some entries have moved
-abbrev after : State → List ℕ → List ℕ → List ℕ → Chains
+abbrev pub after : State → List ℕ → List ℕ → List ℕ → Chains
 after s other entries ns = moved (s .«new_size») ns (record { buckets = other; entries = entries })
 
 -- the same sizes
@@ -177,66 +175,69 @@ moved-keeps size (n ∷ ns) m k =
     let (keys, values) = moved-keeps size ns (push c n m) k in
     (keys ∙ key-set-link (m .entries) n k (getD (m .buckets) c 0), values ∙ value-set-link (m .entries) n k (getD (m .buckets) c 0))
 
--- The rehash goes on from bucket i: every bucket before it is empty.
+-- The rehash goes on from bucket i, with the same counts: every bucket before it is empty.
 
-abbrev reindexed : State → ℕ → State
-reindexed s i = retabled s (s .«second_is_current») (sizeOf s) (usedOf s) true i
+module _ (s : State) (used : Table → ℕ) (same-used : (t : Table) → used t ≡ usedOf s t) (i : ℕ) where
+  abbrev reindexed : State
+  reindexed = retabled s (s .«second_is_current») (sizeOf s) used true i
 
-module _ (s : State) (i : ℕ) where
-  same-head : (current other : List ℕ) (t : Place) → headAt s current other t ≡ headAt (reindexed s i) current other t
+  same-head : (current other : List ℕ) (t : Place) → headAt s current other t ≡ headAt reindexed current other t
   unfolding headAt retabled stateOf
   same-head current other Place.free = refl
   same-head current other (Place.bucket t b) = refl
 
-  kept-size : (t : Table) → sizeOf (reindexed s i) t ≡ sizeOf s t
+  kept-size : (t : Table) → sizeOf reindexed t ≡ sizeOf s t
   unfolding retabled stateOf sizeOf
   kept-size Table.Old = refl
   kept-size Table.New = refl
 
-  kept-used : (t : Table) → usedOf (reindexed s i) t ≡ usedOf s t
+  kept-used : (t : Table) → usedOf reindexed t ≡ usedOf s t
   unfolding retabled stateOf usedOf
-  kept-used Table.Old = refl
-  kept-used Table.New = refl
+  kept-used Table.Old = same-used Table.Old
+  kept-used Table.New = same-used Table.New
 
-reindex : {s : State} {current other entries : List ℕ} → Shape s current other entries → s .rehashing ≡ true → (i : ℕ)
-    → i ≤ s .«old_size» → ((a : ℕ) → a < i → getD current a 0 ≡ 0) → Shape (reindexed s i) current other entries
-unfolding retabled stateOf sizeOf usedOf
-reindex {s} {current} {other} {entries} shape rehashing i fits empty =
-    let s' = reindexed s i in
-    let state = facts shape in
-    let before = state .rehashing rehashing in
-    let to = live-kept s s' (kept-size s i) in
-    let back = live-kept s' s (λ t. sym (kept-size s i t)) in
-    record {
-      state-sound =
-          sound-again s' current other entries state refl refl (state .old-legal) (state .old-fits)
-          (state .used-fits) (state .free-fits)
-          (λ e.
-          record {
-            new-legal = before .new-legal;
-            new-fits = before .new-fits;
-            sizes-differ = before .sizes-differ;
-            index-fits = fits;
-          })
-          (λ e. let z : _≡_ {A = ℕ} 0 1 = cc in absurd (omega arith));
-      at = shape .at;
-      linked =
-          λ t l.
-          subst (λ (k : ℕ). Linked entries (s .capacity) k (shape .at t)) (same-head s i current other t)
-          (shape .linked t (back t l));
-      owner = shape .owner;
-      owned = λ n h k. let (live, there) = shape .owned n h k in (to (shape .owner n) live, there);
-      owns = λ n t l. shape .owns n t (back t l);
-      home = λ n t l h. home-kept s s' (kept-size s i) (keyOf entries n) t (shape .home n t (back t l) h);
-      keys-distinct = λ n k t u l l'. shape .keys-distinct n k t u (back t l) (back u l');
-      passed-empty = empty;
-      counts =
-          λ t.
-          kept-used s i t
-          ∙ shape .counts t
-          ∙ ap (sum (λ b. length (shape .at (Place.bucket t b)))) (sym (kept-size s i t));
-      free-count = shape .free-count;
-    }
+  kept-keys : used Table.Old + used Table.New ≡ s .«old_used» + s .«new_used»
+  unfolding usedOf
+  kept-keys = omega (arith, same-used Table.Old, same-used Table.New)
+
+  reindex : {current other entries : List ℕ} → Shape s current other entries → s .rehashing ≡ true
+      → i ≤ s .«old_size» → ((a : ℕ) → a < i → getD current a 0 ≡ 0) → Shape reindexed current other entries
+  unfolding retabled stateOf sizeOf
+  reindex {current} {other} {entries} shape rehashing fits empty =
+      let state = facts shape in
+      let before = state .rehashing rehashing in
+      let to = live-kept s reindexed kept-size in
+      let back = live-kept reindexed s (λ t. sym (kept-size t)) in
+      record {
+        state-sound =
+            sound-again reindexed current other entries state refl refl (state .old-legal) (state .old-fits)
+            (omega (arith, kept-keys, state .used-fits)) (state .free-fits)
+            (λ e.
+            record {
+              new-legal = before .new-legal;
+              new-fits = before .new-fits;
+              sizes-differ = before .sizes-differ;
+              index-fits = fits;
+            })
+            (λ e. let z : _≡_ {A = ℕ} 0 1 = cc in absurd (omega arith));
+        at = shape .at;
+        linked =
+            λ t l.
+            subst (λ (k : ℕ). Linked entries (s .capacity) k (shape .at t)) (same-head current other t)
+            (shape .linked t (back t l));
+        owner = shape .owner;
+        owned = λ n h k. let (live, there) = shape .owned n h k in (to (shape .owner n) live, there);
+        owns = λ n t l. shape .owns n t (back t l);
+        home = λ n t l h. home-kept s reindexed kept-size (keyOf entries n) t (shape .home n t (back t l) h);
+        keys-distinct = λ n k t u l l'. shape .keys-distinct n k t u (back t l) (back u l');
+        passed-empty = empty;
+        counts =
+            λ t.
+            kept-used t
+            ∙ shape .counts t
+            ∙ ap (sum (λ b. length (shape .at (Place.bucket t b)))) (sym (kept-size t));
+        free-count = omega (arith, kept-keys, shape .free-count);
+      }
 
 -- what a place holds once the chain of bucket b has moved
 abbrev pub HeldThen : State → List ℕ → (Place → List ℕ) → ℕ → Place → ℕ → ℕ → Type 0
@@ -316,21 +317,24 @@ module _ {s : State} {current other entries : List ℕ} (shape : Shape s current
           its-value = moved-keeps (s .«new_size») ns (record { buckets = other; entries = entries }) (h .entry) .1 ∙ h .its-value;
         }
 
-  pub stepped-store : StoreAfter s (StepAnswer.Stepped (length (shape .at (Place.bucket Table.Old b))))
-      (movedChain s current other entries b (some (shape .at (Place.bucket Table.Old b)))) (keysHeld s) (suc b)
+  -- (the state then, before it is asked whether the rehash is over)
+  pub moved-store : StoreAfter s (λ t. t)
+      (After.after (advanced s (length (shape .at (Place.bucket Table.Old b))) (suc b)) (set current b 0)
+      (after s other entries (shape .at (Place.bucket Table.Old b)) .buckets)
+      (after s other entries (shape .at (Place.bucket Table.Old b)) .entries)) (keysHeld s) (suc b)
       (HeldThen s entries (shape .at) b)
-  unfolding movedChain steppedPast retabled recounted stateOf oldNew sizeOf usedOf keysHeld reindex
-  stepped-store =
+  unfolding advanced retabled recounted stateOf oldNew sizeOf usedOf keysHeld reindex
+  moved-store =
       let (all, went) =
       move-all ns shape rehashing b below refl (s .«old_used» - length ns) (s .«new_used» + length ns)
       (omega (arith, no-more)) refl in
       record {
-        state = steppedPast s b (length ns);
+        state = advanced s (length ns) (suc b);
         current = set current b 0;
         other = after s other entries ns .buckets;
         entries = entries';
         is = refl;
-        shape = reindex all rehashing (suc b) below passed;
+        shape = reindex moved-state used same-used (suc b) all rehashing below passed;
         same = record { current = refl; capacity = refl; sizes = same-size; rehashing = sym rehashing };
         keys-held = omega (arith, no-more);
         index-is = refl;
@@ -338,6 +342,45 @@ module _ {s : State} {current other entries : List ℕ} (shape : Shape s current
         held-all = λ t l i. held-all (all .at) went t l;
       }
     where
-      same-size : (t : Table) → sizeOf (steppedPast s b (length ns)) t ≡ sizeOf s t
+      used : Table → ℕ
+      used = oldNew (s .«old_used» - length ns) (s .«new_used» + length ns)
+
+      moved-state : State
+      moved-state = recounted s (s .«free_head») used
+
+      same-used : (t : Table) → used t ≡ usedOf moved-state t
+      same-used Table.Old = refl
+      same-used Table.New = refl
+
+      same-size : (t : Table) → sizeOf (advanced s (length ns) (suc b)) t ≡ sizeOf s t
       same-size Table.Old = refl
       same-size Table.New = refl
+
+-- The outcome of a step that passes empty buckets up to bucket b.
+pub passed-store : {s : State} {current other entries : List ℕ} (shape : Shape s current other entries) → s .rehashing ≡ true
+    → (b : ℕ) → b ≤ s .«old_size» → ((a : ℕ) → a < b → getD current a 0 ≡ 0)
+    → StoreAfter s (λ t. t) (After.after (advanced s 0 b) current other entries) (keysHeld s) b
+    (λ t. HeldIn entries (shape .at t))
+unfolding advanced retabled stateOf oldNew sizeOf usedOf keysHeld reindex
+passed-store {s} {current} {other} {entries} shape rehashing b below empty =
+    record {
+      state = advanced s 0 b;
+      current = current;
+      other = other;
+      entries = entries;
+      is = refl;
+      shape = reindex s (oldNew (s .«old_used» - 0) (s .«new_used» + 0)) same-used b shape rehashing below empty;
+      same = record { current = refl; capacity = refl; sizes = same-size; rehashing = sym rehashing };
+      keys-held = omega arith;
+      index-is = refl;
+      held-only = λ t l i k v h. h;
+      held-all = λ t l i k v h. h;
+    }
+  where
+    same-used : (t : Table) → oldNew (s .«old_used» - 0) (s .«new_used» + 0) t ≡ usedOf s t
+    same-used Table.Old = omega arith
+    same-used Table.New = omega arith
+
+    same-size : (t : Table) → sizeOf (advanced s 0 b) t ≡ sizeOf s t
+    same-size Table.Old = refl
+    same-size Table.New = refl

@@ -1,6 +1,6 @@
 -- Sums over the buckets of a table, and the chains of a table joined, which are as long as such a sum.
 -- Assumes nothing.
-use Prim.Native.Nat.{ℕ, zero, suc, _+_, _<_, _≤_}
+use Prim.Native.Nat.{ℕ, zero, suc, _+_, _-_, _<_, _≤_}
 use mathlib.Core.Path.{_≡_, refl, sym, subst}
 use mathlib.Core.Logic.{⊎-elim}
 use mathlib.Core.List.{List, [], _++_}
@@ -53,6 +53,33 @@ sum-one f c (suc n) l one other =
           let here : f n ≡ 1 = subst (λ (k : ℕ). f k ≡ 1) (sym e) one in
           omega (arith, here, sum-zero f n (λ b h. other b (omega arith)))
       | no d ↦ omega (arith, sum-one f c n (omega arith) one other, other n d)
+    ]
+
+-- terms that are no larger than others, one of them less; and terms that are 0 or 1, and 0 at first
+
+pub sum-atmost : (f g : ℕ → ℕ) (n : ℕ) → ((b : ℕ) → f b ≤ g b) → sum f n ≤ sum g n
+unfolding sum
+sum-atmost f g zero h = omega arith
+sum-atmost f g (suc n) h = omega (arith, sum-atmost f g n h, h n)
+
+pub sum-less : (f g : ℕ → ℕ) (c n : ℕ) → c < n → ((b : ℕ) → f b ≤ g b) → f c < g c → sum f n < sum g n
+unfolding sum
+sum-less f g c zero l h less = absurd (omega arith)
+sum-less f g c (suc n) l h less =
+    elim (decLt c n) [
+      | yes k ↦ omega (arith, sum-less f g c n k h less, h n)
+      | no k ↦
+          let here : f n < g n = subst (λ (b : ℕ). f b < g b) (omega arith) less in
+          omega (arith, sum-atmost f g n h, here)
+    ]
+
+pub sum-few : (f : ℕ → ℕ) (a n : ℕ) → ((b : ℕ) → f b ≤ 1) → ((b : ℕ) → b < a → f b ≡ 0) → sum f n ≤ n - a
+unfolding sum
+sum-few f a zero most none-first = omega arith
+sum-few f a (suc n) most none-first =
+    elim (decLt n a) [
+      | yes l ↦ omega (arith, sum-few f a n most none-first, none-first n l)
+      | no l ↦ omega (arith, sum-few f a n most none-first, most n)
     ]
 
 -- the lists f 0, f 1, .., f (n - 1) joined

@@ -11,11 +11,13 @@ use native.Mathlib.Omega.{arith}
 use lib.Dec.{eqb, leb, lit≤}
 use Rattle.cursor.specs.Group.{Group, oneTable, twoTables}
 use Rattle.cursor.proofs.NextCursor.{next-lt}
+use Rattle.model.specs.declared.State.{State}
 use Rattle.model.specs.Limits.{largestExponent}
+use Rattle.model.specs.Answers.{Reply}
 use Rattle.model.specs.Memory.{chainAt}
 use Rattle.model.specs.Calls.{suggested}
 use Rattle.model.specs.Sequences.{World, Call, perform}
-use Rattle.model.specs.Cases.{Row, Gives, Walks, EachAnswers, Holds, AllHold, fresh, bucketZero, resting, moving, inBoth, readers, cases}
+use Rattle.model.specs.Cases.{Row, Gives, Walks, EachAnswers, StepsTo, Holds, AllHold, fresh, bucketZero, resting, moving, inBoth, sparse, readers, cases}
 use Rattle.model.proofs.Computing.{computing}
 use Rattle.model.proofs.Tests.{Tells, told, tells-true, tells-same, tells-and, tells-eq, tells-le}
 use Rattle.model.proofs.Suggested.{growing-capped}
@@ -66,6 +68,15 @@ unfolding answering EachAnswers
 tells-answering w [] number = Tells.holds tt
 tells-answering w (c ∷ cs) number = tells-and (tells-eq (perform w c .reply .number) number) (tells-answering w cs number)
 
+stepping : Reply State → List ℕ → ℕ → Bool
+stepping r values next = eqb (r .number) 0 && same (r .values) values && eqb (r .state .«rehash_index») next
+
+tells-stepping : (r : Reply State) (values : List ℕ) (next : ℕ) → Tells (StepsTo r values next) (stepping r values next)
+unfolding stepping StepsTo
+tells-stepping r values next =
+    tells-same (λ h. (h .0 .0, h .0 .1, h .1)) (λ h. ((h .0, h .1), h .2))
+    (tells-and (tells-and (tells-eq (r .number) 0) (tells-list (r .values) values)) (tells-eq (r .state .«rehash_index») next))
+
 reading : Option (List ℕ) → List ℕ → Bool
 reading none entries = false
 reading (some ns) entries = same ns entries
@@ -84,6 +95,7 @@ test (Row.suggests growing keys size) = eqb (suggested growing keys) size
 test (Row.suggests-above growing keys size) =
     growing && leb (2 ^ largestExponent) (keys * 2) && eqb size (2 ^ largestExponent)
 test (Row.answers w cs number) = answering w cs number
+test (Row.steps w values next) = stepping (perform w Call.rehashStep .reply) values next
 test (Row.reads w p entries) = reading (chainAt (w .state) (w .first) (w .second) (w .entries) p) entries
 
 -- one bucket: whatever the cursor, the walk ends
@@ -109,6 +121,7 @@ row-true (Row.suggests-above growing keys size) h =
     subst (λ (t : Bool). suggested t more ≡ size) (sym (each .0 .0))
     (growing-capped more (omega (arith, each .0 .1)) ∙ sym (each .1))
 row-true (Row.answers w cs number) h = told (tells-answering w cs number) h
+row-true (Row.steps w values next) h = told (tells-stepping (perform w Call.rehashStep .reply) values next) h
 row-true (Row.reads w p entries) h = told (tells-reading (chainAt (w .state) (w .first) (w .second) (w .entries) p) entries) h
 
 testAll : List Row → Bool
@@ -123,7 +136,7 @@ all-true (row ∷ rows) h =
     (row-true row (each .0), all-true rows (each .1))
 
 computed : testAll cases ≡ true
-unfolding computing testAll test gives walks answering reading same cases fresh bucketZero resting moving inBoth readers
+unfolding computing testAll test gives walks answering stepping reading same cases fresh bucketZero resting moving inBoth sparse readers
 computed = refl
 
 pub cases-hold : AllHold cases

@@ -9,6 +9,7 @@ use Rattle.model.specs.declared.State.{State}
 use Rattle.model.specs.declared.Table.{Table}
 use Rattle.model.specs.declared.Error.{Error}
 use Rattle.model.specs.declared.Lookup.{Lookup}
+use Rattle.model.specs.declared.Ahead.{Ahead}
 use Rattle.model.specs.declared.InitAnswer.{InitAnswer}
 use Rattle.model.specs.declared.FindAnswer.{FindAnswer}
 use Rattle.model.specs.declared.UpdateAnswer.{UpdateAnswer}
@@ -18,7 +19,7 @@ use Rattle.model.specs.declared.ResizeAnswer.{ResizeAnswer}
 use Rattle.model.specs.declared.StepAnswer.{StepAnswer}
 use Rattle.model.specs.declared.SizeAnswer.{SizeAnswer}
 use Rattle.model.specs.Keys.{bucketOf}
-use Rattle.model.specs.Limits.{largestExponent, legalCapacity, legalSize}
+use Rattle.model.specs.Limits.{largestExponent, legalCapacity, legalSize, emptyVisits}
 use Rattle.model.specs.Memory.{linkOf, keyOf, valueOf, setLink, setKey, setValue, setEntry, sizeOf, usedOf, bucketsOf, keysHeld, soundState, Place, keyPlace, chainAt}
 
 -- What a call answers, and the three lent buffers after it: the first bucket buffer, the second, the entry buffer. For a
@@ -280,44 +281,56 @@ resize s first second entries size =
 
 -- Step
 
--- the first filled bucket from b on, among as many as are left
-unfoldable pub firstFilled : List ℕ → ℕ → ℕ → Option ℕ
-firstFilled buckets b zero = none
-firstFilled buckets b (suc left) =
-    cond (eqb (getD buckets b 0) 0) (firstFilled buckets (suc b) left) (some b)
+-- what comes from bucket b on, where so many buckets are left in the table and a step may still pass so many empty ones
+unfoldable pub ahead : List ℕ → ℕ → ℕ → ℕ → Ahead
+ahead buckets b zero passes = Ahead.End
+ahead buckets b (suc left) zero = Ahead.Empty b
+ahead buckets b (suc left) (suc passes) =
+    cond (eqb (getD buckets b 0) 0) (ahead buckets (suc b) left passes) (Ahead.Filled b)
 
 -- the entries of a chain, in turn, each put at the head of its bucket in a table of that size
 unfoldable pub moved : ℕ → List ℕ → Chains → Chains
 moved size [] m = m
 moved size (n ∷ ns) m = moved size ns (push (bucketOf (keyOf (m .entries) n) size) n m)
 
--- once the chain of bucket b, of that many entries, has moved
-unfoldable pub steppedPast : State → ℕ → ℕ → State
-steppedPast s b count =
-    retabled s (s .«second_is_current») (sizeOf s) (oldNew (s .«old_used» - count) (s .«new_used» + count)) true (suc b)
+-- once so many keys have moved, and that bucket is the next one
+unfoldable pub advanced : State → ℕ → ℕ → State
+advanced s count next =
+    retabled s (s .«second_is_current») (sizeOf s) (oldNew (s .«old_used» - count) (s .«new_used» + count)) true next
 
 -- the new table becomes the only one
 unfoldable pub finished : State → State
 finished s =
     retabled s (not (s .«second_is_current»)) (oldNew (s .«new_size») 0) (oldNew (s .«new_used») 0) false 0
 
+-- a step that leaves no keys in the old table ends the rehash
+unfoldable pub settled : State → State
+settled s = cond (eqb (s .«old_used») 0) (finished s) s
+
+unfoldable pub stepDone : State → ℕ → ℕ → StepAnswer
+stepDone s count next = StepAnswer.Stepped count (settled (advanced s count next))
+
 unfoldable pub movedChain : State → List ℕ → List ℕ → List ℕ → ℕ → Option (List ℕ) → After StepAnswer
 movedChain s current other entries b none = After.after (StepAnswer.Refused Error.Damaged) current other entries
 movedChain s current other entries b (some ns) =
     let m = moved (s .«new_size») ns (record { buckets = other; entries = entries }) in
-    After.after (StepAnswer.Stepped (length ns) (steppedPast s b (length ns))) (set current b 0) (m .buckets) (m .entries)
+    After.after (stepDone s (length ns) (suc b)) (set current b 0) (m .buckets) (m .entries)
 
-unfoldable pub movedFrom : State → List ℕ → List ℕ → List ℕ → Option ℕ → After StepAnswer
-movedFrom s current other entries none = After.after (StepAnswer.Refused Error.Damaged) current other entries
-movedFrom s current other entries (some b) =
+unfoldable pub movedFrom : State → List ℕ → List ℕ → List ℕ → Ahead → After StepAnswer
+movedFrom s current other entries Ahead.End = After.after (StepAnswer.Refused Error.Damaged) current other entries
+movedFrom s current other entries (Ahead.Empty b) = After.after (stepDone s 0 b) current other entries
+movedFrom s current other entries (Ahead.Filled b) =
     movedChain s current other entries b (chainAt s current other entries (Place.bucket Table.Old b))
+
+unfoldable pub aheadOf : State → List ℕ → Ahead
+aheadOf s current = ahead current (s .«rehash_index») (s .«old_size» - s .«rehash_index») emptyVisits
 
 unfoldable pub stepped : State → List ℕ → List ℕ → List ℕ → Bool → After StepAnswer
 stepped s current other entries false = After.after (StepAnswer.Refused Error.NotRehashing) current other entries
 stepped s current other entries true =
     cond (eqb (s .«old_used») 0)
-    (After.after (StepAnswer.Stepped 0 (finished s)) current other entries)
-    (movedFrom s current other entries (firstFilled current (s .«rehash_index») (s .«old_size» - s .«rehash_index»)))
+    (After.after (stepDone s 0 (s .«rehash_index»)) current other entries)
+    (movedFrom s current other entries (aheadOf s current))
 
 unfoldable pub rehashStep : State → List ℕ → List ℕ → List ℕ → After StepAnswer
 rehashStep s first second entries =

@@ -4,15 +4,17 @@ use mathlib.Core.Path.{_≡_}
 use mathlib.Core.Bool.{Bool, true, false}
 use mathlib.Core.List.{List, [], _∷_}
 use mathlib.Core.Option.{some}
-use lib.ListN.{replicate}
+use lib.ListN.{replicate, set}
 use Rattle.cursor.specs.Group.{Group, oneTable, twoTables}
+use Rattle.model.specs.declared.State.{State}
+use Rattle.model.specs.Answers.{Reply}
 use Rattle.model.specs.Memory.{Place, chainAt}
 use Rattle.model.specs.Calls.{stateOf, oldNew, emptyState, freeEntries, suggested}
 use Rattle.model.specs.Sequences.{World, world, KeyCall, Call, perform}
 
 -- A walk's cursor at one live table, or at two; the cursors of a whole walk; any cursor; the suggested size for some keys,
--- and for every number of keys above a given one; some calls in a world, each of which answers that number; the entries of a
--- chain that is sound, where the first buffer is the current one.
+-- and for every number of keys above a given one; some calls in a world, each of which answers that number; the values of an
+-- answered step, and the next bucket then; the entries of a chain that is sound, where the first buffer is the current one.
 pub data Row : Type 0 where
   at-one : (size cursor bucket next : ℕ) → Row
   at-two : (small large cursor bucket : ℕ) (buckets : List ℕ) (next : ℕ) → Row
@@ -21,6 +23,7 @@ pub data Row : Type 0 where
   suggests : (growing : Bool) (keys size : ℕ) → Row
   suggests-above : (growing : Bool) (keys size : ℕ) → Row
   answers : (w : World) (calls : List Call) (number : ℕ) → Row
+  steps : (w : World) (values : List ℕ) (next : ℕ) → Row
   reads : (w : World) (p : Place) (entries : List ℕ) → Row
 
 -- the group is that bucket of the smaller table and those of the larger, and that cursor is answered
@@ -37,6 +40,9 @@ unfoldable pub EachAnswers : World → List Call → ℕ → Type 0
 EachAnswers w [] number = Unit {0}
 EachAnswers w (c ∷ cs) number = (perform w c .reply .number ≡ number) × EachAnswers w cs number
 
+unfoldable pub StepsTo : Reply State → List ℕ → ℕ → Type 0
+StepsTo r values next = (r .number ≡ 0) × (r .values ≡ values) × (r .state .«rehash_index» ≡ next)
+
 unfoldable pub Holds : Row → Type 0
 Holds (Row.at-one size cursor bucket next) = Gives (oneTable size cursor) bucket [] next
 Holds (Row.at-two small large cursor bucket buckets next) = Gives (twoTables small large cursor) bucket buckets next
@@ -45,6 +51,7 @@ Holds (Row.at-any size next) = (cursor : ℕ) → oneTable size cursor .answered
 Holds (Row.suggests growing keys size) = suggested growing keys ≡ size
 Holds (Row.suggests-above growing keys size) = (more : ℕ) → keys < more → suggested growing more ≡ size
 Holds (Row.answers w calls number) = EachAnswers w calls number
+Holds (Row.steps w values next) = StepsTo (perform w Call.rehashStep .reply) values next
 Holds (Row.reads w p entries) = chainAt (w .state) (w .first) (w .second) (w .entries) p ≡ some entries
 
 unfoldable pub AllHold : List Row → Type 0
@@ -71,6 +78,12 @@ unfoldable pub inBoth : ℕ → World
 inBoth b =
     world (stateOf false (oldNew 2 4) (oldNew 1 1) true 0 3 3) (1 ∷ 0 ∷ []) (2 ∷ 0 ∷ 0 ∷ 0 ∷ [])
     (0 ∷ 2 ∷ 10 ∷ 0 ∷ b ∷ 20 ∷ 0 ∷ 7 ∷ 70 ∷ [])
+
+-- In another one, key b is the only one held, in bucket b of an old table of 16; and that bucket is the next one.
+unfoldable pub sparse : ℕ → ℕ → World
+sparse b next =
+    world (stateOf false (oldNew 16 2) (oldNew 1 0) true next 0 1) (set (replicate 16 0) b 1) (replicate 2 0)
+    (0 ∷ b ∷ 10 ∷ [])
 
 -- one of each call that reads a bucket's chain, but for a step: on a key, on another one to be added, and a walk call
 unfoldable pub readers : ℕ → ℕ → List Call
@@ -107,6 +120,13 @@ cases =
     ∷ Row.answers (inBoth 4) (readers 4 8) 0
     ∷ Row.answers (inBoth 6) (readers 4 8) 2
     ∷ Row.answers (inBoth 6) (Call.rehashStep ∷ Call.on 2 KeyCall.find ∷ []) 0
+    ∷ Row.steps (moving 2 4) (2 ∷ 0 ∷ []) 0
+    ∷ Row.steps (sparse 9 0) (1 ∷ 0 ∷ []) 0
+    ∷ Row.steps (sparse 10 0) (0 ∷ 1 ∷ []) 10
+    ∷ Row.steps (sparse 15 5) (0 ∷ 1 ∷ []) 15
+    ∷ Row.steps (sparse 15 6) (1 ∷ 0 ∷ []) 0
+    ∷ Row.answers (sparse 0 6) (Call.rehashStep ∷ []) 2
+    ∷ Row.answers (sparse 0 16) (Call.rehashStep ∷ []) 2
     ∷ Row.reads fresh Place.free (1 ∷ 2 ∷ 3 ∷ [])
     ∷ Row.reads (resting 2 4) Place.free (3 ∷ [])
     ∷ []

@@ -22,3 +22,7 @@ powerUpTo (suc b) n = powerUpTo b n || eqb n (2 ^ suc b)
 -- a table size: a power of two, 1 to the largest size
 unfoldable pub legalSize : ℕ → Bool
 legalSize n = powerUpTo largestExponent n
+
+-- the most empty buckets that a step passes
+unfoldable pub emptyVisits : ℕ
+emptyVisits = 10

@@ -6,6 +6,9 @@ pub const LARGEST_CAPACITY: u32 = 65536;
 // The most buckets that a table can have.
 pub const LARGEST_SIZE: u32 = 65536;
 
+// The most empty buckets that a step passes.
+pub const EMPTY_VISITS: u32 = 10;
+
 // What the caller holds between calls (SPECIFICATION, "The memory"), in the order given there.
 pub struct State {
     // Which bucket buffer is the current one: the second, or else the first.
@@ -55,6 +58,16 @@ pub enum Lookup {
         before: u32,
         entry: u32,
     },
+}
+
+// What a step meets in the old table, from the next bucket on.
+pub enum Ahead {
+    // The first filled bucket.
+    Filled(u32),
+    // As many empty buckets as a step passes; this one comes behind them.
+    Empty(u32),
+    // The table's end.
+    End,
 }
 
 // A refused start hands back a state of zeros.

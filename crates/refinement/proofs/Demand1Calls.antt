@@ -1,7 +1,7 @@
 -- What every call answers and leaves, in one walk over its definition: the number of the first row that is given; where it
 -- is refused all that was there, and where it is answered the lengths of the buffers.
 -- Assumes nothing.
-use Prim.Native.Nat.{ℕ, zero, suc, _*_, _<_, _≤_}
+use Prim.Native.Nat.{ℕ, zero, suc, _+_, _*_, _<_, _≤_}
 use mathlib.Core.Path.{_≡_, refl, sym, subst, _∙_}
 use mathlib.Core.Bool.{Bool, true, false, cond, and-assoc}
 use mathlib.Core.List.{List, [], _∷_}
@@ -14,6 +14,7 @@ use Rattle.model.specs.declared.State.{State}
 use Rattle.model.specs.declared.Table.{Table}
 use Rattle.model.specs.declared.Error.{Error}
 use Rattle.model.specs.declared.Lookup.{Lookup}
+use Rattle.model.specs.declared.Ahead.{Ahead}
 use Rattle.model.specs.declared.UpdateAnswer.{UpdateAnswer}
 use Rattle.model.specs.declared.AddAnswer.{AddAnswer}
 use Rattle.model.specs.declared.DeleteAnswer.{DeleteAnswer}
@@ -22,9 +23,9 @@ use Rattle.model.specs.declared.StepAnswer.{StepAnswer}
 use Rattle.model.specs.declared.ScanAnswer.{ScanAnswer}
 use Rattle.model.specs.Answers.{Reply, reply, errorNumber, initReply, findReply, updateReply, addReply, deleteReply, resizeReply, stepReply, sizeReply, tableReply, scanReply}
 use Rattle.model.specs.Keys.{bucketOf}
-use Rattle.model.specs.Limits.{largestExponent, legalCapacity, legalSize}
+use Rattle.model.specs.Limits.{largestExponent, legalCapacity, legalSize, emptyVisits}
 use Rattle.model.specs.Memory.{linkOf, keyOf, bucketsOf, keysHeld, Place, chainAt}
-use Rattle.model.specs.Calls.{After, oriented, reading, writing, changed, lookup, held, found, updated, push, pushed, target, takeable, added, unlinkBucket, unlinkEntry, removed, deleted, Chains, moved, longEnough, acceptable, resized, finished, movedChain, movedFrom, stepped}
+use Rattle.model.specs.Calls.{After, oriented, reading, writing, changed, lookup, held, found, updated, push, pushed, target, takeable, added, unlinkBucket, unlinkEntry, removed, deleted, Chains, moved, longEnough, acceptable, resized, stepDone, movedChain, movedFrom, stepped}
 use Rattle.model.specs.Calls as calls
 use Rattle.model.specs.Walk.{AfterScan, tablesOf, group, chainsAt, atMost, scanned}
 use Rattle.model.specs.Walk as walk
@@ -34,7 +35,7 @@ use Rattle.model.proofs.Power.{legal-pos}
 use Rattle.model.proofs.Soundness.{sound-facts}
 use Rattle.model.proofs.Fields.{length-setLink, length-setKey, length-setValue, length-setEntry}
 use Rattle.refinement.specs.Worlds.{current, other}
-use Rattle.refinement.specs.Demand1.{BadState, Damaged, keyPlaces, KeyHeld, Full, FreeListDamaged, SoundChain, EmptyFrom, FirstFilled, StepDamaged, places, KeysOn, TooMany, GroupDamaged, Short, Row, row, keyRows, rows, Decides, Leaves, keyZeros, LeavesAll}
+use Rattle.refinement.specs.Demand1.{BadState, Damaged, keyPlaces, KeyHeld, Full, FreeListDamaged, SoundChain, EmptyFrom, FirstFilled, EndFirst, StepDamaged, places, KeysOn, TooMany, GroupDamaged, Short, Row, row, keyRows, rows, Decides, Leaves, keyZeros, LeavesAll}
 use Rattle.refinement.specs.Demand3.{lengthsOf}
 use Rattle.invariant.proofs.ClearedBuckets.{length-cleared}
 use Rattle.invariant.proofs.Init.{started-buckets-length, started-entries-length}
@@ -42,7 +43,7 @@ use Rattle.invariant.proofs.Resize.{allowed}
 use Rattle.refinement.proofs.Orientation.{firstBy, secondBy, worldBy, world-kept, soundAt, reads, put, writes}
 use Rattle.refinement.proofs.Demand1Chains.{AtPlace, place-read, place-sound}
 use Rattle.refinement.proofs.Demand1Tests.{Passes, passes-same, passes-not, passes-or, passes-le, passes-ne}
-use Rattle.refinement.proofs.Demand1Reads.{Says, lookup-says, Entries, places-say, same-keys, StepFinds, step-finds, same-first}
+use Rattle.refinement.proofs.Demand1Reads.{Says, lookup-says, Entries, places-say, same-keys, StepMeets, step-meets, same-first}
 
 -- ---- an outcome that goes by the table
 
@@ -258,16 +259,23 @@ module _ (w : World) where
 
   -- a step that finds its chain sound
   step-sound : (b : ℕ) → FirstFilled w b → SoundChain w (Place.bucket Table.Old b) → ¬ StepDamaged w
-  unfolding StepDamaged EmptyFrom
-  step-sound b f c (pos, inl all) = f .filled (all b (f .from-next) (f .in-table))
+  unfolding StepDamaged EndFirst EmptyFrom
+  step-sound b f c (pos, inl (reach, all)) = f .filled (all b (f .from-next) (f .in-table))
   step-sound b f c (pos, inr (a, g, h)) =
       h (subst (λ (d : ℕ). SoundChain w (Place.bucket Table.Old d)) (same-first w b a f g) c)
+
+  -- a step that passes as many empty buckets as it may
+  step-passing : (b : ℕ) → b ≡ w .state .«rehash_index» + emptyVisits → b < w .state .«old_size» → EmptyFrom w b
+      → ¬ StepDamaged w
+  unfolding StepDamaged EndFirst EmptyFrom
+  step-passing b is below all (pos, inl (reach, end)) = omega arith
+  step-passing b is below all (pos, inr (a, g, h)) = g .filled (all a (g .from-next) (omega (arith, g .in-reach)))
 
   module _ (refuse : Refusing Call.rehashStep (stepReply (w .state)) StepAnswer.Refused) where
     moved-good : 0 < w .state .«old_used» → (b : ℕ) → FirstFilled w b → (o : Option (List ℕ))
         → AtPlace w (Place.bucket Table.Old b) o
         → Good w Call.rehashStep (row 2 (StepDamaged w) ∷ []) (put w (stepReply (w .state)) (here movedChain b o))
-    unfolding row movedChain AtPlace StepDamaged stepReply reply errorNumber
+    unfolding row movedChain stepDone AtPlace StepDamaged stepReply reply errorNumber
     moved-good pos b f none n =
         let damaged : StepDamaged w = (pos, inr (b, f, n)) in Good.refused damaged (refuse Error.Damaged)
     moved-good pos b f (some ns) r =
@@ -275,15 +283,18 @@ module _ (w : World) where
         Good.past (step-sound b f (place-sound w (Place.bucket Table.Old b) ns r))
         (done (stepReply (w .state)) _ _ _ _ refl (length-set (current w) b 0) x y)
 
-    from-good : (o : Option ℕ) → StepFinds w o → {t : Bool} → Tells (w .state .«old_used» ≡ 0) t
+    from-good : (r : Ahead) → StepMeets w r → {t : Bool} → Tells (w .state .«old_used» ≡ 0) t
         → Good w Call.rehashStep (row 2 (StepDamaged w) ∷ [])
-        (put w (stepReply (w .state)) (cond t (stay (StepAnswer.Stepped 0 (finished (w .state)))) (here movedFrom o)))
-    unfolding row movedFrom StepFinds StepDamaged stepReply reply errorNumber
-    from-good o h (Tells.holds e) =
+        (put w (stepReply (w .state))
+        (cond t (stay (stepDone (w .state) 0 (w .state .«rehash_index»))) (here movedFrom r)))
+    unfolding row movedFrom stepDone StepMeets StepDamaged stepReply reply errorNumber
+    from-good r h (Tells.holds e) =
         Good.past (λ (d : StepDamaged w). omega (arith, d .0)) (done (stepReply (w .state)) _ _ _ _ refl refl refl refl)
-    from-good none all (Tells.fails f) =
-        let damaged : StepDamaged w = (omega arith, inl all) in Good.refused damaged (refuse Error.Damaged)
-    from-good (some b) first (Tells.fails f) =
+    from-good Ahead.End end (Tells.fails f) =
+        let damaged : StepDamaged w = (omega arith, inl end) in Good.refused damaged (refuse Error.Damaged)
+    from-good (Ahead.Empty b) (is, below, before) (Tells.fails f) =
+        Good.past (step-passing b is below before) (done (stepReply (w .state)) _ _ _ _ refl refl refl refl)
+    from-good (Ahead.Filled b) first (Tells.fails f) =
         moved-good (omega arith) b first (here chainAt (Place.bucket Table.Old b)) (place-read w (Place.bucket Table.Old b))
 
     stepped-good : (t : Bool)
@@ -291,7 +302,7 @@ module _ (w : World) where
         (put w (stepReply (w .state)) (here stepped t))
     unfolding row stepped errorNumber
     stepped-good false = Good.refused refl (refuse Error.NotRehashing)
-    stepped-good true = Good.past true-not-false (from-good _ (step-finds w) (tells-eq (w .state .«old_used») 0))
+    stepped-good true = Good.past true-not-false (from-good _ (step-meets w) (tells-eq (w .state .«old_used») 0))
 
   step-good : Good w Call.rehashStep (rows w Call.rehashStep) (perform w Call.rehashStep)
   unfolding perform rows given calls.rehashStep LeavesAll Leaves stepReply reply kept

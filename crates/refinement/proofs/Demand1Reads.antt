@@ -1,5 +1,5 @@
--- What the calls find in the chains that they read, in demand 1's words: a lookup's answer, a walk call's entries, and the
--- bucket that a step moves.
+-- What the calls find in the memory that they read, in demand 1's words: a lookup's answer, a walk call's entries, and what
+-- a step meets.
 -- Assumes nothing.
 use Prim.Native.Nat.{ℕ, _+_, _-_, _<_}
 use mathlib.Core.Path.{_≡_, refl, sym, subst, _∙_}
@@ -12,15 +12,17 @@ use lib.ListN.{length, length-append}
 use Rattle.cursor.specs.Member.{In}
 use Rattle.model.specs.declared.Table.{Table}
 use Rattle.model.specs.declared.Lookup.{Lookup}
+use Rattle.model.specs.declared.Ahead.{Ahead}
+use Rattle.model.specs.Limits.{emptyVisits}
 use Rattle.model.specs.Memory.{Place, bucketsOf, keyPlace, headAt, chainAt}
-use Rattle.model.specs.Calls.{firstWith, searched, both, lookupIn, lookupWhile, lookup, firstFilled}
+use Rattle.model.specs.Calls.{firstWith, searched, both, lookupIn, lookupWhile, lookup, aheadOf}
 use Rattle.model.specs.Walk.{joined, chainsAt}
 use Rattle.model.specs.Sequences.{World}
 use Rattle.refinement.specs.Worlds.{current, other}
-use Rattle.refinement.specs.Demand1.{headOf, SoundChain, Damaged, OnChain, liveTables, keyPlaces, EmptyFrom, FirstFilled, KeysOn}
+use Rattle.refinement.specs.Demand1.{headOf, SoundChain, Damaged, OnChain, liveTables, keyPlaces, EmptyFrom, FirstFilled, EndFirst, KeysOn}
 use Rattle.invariant.proofs.Lists.{in-middle}
 use Rattle.invariant.proofs.Lookups.{FirstIn, first-in}
-use Rattle.invariant.proofs.FirstEntries.{AllBefore, Filled, search-filled}
+use Rattle.invariant.proofs.FirstEntries.{AllEmpty, Comes, ahead-comes}
 use Rattle.refinement.proofs.Demand1Chains.{AtPlace, place-read, place-chain, place-sound, same-count, on-chain, in-chain}
 
 -- one of a list is such
@@ -136,27 +138,29 @@ module _ (w : World) where
   same-keys (p ∷ ps) m n c d =
       omega (arith, same-count w p (c .0) (d .0) (c .2) (d .2), same-keys ps (c .1) (d .1) (c .3) (d .3), c .4, d .4)
 
-  -- ---- the bucket that a step moves
+  -- ---- what a step meets
 
-  -- what the search for it says
-  unfoldable pub StepFinds : Option ℕ → Type 0
-  StepFinds none = EmptyFrom w (w .state .«old_size»)
-  StepFinds (some b) = FirstFilled w b
+  unfoldable pub StepMeets : Ahead → Type 0
+  StepMeets (Ahead.Filled b) = FirstFilled w b
+  StepMeets (Ahead.Empty b) =
+      (b ≡ w .state .«rehash_index» + emptyVisits) × (b < w .state .«old_size») × EmptyFrom w b
+  StepMeets Ahead.End = EndFirst w
 
-  pub step-finds : StepFinds
-      (firstFilled (current w) (w .state .«rehash_index») (w .state .«old_size» - w .state .«rehash_index»))
-  unfolding AllBefore Filled StepFinds EmptyFrom headOf headAt bucketsOf
-  step-finds =
+  pub step-meets : StepMeets (aheadOf (w .state) (current w))
+  unfolding AllEmpty Comes StepMeets EndFirst EmptyFrom headOf headAt bucketsOf aheadOf
+  step-meets =
       let s = w .state in
-      by (firstFilled (current w) (s .«rehash_index») (s .«old_size» - s .«rehash_index»))
-      (search-filled (current w) (s .«rehash_index») (s .«old_size» - s .«rehash_index») _ refl)
+      by (aheadOf s (current w))
+      (ahead-comes (current w) (s .«rehash_index») (s .«old_size» - s .«rehash_index») emptyVisits _ refl)
     where
-      by : (o : Option ℕ)
-          → Filled (current w) (w .state .«rehash_index») (w .state .«rehash_index» + (w .state .«old_size» - w .state .«rehash_index»)) o
-          → StepFinds o
-      by none h = λ b l m. h b l (omega arith)
-      by (some b) (from, below, filled, before) =
-          record { from-next = from; in-table = omega arith; filled = filled; empty-before = before }
+      by : (r : Ahead)
+          → Comes (current w) (w .state .«rehash_index») (w .state .«rehash_index» + (w .state .«old_size» - w .state .«rehash_index»))
+          emptyVisits r
+          → StepMeets r
+      by (Ahead.Filled b) (from, below, reach, filled, before) =
+          record { from-next = from; in-reach = reach; in-table = omega arith; filled = filled; empty-before = before }
+      by (Ahead.Empty b) (is, below, before) = (is, omega arith, before)
+      by Ahead.End (reach, before) = (omega arith, λ b l m. before b l (omega arith))
 
   -- there is one first filled bucket
   not-before : (b c : ℕ) → FirstFilled w b → FirstFilled w c → ¬ (b < c)

@@ -12,6 +12,7 @@ pub mod Refusals
 pub mod Lengths
 -- the plain map, and a store that agrees with the ideal, call by call
 pub mod PlainMaps
+pub mod IdealSteps
 pub mod Agreement
 pub mod KeyedSteps
 pub mod TableSteps
@@ -33,5 +34,8 @@ pub mod Histories
 pub mod Demand2
 pub mod Demand3
 pub mod ExactlyOnce
+pub mod CalledBuckets
+pub mod IdealCalls
+pub mod RehashesEnd
 pub mod Tally
 pub mod NeverDamaged

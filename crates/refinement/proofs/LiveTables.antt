@@ -2,7 +2,7 @@
 -- ideal from call to call (`predict-legal`).
 -- Assumes nothing.
 use Prim.Native.Nat.{ℕ, zero, suc, _*_, _<_}
-use mathlib.Core.Path.{_≡_, refl, sym}
+use mathlib.Core.Path.{_≡_, refl, sym, subst}
 use mathlib.Core.Bool.{Bool, true, false, _&&_, cond}
 use mathlib.Core.List.{List, [], _∷_}
 use native.Mathlib.Omega.{arith}
@@ -18,8 +18,9 @@ use Rattle.model.specs.Calls.{oldNew, longEnough, acceptable}
 use Rattle.model.specs.Walk.{Tables, tablesBy, tablesOf}
 use Rattle.model.specs.Sequences.{Call, ReadCall}
 use Rattle.model.proofs.Soundness.{Sound}
-use Rattle.refinement.specs.Demand3.{Lengths, Ideal, ideal, begun, startNumber, startAnswer, keyAnswer, resizeAnswer, stepAnswer, groupPairs, scanAnswer, readAnswer, predict}
+use Rattle.refinement.specs.Demand3.{Lengths, Ideal, ideal, begun, startNumber, startAnswer, keyAnswer, resizeAnswer, stepDone, groupPairs, scanAnswer, readAnswer, predict}
 use Rattle.invariant.proofs.Resize.{allowed}
+use Rattle.refinement.proofs.IdealSteps.{any-step}
 
 -- legal sizes, which differ
 unfoldable pub Legal : Tables → Type 0
@@ -89,18 +90,20 @@ module _ (l : Lengths) (i : Ideal) (legal : Legal (i .tables)) where
       λ t. let a = allowed old other size t in (h, a .0, a .1) in
       either (acceptable old other size) _ _ grown legal
 
-  after-step : (t : Tables) (unmoved : List ℕ) → Legal t → Legal (stepAnswer i t unmoved .state .tables)
-  unfolding stepAnswer reply ideal Legal
-  after-step (Tables.one size) unmoved h = legal
-  after-step (Tables.two old new) [] h = h .1
-  after-step (Tables.two old new) (k ∷ ks) h = h
+  step-done : (old new : ℕ) → Legal (Tables.two old new) → (count : ℕ) (unmoved : List ℕ) (next : ℕ)
+      → Legal (stepDone i old new count unmoved next .state .tables)
+  unfolding stepDone reply ideal Legal
+  step-done old new h count [] next = h .1
+  step-done old new h count (k ∷ ks) next = h
 
   pub predict-legal : (c : Call) → Legal (predict l i c .state .tables)
   unfolding predict keyAnswer scanAnswer readAnswer reply ideal
   predict-legal (Call.init capacity size) = after-start capacity size (startNumber l capacity size) refl
   predict-legal (Call.on key c) = legal
   predict-legal (Call.resize size) = after-resize size (i .tables) legal
-  predict-legal Call.rehashStep = after-step (i .tables) (i .unmoved) legal
+  predict-legal Call.rehashStep =
+      any-step i (λ r. Legal (r .state .tables)) (i .tables) (i .unmoved) legal
+      (λ old new e. step-done old new (subst Legal e legal))
   predict-legal (Call.scan cursor lent) =
       either (leb (length (groupPairs i cursor) * 2) (length lent)) _ _ (λ t. legal) legal
   predict-legal (Call.read (ReadCall.suggestedSize growing)) = legal

@@ -17,7 +17,8 @@ use Rattle.model.specs.Walk.{Tables}
 use Rattle.model.specs.Sequences.{World, KeyCall, ReadCall, Call, Outcome, carry, run, Event, events, PlainMap, valueFor, mapAnswer, mapDoes}
 use Rattle.refinement.specs.Worlds.{UndamagedAt}
 use Rattle.refinement.specs.Demand1.{SoundChain}
-use Rattle.refinement.specs.Demand3.{Lengths, lengthsOf, Ideal, begun, startNumber, startAnswer, keyAnswer, resizeAnswer, stepAnswer, groupPairs, scanAnswer, readAnswer, predict, Answered, Demand3}
+use Rattle.refinement.specs.Demand3.{Lengths, lengthsOf, Ideal, begun, startNumber, startAnswer, keyAnswer, resizeAnswer, stepDone, groupPairs, scanAnswer, readAnswer, predict, Answered, Demand3}
+use Rattle.refinement.proofs.IdealSteps.{either, any-step}
 use Rattle.refinement.proofs.Demand1Chains.{AtPlace, place-read, place-sound}
 
 -- every chain of an undamaged store
@@ -33,10 +34,6 @@ Other r = ¬ (r .number ≡ 2)
 other : (n : ℕ) → eqb n 2 ≡ false → ¬ (n ≡ 2)
 other n e = eqb-false n 2 e
 
-either : {A : Type 0} (t : Bool) (a b : Reply A) → Other a → Other b → Other (cond t a b)
-either true a b f g = f
-either false a b f g = g
-
 map-other : (m : PlainMap) (key : ℕ) (c : KeyCall) (o : Option ℕ) → Other (mapAnswer m key c o)
 unfolding mapAnswer reply
 map-other m key KeyCall.find none = other 3 refl
@@ -44,7 +41,7 @@ map-other m key KeyCall.find (some held) = other 0 refl
 map-other m key (KeyCall.update value) none = other 3 refl
 map-other m key (KeyCall.update value) (some held) = other 0 refl
 map-other m key (KeyCall.add value) (some held) = other 4 refl
-map-other m key (KeyCall.add value) none = either (eqb (length (m .pairs)) (m .capacity)) _ _ (other 5 refl) (other 0 refl)
+map-other m key (KeyCall.add value) none = either Other (eqb (length (m .pairs)) (m .capacity)) _ _ (other 5 refl) (other 0 refl)
 map-other m key KeyCall.delete none = other 3 refl
 map-other m key KeyCall.delete (some held) = other 0 refl
 
@@ -62,13 +59,12 @@ module _ (l : Lengths) (i : Ideal) where
   resize-other : (size : ℕ) (tables : Tables) → Other (resizeAnswer l i size tables)
   unfolding resizeAnswer reply
   resize-other size (Tables.two old new) = other 7 refl
-  resize-other size (Tables.one old) = either (acceptable old _ size) _ _ (other 0 refl) (other 6 refl)
+  resize-other size (Tables.one old) = either Other (acceptable old _ size) _ _ (other 0 refl) (other 6 refl)
 
-  step-other : (tables : Tables) (unmoved : List ℕ) → Other (stepAnswer i tables unmoved)
-  unfolding stepAnswer reply
-  step-other (Tables.one size) unmoved = other 8 refl
-  step-other (Tables.two old new) [] = other 0 refl
-  step-other (Tables.two old new) (k ∷ ks) = other 0 refl
+  done-other : (old new count : ℕ) (unmoved : List ℕ) (next : ℕ) → Other (stepDone i old new count unmoved next)
+  unfolding stepDone reply
+  done-other old new count [] next = other 0 refl
+  done-other old new count (k ∷ ks) next = other 0 refl
 
   predicted-other : (c : Call) → Other (predict l i c)
   unfolding predict keyAnswer mapDoes scanAnswer readAnswer startNumber reply
@@ -77,9 +73,9 @@ module _ (l : Lengths) (i : Ideal) where
       (limits-other (legalCapacity capacity && legalSize size) (longEnough capacity size (l .first) (l .entries)))
   predicted-other (Call.on key c) = map-other (i .plain) key c (valueFor key (i .plain .pairs))
   predicted-other (Call.resize size) = resize-other size (i .tables)
-  predicted-other Call.rehashStep = step-other (i .tables) (i .unmoved)
+  predicted-other Call.rehashStep = any-step i Other (i .tables) (i .unmoved) (other 8 refl) (λ old new e. done-other old new)
   predicted-other (Call.scan cursor lent) =
-      either (leb (length (groupPairs i cursor) * 2) (length lent)) _ _ (other 0 refl) (other 9 refl)
+      either Other (leb (length (groupPairs i cursor) * 2) (length lent)) _ _ (other 0 refl) (other 9 refl)
   predicted-other (Call.read (ReadCall.suggestedSize growing)) = other 0 refl
   predicted-other (Call.read ReadCall.currentTable) = other 0 refl
 

@@ -1,7 +1,7 @@
--- One rehash step on a store that agrees with the ideal: refused with one live table, the end of the rehash with no keys
--- left in the old one, else the chain of the first filled bucket moved.
+-- One rehash step on a store that agrees with the ideal: refused with one live table; else it moves the chain of the first
+-- filled bucket, or passes empty ones, or finds no keys in the old table; and with no keys left there the rehash is over.
 -- Assumes nothing.
-use Prim.Native.Nat.{ℕ, suc, _<_}
+use Prim.Native.Nat.{ℕ, suc, _+_, _<_, _≤_}
 use mathlib.Core.Path.{_≡_, refl, sym, ap, ap₂, subst, _∙_}
 use mathlib.Core.Logic.{_≢_, inl, inr}
 use mathlib.Core.Bool.{Bool, true, false, not, cond}
@@ -9,9 +9,9 @@ use mathlib.Core.List.{List, [], _∷_}
 use mathlib.Core.Option.{some}
 use native.Mathlib.Decide.{ℕ-discrete}
 use native.Mathlib.Omega.{arith}
-use lib.ListN.{length, getD}
-use lib.Dec.{eqb}
-use borrow.Author.Tests.{eqb-false, ne-eqb, not-true}
+use lib.ListN.{length, getD, set}
+use lib.Dec.{eqb, ltb}
+use borrow.Author.Tests.{lt-ltb, le-ltb, eq-eqb, eqb-false, ne-eqb, not-true}
 use Rattle.cursor.specs.Member.{In, keep}
 use Rattle.model.specs.declared.State.{State}
 use Rattle.model.specs.declared.Error.{Error}
@@ -19,27 +19,28 @@ use Rattle.model.specs.declared.StepAnswer.{StepAnswer}
 use Rattle.model.specs.declared.Table.{Table}
 use Rattle.model.specs.Answers.{Reply, reply, errorNumber, stepReply}
 use Rattle.model.specs.Keys.{bucketOf}
+use Rattle.model.specs.Limits.{emptyVisits}
 use Rattle.model.specs.Memory.{Place, Live, headAt, sizeOf, bucketsOf, keysHeld, keyPlace}
-use Rattle.model.specs.Calls.{After, stateOf, oldNew, retabled, finished, movedChain, stepped}
+use Rattle.model.specs.Calls.{After, Chains, stateOf, oldNew, retabled, advanced, finished, settled, movedChain, stepped}
 use Rattle.model.specs.Calls as calls
 use Rattle.model.specs.Walk.{Tables, tablesBy, tablesOf}
 use Rattle.model.specs.Sequences.{valueFor, World, Call, given, perform}
 use Rattle.model.proofs.Linked.{Linked}
 use Rattle.refinement.specs.Worlds.{current, other}
-use Rattle.refinement.specs.Demand3.{Lengths, Ideal, ideal, stepAnswer, predict}
+use Rattle.refinement.specs.Demand3.{Lengths, Ideal, ideal, stepDone, stepAnswer, predict}
 use Rattle.invariant.proofs.Lists.{in-keep, of-keep, distinct-keep}
-use Rattle.invariant.proofs.Shape.{IsBucket, Shape, shape-sound}
+use Rattle.invariant.proofs.Shape.{IsBucket, Shape, facts, shape-sound}
 use Rattle.invariant.proofs.Places.{same, LiveTable, key-bucket, key-live}
 use Rattle.invariant.proofs.LinkedChains.{shape-linked}
-use Rattle.invariant.proofs.FirstEntries.{FilledFirst, old-empty, first-filled}
+use Rattle.invariant.proofs.FirstEntries.{EmptyBefore, Meets, old-empty, step-meets}
 use Rattle.invariant.proofs.StoreAfter.{HeldIn, held-as, StoreAfter}
-use Rattle.invariant.proofs.RehashMove.{HeldThen, stepped-store}
+use Rattle.invariant.proofs.RehashMove.{after, HeldThen, moved-store, passed-store}
 use Rattle.invariant.proofs.RehashEnd.{swappedTable, swappedPlace, finished-shape, finished-at}
-use Rattle.invariant.proofs.CallAnswers.{step-none, step-finishes, step-moves}
+use Rattle.invariant.proofs.CallAnswers.{step-none, step-idle, step-passes, step-moves}
 use Rattle.refinement.proofs.Orientation.{worldBy, soundAt, left-reply, left-world}
 use Rattle.refinement.proofs.Refusals.{refused-keeps}
-use Rattle.refinement.proofs.Agreement.{HeldAt, AgreesOn, Agrees, Steps, leaves, after-agrees, retabled-agrees, kept-agrees, turned-agrees}
-use Rattle.refinement.proofs.MovedKeys.{lowestOf, called-for, none-unmoved, some-unmoved, lowest-first, moved-count}
+use Rattle.refinement.proofs.Agreement.{HeldAt, AgreesOn, Agrees, Steps, leaves, Says, after-agrees, retabled-agrees, kept-agrees, turned-agrees}
+use Rattle.refinement.proofs.MovedKeys.{lowestOf, lowest-reached, called-for, none-unmoved, none-left, not-lower, lowest-first, moved-count}
 
 -- ---- the end of the rehash
 
@@ -89,13 +90,44 @@ finished-on a rehashing none-left =
     (finished-before (a .shape) rehashing none-left) (finished-after (a .shape) rehashing none-left)
     [] (λ key j. absurd j) (λ again key k. let z : _≡_ {A = ℕ} 0 1 = cc in absurd (omega arith)) tt
 
--- ---- a chain moved
+-- ---- the store, before it is asked whether the rehash is over
+
+AgreesAfter : Ideal → After State → Type 0
+AgreesAfter i (After.after t c o e) = AgreesOn t c o e i
+
+stored : {s t : State} {c o e : List ℕ} {keys index : ℕ} {places : Place → ℕ → ℕ → Type 0}
+    (l : StoreAfter s (λ u. u) (After.after t c o e) keys index places) (i : Ideal) → Says s keys index places i
+    → AgreesOn t c o e i
+unfolding AgreesAfter
+stored l i says = subst (AgreesAfter i) (sym (l .is)) (after-agrees l i says)
+
+-- empty buckets passed, up to bucket b
+passed-on : {s : State} {current other entries : List ℕ} {i : Ideal} (a : AgreesOn s current other entries i)
+    → s .rehashing ≡ true → (b : ℕ) → b ≤ s .«old_size» → ((c : ℕ) → c < b → getD current c 0 ≡ 0)
+    → AgreesOn (advanced s 0 b) current other entries
+    (ideal (i .plain) (Tables.two (s .«old_size») (s .«new_size»)) (i .turned) (i .unmoved) b)
+unfolding ideal tablesOf tablesBy Live IsBucket sizeOf
+passed-on {s} a rehashing b fits empty =
+    stored (passed-store (a .shape) rehashing b fits empty) _
+    (record {
+      capacity = a .capacity;
+      count = a .count;
+      distinct = a .distinct;
+      tables = ap (λ (t : Bool). tablesBy t (s .«old_size») (s .«new_size»)) rehashing;
+      turned = a .turned;
+      next = refl;
+      in-map = λ t l c k v h. a .in-map k v (record { place = t; live = l; bucket = c; held = h });
+      in-store = λ k v e. let h = a .in-store k v e in (h .place, h .live, h .bucket, h .held);
+      in-unmoved = λ t c k v l h. a .in-unmoved t k (record { value = v; index = c; live = l; held = h });
+      unmoved-in = λ k j. let h = a .unmoved-in k j in (h .index, h .value, h .live, h .held);
+      unmoved-once = a .unmoved-once;
+    })
 
 old-number : (b c : ℕ) → Place.bucket Table.Old b ≡ Place.bucket Table.Old c → b ≡ c
 old-number b c e = cc
 
 module _ {s : State} {current other entries : List ℕ} {i : Ideal} (a : AgreesOn s current other entries i)
-    (rehashing : s .rehashing ≡ true) (b : ℕ) (first : FilledFirst (a .shape) b) where
+    (rehashing : s .rehashing ≡ true) (b : ℕ) (before : EmptyBefore (a .shape) b) where
   abbrev from : Place
   from = Place.bucket Table.Old b
 
@@ -103,25 +135,24 @@ module _ {s : State} {current other entries : List ℕ} {i : Ideal} (a : AgreesO
   no-head : (c : ℕ) → c < b → getD current c 0 ≡ 0
   unfolding Linked headAt bucketsOf sizeOf Live
   no-head c l =
-      shape-linked (a .shape) (Place.bucket Table.Old c) (omega (arith, first .live)) [] (first .empty-before c l)
+      shape-linked (a .shape) (Place.bucket Table.Old c) (omega (arith, before .live)) [] (before .empty c l)
 
   abbrev HoldsThen : Place → ℕ → ℕ → Type 0
   HoldsThen = HeldThen s entries (a .shape .at) b
 
-  store : StoreAfter s (StepAnswer.Stepped (length (a .shape .at from)))
-      (movedChain s current other entries b (some (a .shape .at from))) (keysHeld s) (suc b) HoldsThen
-  store = stepped-store (a .shape) rehashing b (first .live) no-head
+  abbrev goneTo : Chains
+  goneTo = after s other entries (a .shape .at from)
 
   -- the keys that stay
   abbrev stays : ℕ → Bool
   stays j = not (eqb (bucketOf j (s .«old_size»)) b)
 
-  -- the store then agrees
-  moved-on : AgreesOn (store .state) (store .current) (store .other) (store .entries)
+  -- the chain of this one moved
+  moved-on : AgreesOn (advanced s (length (a .shape .at from)) (suc b)) (set current b 0) (goneTo .buckets) (goneTo .entries)
       (ideal (i .plain) (Tables.two (s .«old_size») (s .«new_size»)) (i .turned) (keep stays (i .unmoved)) (suc b))
   unfolding keyPlace Live IsBucket sizeOf LiveTable tablesOf tablesBy ideal
   moved-on =
-      after-agrees store _
+      stored (moved-store (a .shape) rehashing b (before .live) no-head) _
       (record {
         capacity = a .capacity;
         count = a .count;
@@ -139,7 +170,7 @@ module _ {s : State} {current other entries : List ℕ} {i : Ideal} (a : AgreesO
       in-map : (t : Place) → Live s t → IsBucket t → (k v : ℕ) → HoldsThen t k v → valueFor k (i .plain .pairs) ≡ some v
       in-map t l bucket k v (inl h) = a .in-map k v (record { place = t; live = l; bucket = bucket; held = h .1 })
       in-map t l bucket k v (inr h) =
-          a .in-map k v (record { place = from; live = first .live; bucket = tt; held = h .1 })
+          a .in-map k v (record { place = from; live = before .live; bucket = tt; held = h .1 })
 
       in-store : (k v : ℕ) → valueFor k (i .plain .pairs) ≡ some v → (t : Place) × Live s t × IsBucket t × HoldsThen t k v
       in-store k v e =
@@ -174,14 +205,16 @@ module _ {s : State} {current other entries : List ℕ} {i : Ideal} (a : AgreesO
 
 -- ---- the call
 
--- what a step that moves keys answers, and the ideal then
-unfoldable movingFrom : Ideal → ℕ → ℕ → List ℕ → ℕ → Reply Ideal
-movingFrom i old new ks b =
-    reply 0 (length (keep (λ j. eqb (bucketOf j old) b) ks) ∷ 1 ∷ [])
-    (ideal (i .plain) (Tables.two old new) (i .turned) (keep (λ j. not (eqb (bucketOf j old) b)) ks) (suc b))
+-- what a step answers where some keys are unmoved: those of the lowest bucket go, if it is in reach
+unfoldable movingFrom : Ideal → ℕ → ℕ → List ℕ → ℕ → Bool → Reply Ideal
+movingFrom i old new ks b near =
+    cond near
+    (stepDone i old new (length (keep (λ j. eqb (bucketOf j old) b) ks)) (keep (λ j. not (eqb (bucketOf j old) b)) ks) (suc b))
+    (stepDone i old new 0 ks (i .index + emptyVisits))
 
 some-moving : (i : Ideal) (old new : ℕ) (ks : List ℕ) → ks ≢ []
-    → stepAnswer i (Tables.two old new) ks ≡ movingFrom i old new ks (lowestOf old ks)
+    → stepAnswer i (Tables.two old new) ks
+    ≡ movingFrom i old new ks (lowestOf old ks) (ltb (lowestOf old ks) (i .index + emptyVisits))
 unfolding stepAnswer movingFrom lowestOf
 some-moving i old new [] f = absurd (f refl)
 some-moving i old new (k ∷ ks) f = refl
@@ -226,35 +259,94 @@ module _ (w : World) (i : Ideal) (a : Agrees w i) where
       leaves w i a Call.rehashStep 8 (0 ∷ 0 ∷ []) (refused-keeps w Call.rehashStep (λ z. omega (arith, number))) number
       (λ f. ap (λ (r : Reply State). r .values) replied)
 
+  abbrev old : ℕ
+  old = s .«old_size»
+
+  abbrev new : ℕ
+  new = s .«new_size»
+
+  -- Once so many keys have moved, and the store agrees with the ideal as far as that goes: with none unmoved the rehash is
+  -- over, else it goes on.
+  module _ (count next : ℕ) (c o e ks : List ℕ)
+      (is : call (current w) (other w) ≡ After.after (calls.stepDone s count next) c o e)
+      (then : AgreesOn (advanced s count next) c o e (ideal (i .plain) (Tables.two old new) (i .turned) ks next)) where
+    abbrev t : State
+    t = advanced s count next
+
+    over : t .«old_used» ≡ 0 → Steps w Call.rehashStep (stepDone i old new count ks next)
+    unfolding calls.stepDone settled advanced finished retabled stateOf sizeOf ideal stepDone
+    over z =
+        let j : Bool → Ideal = λ f. ideal (i .plain) (Tables.one new) (not f) [] 0 in
+        subst (λ (js : List ℕ). Steps w Call.rehashStep (stepDone i old new count js next)) (sym (none-unmoved then z))
+        (step-answered count (finished t) c o e (j (i .turned))
+        (is ∙ ap (λ (b : Bool). After.after (StepAnswer.Stepped count (cond b (finished t) t)) c o e) (eq-eqb (t .«old_used») 0 z))
+        (turned-agrees (s .«second_is_current») (finished t) c o e (j (i .turned)) refl
+        (subst (λ (f : Bool). AgreesOn (finished t) o c e (j f)) (then .turned) (finished-on then refl z))))
+
+    on : t .«old_used» ≢ 0 → Steps w Call.rehashStep (stepDone i old new count ks next)
+    unfolding calls.stepDone settled advanced retabled stateOf ideal stepDone
+    on f = by ks (λ e. f (none-left then refl e)) then
+      where
+        by : (js : List ℕ) → js ≢ []
+            → AgreesOn t c o e (ideal (i .plain) (Tables.two old new) (i .turned) js next)
+            → Steps w Call.rehashStep (stepDone i old new count js next)
+        by [] g h = absurd (g refl)
+        by (k ∷ js) g h =
+            step-answered count t c o e _
+            (is ∙ ap (λ (b : Bool). After.after (StepAnswer.Stepped count (cond b (finished t) t)) c o e) (ne-eqb (t .«old_used») 0 f))
+            (kept-agrees (s .«second_is_current») t c o e _ refl h)
+
+    settles : Steps w Call.rehashStep (stepDone i old new count ks next)
+    settles = elim (ℕ-discrete (t .«old_used») 0) [ yes z ↦ over z | no f ↦ on f ]
+
   Moves : List ℕ → Type 0
-  Moves ks = Steps w Call.rehashStep (stepAnswer i (Tables.two (s .«old_size») (s .«new_size»)) ks)
+  Moves ks = Steps w Call.rehashStep (stepAnswer i (Tables.two old new) ks)
 
-  finishes : s .rehashing ≡ true → s .«old_used» ≡ 0 → Moves (i .unmoved)
-  unfolding Moves stepAnswer finished retabled stateOf
-  finishes t z =
-      let j : Bool → Ideal = λ f. ideal (i .plain) (Tables.one (s .«new_size»)) (not f) [] 0 in
-      subst Moves (sym (none-unmoved a z))
-      (step-answered 0 (finished s) (current w) (other w) (w .entries) (j (i .turned)) (step-finishes (a .shape) t z)
-      (turned-agrees (s .«second_is_current») (finished s) (current w) (other w) (w .entries) (j (i .turned)) refl
-      (subst (λ (f : Bool). AgreesOn (finished s) (other w) (current w) (w .entries) (j f)) (a .turned)
-      (finished-on a t z))))
+  module _ (rehashing : s .rehashing ≡ true) where
+    -- with no keys in the old table
+    idle : s .«old_used» ≡ 0 → Moves (i .unmoved)
+    unfolding Moves stepAnswer stepDone
+    idle z =
+        let fits = facts (a .shape) .rehashing rehashing .index-fits in
+        let none = none-unmoved a z in
+        subst Moves (sym none)
+        (subst (λ (ks : List ℕ). Steps w Call.rehashStep (stepDone i old new 0 ks (s .«rehash_index»))) none
+        (settles 0 (s .«rehash_index») _ _ _ (i .unmoved) (step-idle (a .shape) rehashing z)
+        (passed-on a rehashing (s .«rehash_index») fits (a .shape .passed-empty))))
 
-  moves : s .rehashing ≡ true → s .«old_used» ≢ 0 → Moves (i .unmoved)
-  unfolding Moves movingFrom
-  moves t f =
-      let (b, first) = first-filled (a .shape) t f in
-      let ns = a .shape .at (Place.bucket Table.Old b) in
-      let l = store a t b first in
-      let j =
-      ideal (i .plain) (Tables.two (s .«old_size») (s .«new_size»)) (i .turned) (keep (stays a t b first) (i .unmoved))
-      (suc b) in
-      subst (λ (x : Reply Ideal). Steps w Call.rehashStep x)
-      (ap₂ (λ (n : ℕ) (r : Bool). reply 0 (n ∷ cond r 1 0 ∷ []) j) (sym (moved-count a t b first)) (l .same .rehashing ∙ t)
-      ∙ ap (movingFrom i (s .«old_size») (s .«new_size») (i .unmoved)) (sym (lowest-first a t b first))
-      ∙ sym (some-moving i (s .«old_size») (s .«new_size») (i .unmoved) (some-unmoved a t b first)))
-      (step-answered (length ns) (l .state) (l .current) (l .other) (l .entries) j (step-moves (a .shape) t f b first ∙ l .is)
-      (kept-agrees (s .«second_is_current») (l .state) (l .current) (l .other) (l .entries) j (l .same .current)
-      (moved-on a t b first)))
+    -- with some, by what a step meets
+    moves : s .«old_used» ≢ 0 → Moves (i .unmoved)
+    unfolding Moves movingFrom movedChain
+    moves f =
+        let some-left : i .unmoved ≢ [] = λ e. f (none-left a rehashing e) in
+        subst (λ (r : Reply Ideal). Steps w Call.rehashStep r) (sym (some-moving i old new (i .unmoved) some-left))
+        (by some-left (step-meets (a .shape) rehashing f))
+      where
+        near : (b : ℕ) (t : Bool) → lowestOf old (i .unmoved) ≡ b → ltb b (i .index + emptyVisits) ≡ t
+            → movingFrom i old new (i .unmoved) b t
+            ≡ movingFrom i old new (i .unmoved) (lowestOf old (i .unmoved)) (ltb (lowestOf old (i .unmoved)) (i .index + emptyVisits))
+        near b t e l = rw (e, l)
+
+        by : i .unmoved ≢ [] → Meets (a .shape)
+            → Steps w Call.rehashStep
+            (movingFrom i old new (i .unmoved) (lowestOf old (i .unmoved)) (ltb (lowestOf old (i .unmoved)) (i .index + emptyVisits)))
+        by some-left (Meets.filled b e before filled reach) =
+            subst (λ (r : Reply Ideal). Steps w Call.rehashStep r)
+            (ap (λ (n : ℕ). stepDone i old new n (keep (stays a rehashing b before) (i .unmoved)) (suc b))
+            (sym (moved-count a rehashing b before filled))
+            ∙ near b true (lowest-first a rehashing b before filled)
+            (lt-ltb b (i .index + emptyVisits) (omega (arith, a .index))))
+            (settles (length (a .shape .at (Place.bucket Table.Old b))) (suc b) _ _ _ (keep (stays a rehashing b before) (i .unmoved))
+            (step-moves (a .shape) rehashing f b e (before .live)) (moved-on a rehashing b before))
+        by some-left (Meets.passed b e before is) =
+            let (low, j, l) = lowest-reached old (i .unmoved) some-left in
+            let far = not-lower a b before low j in
+            subst (λ (r : Reply Ideal). Steps w Call.rehashStep r)
+            (ap (stepDone i old new 0 (i .unmoved)) (omega (arith, a .index))
+            ∙ near (lowestOf old (i .unmoved)) false refl
+            (le-ltb (lowestOf old (i .unmoved)) (i .index + emptyVisits) (omega (arith, a .index))))
+            (settles 0 b _ _ _ (i .unmoved) (step-passes (a .shape) rehashing f b e)
+            (passed-on a rehashing b (omega (arith, before .live)) (no-head a rehashing b before)))
 
   -- a step, refused, ending the rehash or moving a chain
   pub step-steps : (l : Lengths) → Steps w Call.rehashStep (predict l i Call.rehashStep)
@@ -265,4 +357,4 @@ module _ (w : World) (i : Ideal) (a : Agrees w i) where
       by : (t : Bool) → s .rehashing ≡ t
           → Steps w Call.rehashStep (stepAnswer i (tablesBy t (s .«old_size») (s .«new_size»)) (i .unmoved))
       by false e = refused e
-      by true e = elim (ℕ-discrete (s .«old_used») 0) [ yes z ↦ finishes e z | no f ↦ moves e f ]
+      by true e = elim (ℕ-discrete (s .«old_used») 0) [ yes z ↦ idle e z | no f ↦ moves e f ]

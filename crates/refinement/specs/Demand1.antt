@@ -9,7 +9,7 @@ use lib.ListN.{length}
 use Rattle.cursor.specs.Member.{In}
 use Rattle.model.specs.declared.State.{State}
 use Rattle.model.specs.declared.Table.{Table}
-use Rattle.model.specs.Limits.{legalCapacity, legalSize}
+use Rattle.model.specs.Limits.{legalCapacity, legalSize, emptyVisits}
 use Rattle.model.specs.Memory.{linkOf, keyOf, keysHeld, Place, keyPlace, headAt, budgetAt, belongs}
 use Rattle.model.specs.Answers.{reply}
 use Rattle.model.specs.Calls.{sound, noState}
@@ -75,7 +75,7 @@ unfoldable pub FreeListDamaged : World → Type 0
 FreeListDamaged w =
     (¬ Full w) × ((w .state .«free_head» ≡ 0) ⊎ (w .state .capacity < linkOf (w .entries) (w .state .«free_head»)))
 
--- A step moves the first filled bucket from the next one on.
+-- A step passes empty buckets from the next one on, but only so many, and moves the first filled one.
 
 unfoldable pub EmptyFrom : World → ℕ → Type 0
 EmptyFrom w end =
@@ -83,16 +83,20 @@ EmptyFrom w end =
 
 pub record FirstFilled (w : World) (b : ℕ) : Type 0 where
   pub from-next : w .state .«rehash_index» ≤ b
+  pub in-reach : b < w .state .«rehash_index» + emptyVisits
   pub in-table : b < w .state .«old_size»
   pub filled : ¬ (headOf w (Place.bucket Table.Old b) ≡ 0)
   pub empty-before : EmptyFrom w b
 
--- the old table holds keys, but no bucket is left that is filled, or the chain to move is not sound
+-- the table's end comes before a filled bucket, be it with the last empty one that a step passes
+unfoldable pub EndFirst : World → Type 0
+EndFirst w = (w .state .«old_size» ≤ w .state .«rehash_index» + emptyVisits) × EmptyFrom w (w .state .«old_size»)
+
+-- the old table holds keys, but its end comes first, or the chain to move is not sound
 unfoldable pub StepDamaged : World → Type 0
 StepDamaged w =
     (0 < w .state .«old_used»)
-    × (EmptyFrom w (w .state .«old_size»)
-    ⊎ ((b : ℕ) × FirstFilled w b × (¬ SoundChain w (Place.bucket Table.Old b))))
+    × (EndFirst w ⊎ ((b : ℕ) × FirstFilled w b × (¬ SoundChain w (Place.bucket Table.Old b))))
 
 -- A walk call reads the buckets of its group.
 

@@ -1,17 +1,17 @@
 -- Demand 3, one claim about a whole sequence of calls, for any meaning of the ten calls. An ideal store is fed the same
 -- calls; from their arguments and the lengths of the lent buffers alone it says what each answers (but for what a look shows,
 -- which is said of the memory) and where each key is.
-use Prim.Native.Nat.{ℕ, zero, suc, _*_, _≤_, _<_, max, min}
+use Prim.Native.Nat.{ℕ, zero, suc, _+_, _*_, _≤_, _<_, max, min}
 use mathlib.Core.Path.{_≡_}
 use mathlib.Core.Bool.{Bool, true, false, _&&_, cond, not}
 use mathlib.Core.List.{List, [], _∷_, _++_}
 use lib.ListN.{length, take, drop, getD}
-use lib.Dec.{leb, eqb}
+use lib.Dec.{leb, ltb, eqb}
 use Rattle.cursor.specs.Member.{In, Distinct, any, keep}
 use Rattle.cursor.specs.Next.{next}
 use Rattle.model.specs.declared.Table.{Table}
 use Rattle.model.specs.Keys.{bucketOf}
-use Rattle.model.specs.Limits.{legalCapacity, legalSize}
+use Rattle.model.specs.Limits.{legalCapacity, legalSize, emptyVisits}
 use Rattle.model.specs.Memory.{Place}
 use Rattle.model.specs.Answers.{Reply, reply}
 use Rattle.model.specs.Calls.{longEnough, acceptable, suggested, oldNew}
@@ -89,21 +89,29 @@ resizeAnswer l i size (Tables.one old) =
     (reply 0 [] (ideal (i .plain) (Tables.two old size) (i .turned) (keysOf (i .plain .pairs)) 0))
     (reply 6 [] i)
 
--- A step moves all the keys of the lowest bucket that an unmoved key calls for; with none unmoved the rehash ends.
+-- A step moves all the keys of the lowest bucket that an unmoved key calls for. But it passes only so many empty buckets: if
+-- that bucket lies further on, it moves none, and the next bucket is the one behind those.
 
 -- the lowest of bucket b and those that the keys call for
 unfoldable pub lowest : ℕ → ℕ → List ℕ → ℕ
 lowest size b [] = b
 lowest size b (k ∷ ks) = lowest size (min b (bucketOf k size)) ks
 
+-- so many moved, these keys still unmoved, that bucket the next one; with none unmoved the rehash is over
+unfoldable pub stepDone : Ideal → ℕ → ℕ → ℕ → List ℕ → ℕ → Reply Ideal
+stepDone i old new count [] next = reply 0 (count ∷ 0 ∷ []) (ideal (i .plain) (Tables.one new) (not (i .turned)) [] 0)
+stepDone i old new count (k ∷ ks) next =
+    reply 0 (count ∷ 1 ∷ []) (ideal (i .plain) (Tables.two old new) (i .turned) (k ∷ ks) next)
+
 unfoldable pub stepAnswer : Ideal → Tables → List ℕ → Reply Ideal
 stepAnswer i (Tables.one size) unmoved = reply 8 (0 ∷ 0 ∷ []) i
-stepAnswer i (Tables.two old new) [] = reply 0 (0 ∷ 0 ∷ []) (ideal (i .plain) (Tables.one new) (not (i .turned)) [] 0)
+stepAnswer i (Tables.two old new) [] = stepDone i old new 0 [] (i .index)
 stepAnswer i (Tables.two old new) (k ∷ ks) =
     let b = lowest old (bucketOf k old) ks in
     let moves : ℕ → Bool = λ j. eqb (bucketOf j old) b in
-    reply 0 (length (keep moves (k ∷ ks)) ∷ 1 ∷ [])
-    (ideal (i .plain) (Tables.two old new) (i .turned) (keep (λ j. not (moves j)) (k ∷ ks)) (suc b))
+    cond (ltb b (i .index + emptyVisits))
+    (stepDone i old new (length (keep moves (k ∷ ks))) (keep (λ j. not (moves j)) (k ∷ ks)) (suc b))
+    (stepDone i old new 0 (k ∷ ks) (i .index + emptyVisits))
 
 -- A walk call's pairs are those whose bucket, in the table that has the key, is one of the group's.
 

@@ -30,13 +30,12 @@ unfoldable nexts : Unit {0}
 unfolding handing wrong.answeringNext wrong.overAgain
 nexts = tt
 
--- A bucket of the larger table twice: key 0 is in bucket 0 of the new table, of size 2.
+-- A bucket of the larger table twice: key 0 is added to bucket 0 of the new table, of size 2.
 
 twice-walk : ExactlyOnce handsLargerTwice → HandOuts (visited 0 1 (0 ∷ []) (0 ∷ 0 ∷ []) ∷ []) true
 unfolding handing handsLargerTwice wrong.inRehash wrong.byGroup wrong.headTwice
 twice-walk d =
-    walk-at d 1 refl (add 0 10 ∷ Call.resize 2 ∷ Call.rehashStep ∷ Call.scan 0 room ∷ [])
-    (other (other (other (last room refl refl refl))))
+    walk-at d 1 refl (Call.resize 2 ∷ add 0 10 ∷ Call.scan 0 room ∷ []) (other (other (last room refl refl refl)))
 
 -- `at-most-once`, within a call
 pub handsLargerTwice-excluded : ExactlyOnce handsLargerTwice → ⊥
@@ -102,7 +101,7 @@ neverEnds-excluded-by-halvings d =
     let h : HandOuts (zeroAt 0 2 ∷ zeroAt 1 1 ∷ visited 1 2 (0 ∷ []) [] ∷ zeroAt 1 1 ∷ []) false = walk-at d 2 refl
     (add 0 10 ∷ Call.scan 0 room
     ∷ Call.resize 1 ∷ Call.rehashStep ∷ Call.scan 1 room
-    ∷ Call.rehashStep ∷ Call.resize 2 ∷ Call.rehashStep ∷ Call.rehashStep ∷ Call.scan 1 room
+    ∷ Call.resize 2 ∷ Call.rehashStep ∷ Call.scan 1 room
     ∷ Call.resize 1 ∷ Call.rehashStep ∷ Call.scan 1 room ∷ [])
     (other
     (onward room refl refl (eqb-false 1 0 refl)
@@ -111,10 +110,8 @@ neverEnds-excluded-by-halvings d =
     (onward room refl refl (eqb-false 1 0 refl)
     (other
     (other
-    (other
-    (other
     (onward room refl refl (eqb-false 1 0 refl)
-    (other (other (onward room refl refl (eqb-false 1 0 refl) over))))))))))))) in
+    (other (other (onward room refl refl (eqb-false 1 0 refl) over))))))))))) in
     let most = h .halvings 1 (lit≤ tt) 0 in
     omega arith
 
@@ -144,8 +141,8 @@ threeTimes = zeroAt 0 4 ∷ zeroAt 2 2 ∷ zeroAt 1 1 ∷ []
 pub three-visits : Walk (lengthsOf zeros) 0 (begun 3 4)
     (events perform (started perform 4)
     (add 0 10 ∷ Call.scan 0 room
-    ∷ Call.resize 2 ∷ Call.rehashStep ∷ Call.rehashStep ∷ Call.scan 2 room
-    ∷ Call.resize 1 ∷ Call.rehashStep ∷ Call.rehashStep ∷ Call.scan 1 room ∷ []))
+    ∷ Call.resize 2 ∷ Call.rehashStep ∷ Call.scan 2 room
+    ∷ Call.resize 1 ∷ Call.rehashStep ∷ Call.scan 1 room ∷ []))
     threeTimes true
 unfolding computing
 three-visits =
@@ -153,7 +150,7 @@ three-visits =
     (onward room refl refl (eqb-false 2 0 refl)
     (other
     (other
-    (other (onward room refl refl (eqb-false 1 0 refl) (other (other (other (last room refl refl refl)))))))))
+    (onward room refl refl (eqb-false 1 0 refl) (other (other (last room refl refl refl)))))))
 
 pub bounds-met : (times 0 threeTimes ≡ 1 + shrinks threeTimes) × (times 0 threeTimes ≡ 1 + 2)
     × (largest threeTimes ≡ 2 ^ 2 * least threeTimes)

@@ -103,7 +103,7 @@ overlooksDamage-excluded d =
 -- keys 0 and 1 in the new table's two buckets, but the state counts one
 miscounted : World
 miscounted =
-    let w = run perform (started perform 1) (add 0 10 ∷ add 1 11 ∷ Call.resize 2 ∷ Call.rehashStep ∷ []) in
+    let w = run perform (started perform 1) (Call.resize 2 ∷ add 0 10 ∷ add 1 11 ∷ []) in
     world (recounted (w .state) (w .state .«free_head») (oldNew 0 1)) (w .first) (w .second) (w .entries)
 
 -- a chain of one entry

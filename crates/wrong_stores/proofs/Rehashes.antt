@@ -22,47 +22,52 @@ unfolding computing cutsBuffer
 cutsBuffer-excluded d =
     apart (λ (l : Lengths). l .second) _ _ refl (at d 2 refl (Call.resize 4 ∷ []) .matches .lengths)
 
--- A store with a key in each of its two buckets, and a rehash to four. Three are excluded by `answers`: a step answers
--- what the map's keys and the live tables say that it moves.
+-- A store with a key in each of three buckets, and a rehash of it. Three are excluded by `answers`: a step answers what the
+-- map's keys and the live tables say that it moves.
 
-abbrev twoKeys : List Call → List Call
-twoKeys calls = add 0 10 ∷ add 1 11 ∷ Call.resize 4 ∷ Call.rehashStep ∷ calls
+abbrev threeKeys : List Call → List Call
+threeKeys calls = add 0 10 ∷ add 1 11 ∷ add 2 12 ∷ Call.resize 8 ∷ Call.rehashStep ∷ calls
 
 pub stepsNowhere-excluded : Demand3 stepsNowhere → ⊥
 unfolding computing stepsNowhere
 stepsNowhere-excluded d =
-    differ 0 (0 ∷ 1 ∷ []) (1 ∷ 1 ∷ []) refl (at d 2 refl (twoKeys []) .answers .1 .1 .1 .0 .values (no-look refl))
+    differ 0 (0 ∷ 1 ∷ []) (1 ∷ 1 ∷ []) refl (at d 4 refl (threeKeys []) .answers .1 .1 .1 .1 .0 .values (no-look refl))
 
 pub countsOneMore-excluded : Demand3 countsOneMore → ⊥
 unfolding computing countsOneMore
 countsOneMore-excluded d =
-    differ 0 (2 ∷ 1 ∷ []) (1 ∷ 1 ∷ []) refl (at d 2 refl (twoKeys []) .answers .1 .1 .1 .0 .values (no-look refl))
+    differ 0 (2 ∷ 1 ∷ []) (1 ∷ 1 ∷ []) refl (at d 4 refl (threeKeys []) .answers .1 .1 .1 .1 .0 .values (no-look refl))
 
 pub movesAll-excluded : Demand3 movesAll → ⊥
 unfolding computing movesAll wrong.moreSteps
 movesAll-excluded d =
-    differ 0 (2 ∷ 1 ∷ []) (1 ∷ 1 ∷ []) refl (at d 2 refl (twoKeys []) .answers .1 .1 .1 .0 .values (no-look refl))
+    differ 0 (3 ∷ 0 ∷ []) (1 ∷ 1 ∷ []) refl (at d 4 refl (threeKeys []) .answers .1 .1 .1 .1 .0 .values (no-look refl))
 
 -- `undamaged`, `state-sound`: with no rehash under way the next bucket is 0
 pub keepsIndex-excluded : Demand3 keepsIndex → ⊥
 unfolding computing keepsIndex wrong.goingOn
 keepsIndex-excluded d =
     apart (λ sound. cond sound 1 0) false true refl
-    (at d 2 refl (twoKeys (Call.rehashStep ∷ Call.rehashStep ∷ [])) .undamaged .state-sound)
+    (at d 4 refl (threeKeys (Call.rehashStep ∷ Call.rehashStep ∷ [])) .undamaged .state-sound)
 
--- `matches`, `index`: the next bucket is the one behind the bucket moved
+-- `matches`, `index`: the next bucket is the one behind the bucket moved; the one behind that is empty here
 pub stepsAhead-excluded : Demand3 stepsAhead → ⊥
-unfolding computing stepsAhead wrong.goingOn wrong.ahead
+unfolding computing stepsAhead wrong.goingOn wrong.behindEmpty
 stepsAhead-excluded d =
-    eqb-false 2 1 refl (at d 2 refl (add 0 10 ∷ Call.resize 4 ∷ Call.rehashStep ∷ []) .matches .index)
+    eqb-false 2 1 refl (at d 4 refl (add 0 10 ∷ add 2 12 ∷ Call.resize 8 ∷ Call.rehashStep ∷ []) .matches .index)
+
+-- all that the lying step computes with
+unfoldable lying : Unit {0}
+unfolding wrong.goingOn wrong.saying wrong.movedBefore wrong.oneMore walks.entriesOf walks.entriesUpTo
+lying = tt
 
 -- The lying step is excluded by `matches`, `each-table`: after it the key of the second bucket is in the new table, and the
 -- ideal has it in the old one.
 pub movesQuietly-excluded : Demand3 movesQuietly → ⊥
-unfolding computing movesQuietly wrong.goingOn wrong.saying wrong.moreSteps
+unfolding computing movesQuietly lying
 movesQuietly-excluded d =
     apart (oldNew 0 1) Table.New Table.Old refl
-    (at d 2 refl (twoKeys []) .matches .each-table 1 11
+    (at d 4 refl (threeKeys []) .matches .each-table 1 11
     (held 2 Table.New 1 (lit< tt) (inl refl) refl refl))
 
 -- Over a whole rehash with no walk call in it, it answers as the ideal.
@@ -89,12 +94,12 @@ plainly l i (e ∷ es) p = (
   plainly l (predict l i (e .call) .state) es (p .3),
 )
 
--- the two steps that move the keys, and the one that ends the rehash
+-- the three steps
 abbrev wholeRehash : List Event
-wholeRehash = events movesQuietly (started movesQuietly 2) (twoKeys (Call.rehashStep ∷ Call.rehashStep ∷ []))
+wholeRehash = events movesQuietly (started movesQuietly 4) (threeKeys (Call.rehashStep ∷ Call.rehashStep ∷ []))
 
-pub movesQuietly-answers : Answered (lengthsOf zeros) (begun 3 2) wholeRehash
-unfolding computing movesQuietly wrong.goingOn wrong.saying wrong.moreSteps wrong.pretended wrong.from walks.entriesOf walks.entriesUpTo Plainly
+pub movesQuietly-answers : Answered (lengthsOf zeros) (begun 3 4) wholeRehash
+unfolding computing movesQuietly lying Plainly
 movesQuietly-answers =
-    plainly (lengthsOf zeros) (begun 3 2) wholeRehash
-    (refl, refl, refl, (refl, refl, refl, (refl, refl, refl, (refl, refl, refl, (refl, refl, refl, (refl, refl, refl, tt))))))
+    plainly (lengthsOf zeros) (begun 3 4) wholeRehash
+    (refl, refl, refl, (refl, refl, refl, (refl, refl, refl, (refl, refl, refl, (refl, refl, refl, (refl, refl, refl, (refl, refl, refl, tt)))))))

@@ -5,7 +5,7 @@ use Prim.Native.Nat.{ℕ, zero, suc, _<_}
 use mathlib.Core.Path.{_≡_, refl, sym, _∙_, ap}
 use mathlib.Core.Bool.{Bool, false}
 use mathlib.Core.Logic.{_⊎_, inl, inr}
-use mathlib.Core.List.{List}
+use mathlib.Core.List.{List, [], _∷_, _++_}
 use lib.ListN.{replicate, getD}
 use native.Mathlib.Omega.{arith}
 use lib.Dec.{eqb}
@@ -16,7 +16,7 @@ use Rattle.model.specs.Memory as memory
 use Rattle.model.specs.Memory.{keyOf, valueOf, Place, Live, sizeOf, entriesAt}
 use Rattle.model.specs.Calls as calls
 use Rattle.model.specs.Sequences as sequences
-use Rattle.model.specs.Sequences.{World, KeyCall, ReadCall, Call, Outcome, carry, events}
+use Rattle.model.specs.Sequences.{World, KeyCall, ReadCall, Call, Outcome, carry, run, events}
 use Rattle.model.proofs.Computing as model
 use Rattle.refinement.specs.Worlds as worlds
 use Rattle.refinement.specs.Worlds.{current, other, Held}
@@ -26,6 +26,8 @@ use Rattle.refinement.specs.Demand3 as demand3
 use Rattle.refinement.specs.Demand3.{Demand3, SequenceHolds, lengthsOf, begun, startNumber, Visit, Walk}
 use Rattle.refinement.specs.ExactlyOnce as once
 use Rattle.refinement.specs.ExactlyOnce.{ExactlyOnce, HandOuts}
+use Rattle.refinement.specs.RehashesEnd as ends
+use Rattle.refinement.specs.RehashesEnd.{RehashEnds, RehashesEnd}
 use Rattle.wrong_stores.specs.OneCall as one
 use Rattle.wrong_stores.specs.OneCall.{byCall, byReadCall}
 
@@ -72,7 +74,7 @@ theStores = tt
 
 -- the demands, and what they say of a world
 unfoldable pub theStatements : Unit {0}
-unfolding worlds.current worlds.other worlds.UndamagedAt demand1.BadState demand1.nth demand1.headOf demand1.ChainAt demand1.SoundChain demand1.Damaged demand1.liveTables demand1.keyPlaces demand1.OnChain demand1.KeyHeld demand1.Full demand1.FreeListDamaged demand1.EmptyFrom demand1.StepDamaged demand1.places demand1.KeysOn demand1.TooMany demand1.GroupDamaged demand1.Short demand1.row demand1.keyRows demand1.rows demand1.Decides demand1.Leaves demand1.keyZeros demand1.LeavesAll demand2.groupEntries demand2.nextCursor demand2.HandsOut demand3.lengthsOf demand3.ideal demand3.begun demand3.among demand3.tableOf demand3.sizeIn demand3.startNumber demand3.startAnswer demand3.keyAnswer demand3.resizeAnswer demand3.lowest demand3.stepAnswer demand3.isBucket demand3.inGroup demand3.groupPairs demand3.scanAnswer demand3.readAnswer demand3.predict demand3.replay demand3.pairsIn demand3.handedOut demand3.visit demand3.Answered demand3.largest demand3.HeldAtEach demand3.keysHanded once.times once.NotShrinking once.shrinks once.least
+unfolding worlds.current worlds.other worlds.UndamagedAt demand1.BadState demand1.nth demand1.headOf demand1.ChainAt demand1.SoundChain demand1.Damaged demand1.liveTables demand1.keyPlaces demand1.OnChain demand1.KeyHeld demand1.Full demand1.FreeListDamaged demand1.EmptyFrom demand1.EndFirst demand1.StepDamaged demand1.places demand1.KeysOn demand1.TooMany demand1.GroupDamaged demand1.Short demand1.row demand1.keyRows demand1.rows demand1.Decides demand1.Leaves demand1.keyZeros demand1.LeavesAll demand2.groupEntries demand2.nextCursor demand2.HandsOut demand3.lengthsOf demand3.ideal demand3.begun demand3.among demand3.tableOf demand3.sizeIn demand3.startNumber demand3.startAnswer demand3.keyAnswer demand3.resizeAnswer demand3.lowest demand3.stepDone demand3.stepAnswer demand3.isBucket demand3.inGroup demand3.groupPairs demand3.scanAnswer demand3.readAnswer demand3.predict demand3.replay demand3.pairsIn demand3.handedOut demand3.visit demand3.Answered demand3.largest demand3.HeldAtEach demand3.keysHanded once.times once.NotShrinking once.shrinks once.least ends.UnderWay ends.isStep ends.answeredStep ends.answeredSteps ends.filledBuckets ends.Advances
 theStatements = tt
 
 unfoldable pub computing : Unit {0}
@@ -92,6 +94,13 @@ pub walk-at : {does : World → Call → Outcome} → ExactlyOnce does → (size
 unfolding started
 walk-at d size answered calls {visits} {ended} w = d .walks zeros 3 size answered calls visits ended w
 
+-- and for a rehash of that history, which a call begins after some others
+pub rehash-at : {does : World → Call → Outcome} → RehashesEnd does → (size : ℕ) → does zeros (Call.init 3 size) .reply .number ≡ 0
+    → (before : List Call) → run does (started does size) before .state .rehashing ≡ false → (first : Call) (calls : List Call)
+    → RehashEnds does (run does (started does size) (before ++ first ∷ [])) calls
+unfolding started sequences.run
+rehash-at d size answered before resting first calls = d .rehashes zeros 3 size answered before resting first calls
+
 -- Two things that some number tells apart; two lists, by the number at a place.
 
 pub apart : {A : Type 0} (number : A → ℕ) (x y : A) → eqb (number x) (number y) ≡ false → x ≡ y → ⊥
@@ -109,6 +118,15 @@ pub must-be-damaged : {Bad Damaged Rest : Type 0} (n : ℕ) → eqb n 1 ≡ fals
     → (Bad × (n ≡ 1)) ⊎ ((¬ Bad) × ((Damaged × (n ≡ 2)) ⊎ ((¬ Damaged) × Rest))) → ⊥
 must-be-damaged n f g d =
     neither (λ h. eqb-false n 1 f (h .1)) (λ h. neither (λ i. eqb-false n 2 g (i .1)) (λ i. i .0 d) (h .1))
+
+-- And so of a step during a rehash, whose third row is that of 2.
+pub must-step-damaged : {Bad Resting Damaged Rest : Type 0} (n : ℕ) → eqb n 1 ≡ false → ¬ Resting → eqb n 2 ≡ false → Damaged
+    → (Bad × (n ≡ 1)) ⊎ ((¬ Bad) × ((Resting × (n ≡ 8)) ⊎ ((¬ Resting) × ((Damaged × (n ≡ 2)) ⊎ ((¬ Damaged) × Rest)))))
+    → ⊥
+must-step-damaged n f moving g d =
+    neither (λ h. eqb-false n 1 f (h .1))
+    (λ h.
+    neither (λ i. moving (i .0)) (λ i. neither (λ j. eqb-false n 2 g (j .1)) (λ j. j .0 d) (i .1)) (h .1))
 
 -- calls that are no look, and no walk call
 

@@ -17,7 +17,7 @@ use Rattle.model.proofs.Tests.{true-not-false}
 use Rattle.refinement.specs.Demand1.{Demand1, Chain, ChainAt, SoundChain, Damaged, KeyHeld, keyPlaces, FirstFilled, StepDamaged, GroupDamaged}
 use Rattle.refinement.specs.Demand3.{Demand3}
 use Rattle.wrong_stores.specs.Strays.{readBy, untested, firstTested, lookupBy, findBy, findsAmongStrays, findsBehindFirst, readAll, walksStrays, movedUntested, movesStrays, findsElsewhere, orDamaged, testsBucketZero, testsOtherSize, testsFree}
-use Rattle.wrong_stores.proofs.Start.{computing, find, add, room, at, neither, must-be-damaged}
+use Rattle.wrong_stores.proofs.Start.{computing, find, add, room, at, neither, must-be-damaged, must-step-damaged}
 
 -- Demand 1, `numbers`: keys 2 and 5 on the chain of bucket 0, at size 2, in either order. It is not sound, ..
 
@@ -64,6 +64,7 @@ step-damaged =
     let first : FirstFilled (moving 2 5) 0 =
     record {
       from-next = lit≤ tt;
+      in-reach = lit< tt;
       in-table = lit< tt;
       filled = eqb-false 1 0 refl;
       empty-before = λ b from before. absurd (omega arith);
@@ -73,12 +74,7 @@ step-damaged =
 pub movesStrays-excluded : Demand1 movesStrays → ⊥
 unfolding computing movesStrays movedUntested untested readBy moving bucketZero
 movesStrays-excluded d =
-    neither (λ h. eqb-false 0 1 refl (h .1))
-    (λ h.
-    neither (λ i. true-not-false (i .0))
-    (λ i. neither (λ j. eqb-false 0 2 refl (j .1)) (λ j. j .0 step-damaged) (i .1))
-    (h .1))
-    (d .numbers (moving 2 5) Call.rehashStep)
+    must-step-damaged 0 refl true-not-false refl step-damaged (d .numbers (moving 2 5) Call.rehashStep)
 
 -- Key 5 is on that chain, but not held: its own bucket is empty.
 not-held : KeyHeld (resting 2 5) 5 → ⊥

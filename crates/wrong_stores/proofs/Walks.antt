@@ -32,12 +32,13 @@ allThenNone-excluded d =
     differ 1 (1 ∷ 1 ∷ []) (1 ∷ 0 ∷ []) refl
     (at d 2 refl (add 1 10 ∷ Call.scan 0 room ∷ []) .answers .1 .0 .values (no-look refl))
 
--- key 0 is in bucket 0 of the new table, of size 4, which the group of cursor 2 does not have; it has bucket 0 of the old one
+-- key 0 is in bucket 0 of the new table, of size 4, which the group of cursor 2 does not have; it has bucket 0 of the old one.
+-- (key 1 is still to move)
 pub handsEither-excluded : Demand3 handsEither → ⊥
 unfolding handing handsEither wrong.eitherBucket
 handsEither-excluded d =
     differ 1 (1 ∷ 1 ∷ []) (1 ∷ 0 ∷ []) refl
-    (at d 2 refl (add 0 10 ∷ Call.resize 4 ∷ Call.rehashStep ∷ Call.scan 2 room ∷ []) .answers .1 .1 .1 .0 .values
+    (at d 2 refl (add 0 10 ∷ add 1 11 ∷ Call.resize 4 ∷ Call.rehashStep ∷ Call.scan 2 room ∷ []) .answers .1 .1 .1 .1 .0 .values
     (no-look refl))
 
 -- `values`: the next cursor is the published one of the smaller live size

@@ -4,6 +4,7 @@ pub mod Starts
 pub mod KeyCalls
 pub mod Walks
 pub mod Rehashes
+pub mod StepRules
 pub mod ReadCalls
 pub mod Refusals
 pub mod Strays

@@ -1,17 +1,17 @@
 -- Wrong stores by a resize or a step.
-use Prim.Native.Nat.{ℕ, zero, suc, _+_, _-_, max}
+use Prim.Native.Nat.{ℕ, zero, suc, _+_, max}
 use mathlib.Core.Bool.{true, false}
 use mathlib.Core.List.{List, [], _∷_}
-use mathlib.Core.Option.{none, some}
 use lib.ListN.{length, getD, take}
 use lib.Dec.{eqb}
 use Rattle.cursor.specs.Member.{keep}
 use Rattle.model.specs.declared.State.{State}
 use Rattle.model.specs.declared.Table.{Table}
+use Rattle.model.specs.declared.Ahead.{Ahead}
 use Rattle.model.specs.Keys.{bucketOf}
 use Rattle.model.specs.Memory.{keyOf, sizeOf, usedOf}
 use Rattle.model.specs.Answers.{reply}
-use Rattle.model.specs.Calls.{retabled, firstFilled}
+use Rattle.model.specs.Calls.{retabled, aheadOf}
 use Rattle.model.specs.Sequences.{World, Call, Outcome, kept, perform, carry}
 use Rattle.refinement.specs.Worlds.{current}
 use Rattle.wrong_stores.specs.Walks.{entriesOf}
@@ -43,12 +43,10 @@ keepsIndex =
     ifDone (handingBack (goingOn (max (w .state .«rehash_index») (s .«rehash_index»)) s) o) o)
 
 -- a step passes the empty buckets behind the one that it moved
-unfoldable pub ahead : List ℕ → State → ℕ
-ahead buckets s =
-    elim (firstFilled buckets (s .«rehash_index») (s .«old_size» - s .«rehash_index»)) [
-      | none ↦ s .«old_size»
-      | some b ↦ b
-    ]
+unfoldable pub behindEmpty : State → Ahead → ℕ
+behindEmpty s (Ahead.Filled b) = b
+behindEmpty s (Ahead.Empty b) = b
+behindEmpty s Ahead.End = s .«old_size»
 
 unfoldable pub stepsAhead : World → Call → Outcome
 stepsAhead =
@@ -56,27 +54,26 @@ stepsAhead =
     (λ w o.
     let s = o .reply .state in
     elim (s .rehashing) [
-      | true ↦ ifDone (handingBack (goingOn (ahead (current (carry w o)) s) s) o) o
+      | true ↦ ifDone (handingBack (goingOn (behindEmpty s (aheadOf s (current (carry w o)))) s) o) o
       | false ↦ o
     ])
 
--- After a step's outcome, further steps until the old table holds no keys, at most so many; the count is that of all.
+-- After a step's outcome, further steps until the rehash is over, at most so many; the count is that of all.
 unfoldable pub moreSteps : ℕ → ℕ → World → Outcome → Outcome
 moreSteps zero moved w o = answering (moved ∷ 1 ∷ []) o
 moreSteps (suc more) moved w o =
-    elim (o .reply .state .«old_used») [
-      | zero ↦ answering (moved ∷ 1 ∷ []) o
-      | suc keys ↦ let again = perform (carry w o) Call.rehashStep in
+    elim (o .reply .state .rehashing) [
+      | false ↦ answering (moved ∷ 0 ∷ []) o
+      | true ↦ let again = perform (carry w o) Call.rehashStep in
           moreSteps more (moved + getD (again .reply .values) 0 0) (carry w o) again
     ]
 
--- a step that moves every bucket at once; with no keys in the old table, as ours
+-- a step that moves every bucket at once
 unfoldable pub movesAll : World → Call → Outcome
-movesAll =
-    butStep
-    (λ w o. elim (getD (o .reply .values) 0 0) [ zero ↦ o | suc n ↦ moreSteps (w .state .«old_size») (suc n) w o ])
+movesAll = butStep (λ w o. ifDone (moreSteps (w .state .«old_size») (getD (o .reply .values) 0 0) w o) o)
 
--- The lying step moves every bucket at once, but says and counts on as if one bucket had moved.
+-- The lying step moves the bucket behind the next one too, if keys are left then, but says and counts on as if one bucket had
+-- moved; the step after it says that it moves the other one, and moves nothing.
 
 -- the memory of the one outcome, with the answer of the other
 unfoldable pub saying : Outcome → Outcome → Outcome
@@ -86,27 +83,24 @@ saying said done =
     (goingOn (said .reply .state .«rehash_index») (done .reply .state)))
     done
 
--- how many entries of the new table have a key that called for that bucket of the old one
-unfoldable pub from : World → ℕ → ℕ
-from w b =
-    length (keep (λ n. eqb (bucketOf (keyOf (w .entries) n) (w .state .«old_size»)) b) (entriesOf w Table.New))
+-- how many entries of the new table have a key that called for the next bucket of the old one
+unfoldable pub movedBefore : World → ℕ
+movedBefore w =
+    let s = w .state in
+    length (keep (λ n. eqb (bucketOf (keyOf (w .entries) n) (s .«old_size»)) (s .«rehash_index»)) (entriesOf w Table.New))
 
--- the next bucket that had some, among as many as are left; then the end, as ours
-unfoldable pub pretended : World → Outcome → ℕ → ℕ → Outcome
-pretended w o b zero = o
-pretended w o b (suc left) =
-    elim (from w b) [
-      | zero ↦ pretended w o (suc b) left
-      | suc n ↦ kept w (reply 0 (suc n ∷ 1 ∷ []) (goingOn (suc b) (w .state))) []
-    ]
+unfoldable pub oneMore : World → Outcome → Outcome
+oneMore w o =
+    let again = perform (carry w o) Call.rehashStep in
+    elim (again .reply .state .rehashing) [ true ↦ saying o again | false ↦ o ]
 
 unfoldable pub movesQuietly : World → Call → Outcome
 movesQuietly =
     butStep
     (λ w o.
     ifDone
-    (elim (w .state .«old_used») [
-      | zero ↦ pretended w o (w .state .«rehash_index») (w .state .«old_size» - w .state .«rehash_index»)
-      | suc n ↦ saying o (moreSteps (w .state .«old_size») 0 w o)
+    (elim (movedBefore w) [
+      | zero ↦ oneMore w o
+      | suc n ↦ kept w (reply 0 (suc n ∷ 1 ∷ []) (goingOn (suc (w .state .«rehash_index»)) (w .state))) []
     ])
     o)

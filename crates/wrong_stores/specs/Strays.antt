@@ -1,6 +1,6 @@
 -- Wrong stores by the keys on a chain: they pass over a key off its bucket, look for it where it does not belong, or find
 -- damage where there is none.
-use Prim.Native.Nat.{ℕ, _-_}
+use Prim.Native.Nat.{ℕ}
 use mathlib.Core.Bool.{Bool, _||_, cond}
 use mathlib.Core.List.{List, [], _∷_}
 use mathlib.Core.Option.{Option, none, some}
@@ -8,13 +8,14 @@ use lib.Dec.{eqb}
 use Rattle.model.specs.declared.Table.{Table}
 use Rattle.model.specs.declared.Error.{Error}
 use Rattle.model.specs.declared.Lookup.{Lookup}
+use Rattle.model.specs.declared.Ahead.{Ahead}
 use Rattle.model.specs.declared.FindAnswer.{FindAnswer}
 use Rattle.model.specs.declared.AddAnswer.{AddAnswer}
 use Rattle.model.specs.declared.StepAnswer.{StepAnswer}
 use Rattle.model.specs.Keys.{bucketOf}
 use Rattle.model.specs.Memory.{keyOf, keysHeld, chain, inBucket, anyKey, Place, keyPlace, headAt, budgetAt, belongs, chainAt}
 use Rattle.model.specs.Answers.{findReply, addReply, stepReply}
-use Rattle.model.specs.Calls.{After, back, searched, both, found, target, firstFilled, movedChain}
+use Rattle.model.specs.Calls.{After, back, searched, both, found, target, movedChain, movedFrom, aheadOf}
 use Rattle.model.specs.Walk.{tablesOf, group, groupPlaces, joined, atMost, scanned}
 use Rattle.model.specs.Sequences.{World, Call, Outcome, kept, keptScan, left}
 use Rattle.refinement.specs.Worlds.{current, other}
@@ -74,17 +75,18 @@ walksStrays =
     o)
 
 -- a step moves whatever keys are on its chain
-unfoldable pub movedUntested : World → Option ℕ → After StepAnswer
-movedUntested w none = After.after (StepAnswer.Refused Error.Damaged) (current w) (other w) (w .entries)
-movedUntested w (some b) = movedChain (w .state) (current w) (other w) (w .entries) b (untested w (Place.bucket Table.Old b))
+unfoldable pub movedUntested : World → Ahead → After StepAnswer
+movedUntested w (Ahead.Filled b) =
+    movedChain (w .state) (current w) (other w) (w .entries) b (untested w (Place.bucket Table.Old b))
+movedUntested w (Ahead.Empty b) = movedFrom (w .state) (current w) (other w) (w .entries) (Ahead.Empty b)
+movedUntested w Ahead.End = movedFrom (w .state) (current w) (other w) (w .entries) Ahead.End
 
 unfoldable pub movesStrays : World → Call → Outcome
 movesStrays =
     butStep
     (λ w o.
     let s = w .state in
-    let b = firstFilled (current w) (s .«rehash_index») (s .«old_size» - s .«rehash_index») in
-    ifDamaged (left (stepReply s) (back (s .«second_is_current») (movedUntested w b))) o)
+    ifDamaged (left (stepReply s) (back (s .«second_is_current») (movedUntested w (aheadOf s (current w))))) o)
 
 -- A find that hands out the value of a key off its bucket: where ours answers 3, it looks on the chain of bucket 0 too.
 unfoldable pub findsElsewhere : World → Call → Outcome

@@ -26,6 +26,7 @@ pub fn all() -> Vec<Case> {
     let mut cases = specified();
     cases.extend(walks());
     cases.extend(states());
+    cases.extend(moves());
     cases.extend(outside_the_limits());
     cases.extend(bad_and_odd_lines());
     cases.extend(whole_scripts());
@@ -83,9 +84,9 @@ fn specified() -> Vec<Case> {
                 ("A 9 90", "0"),
                 ("C 1", "0 3 3 9 90 5 50 1 10"),
                 ("R 8", "0"),
-                ("S", "0 3 1"),
-                ("C 1", "0 3 3 1 10 9 90 5 50"),
-                ("S", "0 0 0"),
+                ("S", "0 3 0"),
+                ("C 1", "0 5 2 1 10 9 90"),
+                ("S", "8"),
             ],
         ),
         dialogue(
@@ -187,8 +188,7 @@ fn specified() -> Vec<Case> {
                 ("A 7 70", "0"),
                 ("R 4", "0"),
                 ("S", "0 1 1"),
-                ("S", "0 1 1"),
-                ("S", "0 0 0"),
+                ("S", "0 1 0"),
                 ("C 7", "0 0 2 7 70 3 30"),
             ],
         ),
@@ -256,12 +256,10 @@ fn walks() -> Vec<Case> {
                 ("A 0 7", "0"),
                 ("C 0", "0 2 1 0 7"),
                 ("R 2", "0"),
-                ("S", "0 1 1"),
-                ("S", "0 0 0"),
+                ("S", "0 1 0"),
                 ("C 2", "0 1 1 0 7"),
                 ("R 1", "0"),
-                ("S", "0 1 1"),
-                ("S", "0 0 0"),
+                ("S", "0 1 0"),
                 ("C 1", "0 0 1 0 7"),
             ],
         ),
@@ -270,8 +268,7 @@ fn walks() -> Vec<Case> {
             &[
                 ("R 16", "0"),
                 ("S", "0 2 1"),
-                ("S", "0 2 1"),
-                ("S", "0 0 0"),
+                ("S", "0 2 0"),
                 ("C 7", "0 15 1 7 70"),
                 ("C 15", "0 0 1 15 150"),
             ],
@@ -286,8 +283,7 @@ fn walks() -> Vec<Case> {
                 ("C 7", "0 0 2 15 150 7 70"),
                 ("R 16", "0"),
                 ("S", "0 2 1"),
-                ("S", "0 2 1"),
-                ("S", "0 0 0"),
+                ("S", "0 2 0"),
             ],
         ),
         dialogue(
@@ -365,9 +361,11 @@ fn states() -> Vec<Case> {
                 ("A 1 11", "0"),
                 ("A 5 50", "5"),
                 ("C 1", "0 0 2 1 11 3 30"),
+                ("D 3", "0"),
+                ("A 2 20", "0"),
                 ("R 2", "6"),
                 ("R 4", "0"),
-                ("S", "0 2 1"),
+                ("S", "0 1 1"),
                 ("N 2 2", "0"),
                 ("C 1", "0 0 0"),
                 ("A 1 12", "0"),
@@ -405,28 +403,6 @@ fn states() -> Vec<Case> {
             ],
         ),
         dialogue(
-            "moves to 4,096 buckets in either buffer",
-            &[
-                ("N 1 1", "0"),
-                ("A 4095 7", "0"),
-                ("R 4096", "0"),
-                ("S", "0 1 1"),
-                ("S", "0 0 0"),
-                ("C 4095", "0 0 1 4095 7"),
-                ("R 2", "0"),
-                ("S", "0 1 1"),
-                ("S", "0 0 0"),
-                ("R 1", "0"),
-                ("S", "0 1 1"),
-                ("S", "0 0 0"),
-                ("R 4096", "0"),
-                ("S", "0 1 1"),
-                ("S", "0 0 0"),
-                ("C 4095", "0 0 1 4095 7"),
-                ("C 4094", "0 1 0"),
-            ],
-        ),
-        dialogue(
             "adds during a move lie in the new table",
             &[
                 ("N 8 4", "0"),
@@ -439,8 +415,7 @@ fn states() -> Vec<Case> {
                 ("A 3 5", "4"),
                 ("A 0 5", "4"),
                 ("C 0", "0 2 3 8 4 0 1 4 3"),
-                ("S", "0 1 1"),
-                ("S", "0 0 0"),
+                ("S", "0 1 0"),
                 ("C 0", "0 4 2 8 4 0 1"),
                 ("F 4", "0 3"),
             ],
@@ -462,8 +437,7 @@ fn states() -> Vec<Case> {
                 ("D 1", "0"),
                 ("D 1", "3"),
                 ("D 3", "0"),
-                ("S", "0 1 1"),
-                ("S", "0 0 0"),
+                ("S", "0 1 0"),
                 ("C 2", "0 1 1 2 20"),
             ],
         ),
@@ -506,17 +480,18 @@ fn states() -> Vec<Case> {
         dialogue(
             "full counts the keys of both tables",
             &[
-                ("N 2 1", "0"),
+                ("N 3 2", "0"),
                 ("A 1 1", "0"),
-                ("R 2", "0"),
                 ("A 2 2", "0"),
-                ("A 3 3", "5"),
-                ("A 1 3", "4"),
-                ("A 2 3", "4"),
+                ("R 4", "0"),
+                ("A 3 3", "0"),
+                ("A 4 4", "5"),
+                ("A 1 4", "4"),
+                ("A 3 4", "4"),
                 ("S", "0 1 1"),
-                ("A 3 3", "5"),
-                ("S", "0 0 0"),
-                ("A 3 3", "5"),
+                ("A 4 4", "5"),
+                ("S", "0 1 0"),
+                ("A 4 4", "5"),
             ],
         ),
         dialogue(
@@ -528,17 +503,313 @@ fn states() -> Vec<Case> {
                 ("A 8 2", "0"),
                 ("A 2 3", "0"),
                 ("R 4", "0"),
-                ("S", "0 4 1"),
-                ("S", "0 0 0"),
+                ("S", "0 4 0"),
                 ("C 0", "0 2 3 0 0 4 1 8 2"),
                 ("R 2", "0"),
                 ("S", "0 3 1"),
-                ("S", "0 1 1"),
-                ("S", "0 0 0"),
+                ("S", "0 1 0"),
                 ("C 0", "0 1 4 2 3 8 2 4 1 0 0"),
             ],
         ),
     ]
+}
+
+/// The empty buckets that a move's steps pass, and where it ends.
+fn moves() -> Vec<Case> {
+    let mut cases = vec![
+        behind_empty_buckets(0, &["0 1 0"]),
+        behind_empty_buckets(9, &["0 1 0"]),
+        behind_empty_buckets(10, &["0 0 1", "0 1 0"]),
+        behind_empty_buckets(11, &["0 0 1", "0 1 0"]),
+        behind_empty_buckets(19, &["0 0 1", "0 1 0"]),
+        behind_empty_buckets(20, &["0 0 1", "0 0 1", "0 1 0"]),
+        behind_empty_buckets(21, &["0 0 1", "0 0 1", "0 1 0"]),
+        behind_empty_buckets(31, &["0 0 1", "0 0 1", "0 0 1", "0 1 0"]),
+        dialogue(
+            "nine, ten, eleven and twenty empty buckets between filled ones",
+            &[
+                ("N 8 64", "0"),
+                ("A 0 1", "0"),
+                ("A 10 2", "0"),
+                ("A 21 3", "0"),
+                ("A 33 4", "0"),
+                ("A 54 5", "0"),
+                ("R 2", "0"),
+                ("S", "0 1 1"),
+                ("S", "0 1 1"),
+                ("S", "0 0 1"),
+                ("S", "0 1 1"),
+                ("S", "0 0 1"),
+                ("S", "0 1 1"),
+                ("S", "0 0 1"),
+                ("S", "0 0 1"),
+                ("S", "0 1 0"),
+                ("S", "8"),
+                ("C 0", "0 1 3 54 5 10 2 0 1"),
+                ("C 1", "0 0 2 33 4 21 3"),
+            ],
+        ),
+        dialogue(
+            "the last chain's step ends the move, and another can begin",
+            &[
+                ("N 4 4", "0"),
+                ("A 1 10", "0"),
+                ("A 5 50", "0"),
+                ("A 2 20", "0"),
+                ("R 8", "0"),
+                ("S", "0 2 1"),
+                ("R 2", "7"),
+                ("S", "0 1 0"),
+                ("S", "8"),
+                ("R 8", "6"),
+                ("R 2", "0"),
+                ("S", "0 1 1"),
+                ("S", "0 1 1"),
+                ("S", "0 1 0"),
+                ("C 1", "0 0 2 5 50 1 10"),
+            ],
+        ),
+        dialogue(
+            "keys deleted behind a passing step: the next one ends the move",
+            &[
+                ("N 4 64", "0"),
+                ("A 0 1", "0"),
+                ("A 40 2", "0"),
+                ("A 50 3", "0"),
+                ("R 4", "0"),
+                ("S", "0 1 1"),
+                ("S", "0 0 1"),
+                ("D 40", "0"),
+                ("D 50", "0"),
+                ("S", "0 0 0"),
+                ("S", "8"),
+                ("C 0", "0 2 1 0 1"),
+            ],
+        ),
+        dialogue(
+            "buckets emptied by a delete are passed like others",
+            &[
+                ("N 4 32", "0"),
+                ("A 5 1", "0"),
+                ("A 9 2", "0"),
+                ("A 20 3", "0"),
+                ("A 31 4", "0"),
+                ("R 64", "0"),
+                ("D 9", "0"),
+                ("S", "0 1 1"),
+                ("S", "0 0 1"),
+                ("D 20", "0"),
+                ("S", "0 0 1"),
+                ("S", "0 1 0"),
+                ("C 5", "0 37 1 5 1"),
+            ],
+        ),
+        dialogue(
+            "keys added in buckets that were passed, and in those ahead",
+            &[
+                ("N 4 32", "0"),
+                ("A 25 1", "0"),
+                ("R 64", "0"),
+                ("S", "0 0 1"),
+                ("A 3 2", "0"),
+                ("A 12 3", "0"),
+                ("A 57 4", "0"),
+                ("S", "0 0 1"),
+                ("C 25", "0 5 2 25 1 57 4"),
+                ("S", "0 1 0"),
+                ("S", "8"),
+                ("F 3", "0 2"),
+                ("C 25", "0 57 1 25 1"),
+            ],
+        ),
+        dialogue(
+            "an empty store is moved by one step, whatever its size",
+            &[
+                ("N 4 4096", "0"),
+                ("R 1", "0"),
+                ("S", "0 0 0"),
+                ("S", "8"),
+                ("A 4000 1", "0"),
+                ("D 4000", "0"),
+                ("R 4096", "0"),
+                ("S", "0 0 0"),
+                ("S", "8"),
+                ("R 2", "0"),
+                ("A 4001 2", "0"),
+                ("S", "0 0 0"),
+                ("S", "8"),
+                ("C 1", "0 0 1 4001 2"),
+            ],
+        ),
+        dialogue(
+            "a walk goes on through passing steps",
+            &[
+                ("N 8 16", "0"),
+                ("A 2 20", "0"),
+                ("A 13 130", "0"),
+                ("A 15 150", "0"),
+                ("C 0", "0 8 0"),
+                ("C 8", "0 4 0"),
+                ("R 4", "0"),
+                ("S", "0 1 1"),
+                ("C 4", "0 2 0"),
+                ("S", "0 0 1"),
+                ("C 2", "0 1 1 2 20"),
+                ("A 6 60", "0"),
+                ("C 1", "0 3 1 13 130"),
+                ("S", "0 1 1"),
+                ("C 3", "0 0 1 15 150"),
+                ("S", "0 1 0"),
+                ("S", "8"),
+            ],
+        ),
+        dialogue(
+            "a walk begun before passing steps goes on behind the move",
+            &[
+                ("N 8 16", "0"),
+                ("A 10 100", "0"),
+                ("A 13 130", "0"),
+                ("R 2", "0"),
+                ("C 0", "0 1 1 10 100"),
+                ("S", "0 0 1"),
+                ("C 0", "0 1 1 10 100"),
+                ("S", "0 1 1"),
+                ("C 0", "0 1 1 10 100"),
+                ("S", "0 1 0"),
+                ("C 1", "0 0 1 13 130"),
+            ],
+        ),
+        dialogue(
+            "each of several moves begins at bucket 0",
+            &[
+                ("N 8 32", "0"),
+                ("A 3 30", "0"),
+                ("A 28 280", "0"),
+                ("R 8", "0"),
+                ("S", "0 1 1"),
+                ("S", "0 0 1"),
+                ("S", "0 0 1"),
+                ("S", "0 1 0"),
+                ("R 64", "0"),
+                ("S", "0 1 1"),
+                ("S", "0 1 0"),
+                ("R 1", "0"),
+                ("S", "0 1 1"),
+                ("S", "0 0 1"),
+                ("S", "0 0 1"),
+                ("S", "0 1 0"),
+                ("C 0", "0 0 2 28 280 3 30"),
+                ("R 2", "0"),
+                ("S", "0 2 0"),
+                ("S", "8"),
+                ("C 1", "0 0 1 3 30"),
+            ],
+        ),
+        dialogue(
+            "a start in the middle of a move, behind a passing step",
+            &[
+                ("N 4 64", "0"),
+                ("A 30 1", "0"),
+                ("R 4", "0"),
+                ("S", "0 0 1"),
+                ("N 0 4", "6"),
+                ("S", "0 0 1"),
+                ("N 4 32", "0"),
+                ("S", "8"),
+                ("F 30", "3"),
+                ("A 2 20", "0"),
+                ("A 12 120", "0"),
+                ("R 8", "0"),
+                ("S", "0 1 1"),
+                ("S", "0 1 0"),
+                ("C 2", "0 6 1 2 20"),
+            ],
+        ),
+        dialogue(
+            "refused lines between passing steps change nothing",
+            &[
+                ("N 2 64", "0"),
+                ("A 30 1", "0"),
+                ("A 63 2", "0"),
+                ("R 32", "0"),
+                ("S", "0 0 1"),
+                ("A 5 5", "5"),
+                ("A 30 5", "4"),
+                ("V 5 5", "3"),
+                ("D 5", "3"),
+                ("F 5", "3"),
+                ("S", "0 0 1"),
+                ("R 64", "7"),
+                ("R 8192", "7"),
+                ("N 2 8192", "6"),
+                ("S 1", "10"),
+                ("S", "0 0 1"),
+                ("S", "0 1 1"),
+                ("S", "0 0 1"),
+                ("S", "0 0 1"),
+                ("S", "0 0 1"),
+                ("S", "0 1 0"),
+                ("C 31", "0 0 1 63 2"),
+            ],
+        ),
+        moves_of_the_largest_tables(),
+    ];
+    cases.extend([3, 10, 11, 20, 21, 100, 2048].map(evenly_spread));
+    cases
+}
+
+/// A key with so many empty buckets before its own, and what the steps answer.
+fn behind_empty_buckets(empty: u32, steps: &[&str]) -> Case {
+    let add = format!("A {empty} 7");
+    let find = format!("F {empty}");
+    let mut lines = vec![("N 1 32", "0"), (&add, "0"), ("R 64", "0")];
+    lines.extend(steps.iter().map(|&answer| ("S", answer)));
+    lines.extend([("S", "8"), (&find, "0 7")]);
+    dialogue(&format!("a key behind {empty} empty buckets"), &lines)
+}
+
+/// Into either buffer, and out of it with the only key in the last bucket.
+fn moves_of_the_largest_tables() -> Case {
+    let into = [
+        ("R 4096", "0"),
+        ("S", "0 1 0"),
+        ("C 4095", "0 0 1 4095 7"),
+        ("C 4094", "0 1 0"),
+    ];
+    // Ten by ten up to bucket 4,090, and then to the key's.
+    let passing = [("S", "0 0 1"); 409];
+    let out = [&[("R 2", "0")], &passing[..], &[("S", "0 1 0")]].concat();
+    let lines = [
+        &[("N 1 1", "0"), ("A 4095 7", "0")],
+        &into[..],
+        &out,
+        &[("R 1", "0"), ("S", "0 1 0")],
+        &into,
+        &out,
+        &[("S", "8"), ("F 4095", "0 7")],
+    ];
+    dialogue("moves to and from 4,096 buckets", &lines.concat())
+}
+
+/// Keys of the largest table that lie so far from each other. Each takes a step,
+/// and so do each ten of the empty buckets between it and the key before.
+fn evenly_spread(distance: u32) -> Case {
+    let keys: Vec<u32> = (0..4096).step_by(distance as usize).collect();
+    let adds: String = keys.iter().map(|key| format!("A {key} 1\n")).collect();
+    let passing = (distance as usize - 1) / 10;
+    let between = "S\n".repeat(passing + 1).repeat(keys.len() - 1);
+    let script = format!("N 4096 4096\n{adds}R 1\nS\n{between}S\nC 0\n");
+
+    let done = "0\n".repeat(keys.len() + 2);
+    let next = format!("0 1 1\n{}", "0 0 1\n".repeat(passing)).repeat(keys.len() - 1);
+    let pairs: String = keys.iter().rev().map(|key| format!(" {key} 1")).collect();
+    let count = keys.len();
+    let answer = format!("{done}{next}0 1 0\n8\n0 0 {count}{pairs}\n");
+    computed(
+        &format!("a key in every bucket that {distance} divides"),
+        script,
+        answer,
+    )
 }
 
 /// Lines with a capacity or a size that the program refuses, be it legal for the
@@ -574,8 +845,9 @@ fn refused_start(line: &str) -> Case {
         &[
             (line, "6"),
             ("F 1", "1"),
-            ("N 2 4", "0"),
+            ("N 3 4", "0"),
             ("A 1 10", "0"),
+            ("A 2 20", "0"),
             (line, "6"),
             ("F 1", "0 10"),
             ("R 8", "0"),
@@ -584,11 +856,11 @@ fn refused_start(line: &str) -> Case {
             ("C 1", "0 3 2 1 10 5 50"),
             ("S", "0 1 1"),
             (line, "6"),
-            ("S", "0 0 0"),
+            ("S", "0 1 0"),
             (line, "6"),
             ("S", "8"),
             ("C 1", "0 5 1 1 10"),
-            ("A 2 20", "5"),
+            ("A 3 30", "5"),
         ],
     )
 }
@@ -601,13 +873,14 @@ fn refused_resize(line: &str) -> Case {
             (line, "1"),
             ("N 4 4", "0"),
             ("A 1 10", "0"),
+            ("A 2 20", "0"),
             (line, "6"),
             ("S", "8"),
             ("R 8", "0"),
             (line, "7"),
             ("S", "0 1 1"),
             (line, "7"),
-            ("S", "0 0 0"),
+            ("S", "0 1 0"),
             (line, "6"),
             ("S", "8"),
             ("C 1", "0 5 1 1 10"),

@@ -3,7 +3,7 @@
 //! It runs the program under test on fixed and on random scripts, each script
 //! in a process of its own, and compares every byte of the output with the
 //! answer of its own model. The model in turn is watched from outside by the
-//! walk's promises and the plain map.
+//! walk's promises, the plain map and the bound on a move's steps.
 //!
 //! ```text
 //! cargo run --release -- PATH-TO-PROGRAM [SEED] [COUNT]
@@ -113,6 +113,10 @@ impl Plan {
         println!(
             "twin: {} keys came more than once as a table shrank, {} were added ahead of a walk",
             sum.repeated, sum.late
+        );
+        println!(
+            "twin: {} moves ended within their steps, {} steps only passed empty buckets",
+            sum.moves, sum.passing
         );
         println!("twin: {scripts} scripts agree, seed {}", self.seed);
         Ok(())

@@ -88,6 +88,19 @@ const MOODS: [Mood; 5] = [
     [8, 20, 10, 10, 10, 20, 20, 20, 20, 60],
 ];
 
+/// Those of a script whose tables are sparse.
+const SPARSE_MOODS: [Mood; 3] = [
+    // Step on.
+    [1, 8, 2, 4, 2, 16, 400, 16, 2, 8],
+    // Do anything between two steps.
+    [1, 40, 10, 20, 10, 20, 120, 40, 10, 30],
+    // Walk on with the steps.
+    [0, 8, 2, 8, 2, 16, 100, 100, 2, 4],
+];
+
+/// The least size of a table that few keys leave sparse.
+const LARGE: u32 = 64;
+
 /// Capacities and sizes that the program has no room for. Some are legal for the
 /// library: a program that forgot its own limit would be found out by them.
 const BEYOND: [u32; 9] = [
@@ -119,14 +132,48 @@ impl Keys {
         }
     }
 
+    /// Of buckets far from each other, or so far that one bucket more or less
+    /// between two of them decides whether a step comes from one to the other.
+    fn scattered(random: &mut Random) -> Self {
+        let any = random.any();
+        Keys {
+            base: random.pick(&[0, 9, 10, any]),
+            stride: random.pick(&[10, 11, 12, 20, 21, 22, 101, any | 1]),
+            count: random.pick(&[1, 3, 6, 12, 24, 60]),
+        }
+    }
+
     fn key(&self, random: &mut Random) -> u32 {
         let place = random.below(self.count);
         self.base.wrapping_add(self.stride.wrapping_mul(place))
     }
 }
 
+/// What is special about a script.
+#[derive(Clone, Copy, PartialEq, Eq)]
+enum Kind {
+    Common,
+    /// Thousands of lines, without restarts so that the store can fill up.
+    Long,
+    /// Few keys in large tables, and steps that only pass empty buckets.
+    Sparse,
+}
+
+impl Kind {
+    fn choose(random: &mut Random) -> Self {
+        if random.one_in(60) {
+            Kind::Long
+        } else if random.one_in(8) {
+            Kind::Sparse
+        } else {
+            Kind::Common
+        }
+    }
+}
+
 struct Generator {
     random: Random,
+    kind: Kind,
     keys: Keys,
     program: Program,
     script: Vec<u8>,
@@ -137,9 +184,14 @@ struct Generator {
 /// Writes one script of at most the longest length.
 pub fn script(seed: u64) -> Vec<u8> {
     let mut random = Random::new(seed);
-    let keys = Keys::choose(&mut random);
+    let kind = Kind::choose(&mut random);
+    let keys = match kind {
+        Kind::Sparse => Keys::scattered(&mut random),
+        _ => Keys::choose(&mut random),
+    };
     let mut generator = Generator {
         random,
+        kind,
         keys,
         program: Program::default(),
         script: Vec::new(),
@@ -151,22 +203,18 @@ pub fn script(seed: u64) -> Vec<u8> {
 
 impl Generator {
     fn write(&mut self) {
-        // Now and then a long script, without restarts so that it can fill up.
-        let long = self.random.one_in(60);
-        let mut lines = 20 + self.random.below(200);
-        if long {
-            lines = 5000;
-            self.keys.count = 5000;
-            self.push(b"N 4096 64");
-        } else if !self.random.one_in(10) {
-            self.act(Action::Start);
-        }
+        let mut lines = self.begin();
+        let moods = match self.kind {
+            Kind::Sparse => &SPARSE_MOODS[..],
+            _ => &MOODS,
+        };
         while lines > 0 {
-            let mood = self.random.pick(&MOODS);
+            let mood = self.random.pick(moods);
             let stretch = lines.min(10 + self.random.below(2 + lines / 3));
             for _ in 0..stretch {
                 match self.choose(&mood) {
-                    Action::Start if long => {}
+                    Action::Start if self.kind == Kind::Long => {}
+                    Action::Step if self.kind == Kind::Sparse => self.step_on(),
                     action => self.act(action),
                 }
             }
@@ -175,6 +223,44 @@ impl Generator {
         self.finish_walks();
         if self.random.one_in(4) {
             self.script.pop();
+        }
+    }
+
+    /// Writes the first lines, and answers how many are to follow.
+    fn begin(&mut self) -> u32 {
+        match self.kind {
+            Kind::Common => {
+                if !self.random.one_in(10) {
+                    self.act(Action::Start);
+                }
+                20 + self.random.below(200)
+            }
+            Kind::Long => {
+                self.keys.count = 5000;
+                self.push(b"N 4096 64");
+                5000
+            }
+            Kind::Sparse => {
+                let near = 1 + self.random.below(self.keys.count);
+                let capacity = self.random.pick(&[near, ROOM]);
+                let size = self.large_size();
+                self.push(format!("N {capacity} {size}").as_bytes());
+                for _ in 0..self.keys.count {
+                    self.act(Action::Add);
+                }
+                100 + self.random.below(500)
+            }
+        }
+    }
+
+    /// A step of the move under way. With none a resize mostly: where so many
+    /// steps come, nearly all behind a move's end would be refused.
+    fn step_on(&mut self) {
+        let rests = self.program.store().is_some_and(|store| !store.is_moving());
+        if rests && !self.random.one_in(4) {
+            self.act(Action::Resize);
+        } else {
+            self.act(Action::Step);
         }
     }
 
@@ -303,9 +389,16 @@ impl Generator {
     }
 
     fn legal_size(&mut self) -> u32 {
+        if self.kind == Kind::Sparse && !self.random.one_in(4) {
+            return self.large_size();
+        }
         // Small tables mostly: a walk of a large one fills a whole script.
         let largest = if self.random.one_in(12) { ROOM } else { 32 };
         1 << self.random.below(largest.ilog2() + 1)
+    }
+
+    fn large_size(&mut self) -> u32 {
+        LARGE << self.random.below((ROOM / LARGE).ilog2() + 1)
     }
 
     fn illegal_size(&mut self) -> u32 {
@@ -324,6 +417,10 @@ impl Generator {
             return self.random.pick(&[legal, illegal]);
         };
         let size = store.size();
+        // A sparse script goes back to a large table at once.
+        if self.kind == Kind::Sparse && size < LARGE {
+            return self.random.pick(&[legal, legal, legal, illegal]);
+        }
         let doubled = (2 * size).min(ROOM);
         let choices = [
             legal,
@@ -416,7 +513,8 @@ mod tests {
 
     /// Lazy scripts would agree with any program: every answer that a script
     /// can bring about has to come up often, and so do walks through resizes,
-    /// with keys that come again as a table shrinks or are added ahead.
+    /// with keys that come again as a table shrinks or are added ahead, and moves
+    /// to their end, with steps that only pass empty buckets.
     #[test]
     fn scripts_reach_every_answer() {
         let mut answers: BTreeMap<u32, usize> = BTreeMap::new();
@@ -440,7 +538,39 @@ mod tests {
         assert!(sum.ended > 3000 && sum.resized > 1000, "{sum:?}");
         assert!(sum.shrunk > 1000 && sum.repeated > 1000, "{sum:?}");
         assert!(sum.late > 3000, "{sum:?}");
+        assert!(sum.moves > 2000 && sum.passing > 5000, "{sum:?}");
         assert!(longest <= MAX_SCRIPT && longest > 20_000, "{longest}");
+    }
+
+    /// A step that only passed empty buckets has to be followed by calls of every
+    /// kind before its move is over, and by steps of every outcome.
+    #[test]
+    fn scripts_do_everything_behind_a_passing_step() {
+        let mut seen: BTreeMap<String, usize> = BTreeMap::new();
+        for script in thousand_scripts() {
+            let mut passed = false;
+            for (line, exchange) in lines(&script).zip(replies(&script)) {
+                let letter = exchange.command.map_or('?', |_| line[0].into());
+                let answer = match &exchange.reply {
+                    Ok(step) if letter == 'S' => format!("{} {}", step[0].min(1), step[1]),
+                    Ok(_) => "done".to_string(),
+                    Err(refusal) => (*refusal as u32).to_string(),
+                };
+                let what = format!("{letter} {answer}");
+                let begins = what == "S 0 1";
+                let ends = ["S 0 0", "S 1 0", "N done"].contains(&what.as_str());
+                if passed {
+                    *seen.entry(what).or_default() += 1;
+                }
+                passed = begins || passed && !ends;
+            }
+        }
+        let all = [
+            "? 10", "A 4", "A 5", "A done", "C done", "D 3", "D done", "F 3", "F done", "N 6",
+            "N done", "R 7", "S 0 0", "S 0 1", "S 1 0", "S 1 1", "V 3", "V done",
+        ];
+        assert!(seen.keys().eq(all.iter()), "{seen:?}");
+        assert!(seen.values().all(|&count| count > 10), "{seen:?}");
     }
 
     /// Whether the program's own limit is all that speaks against the line.

@@ -12,6 +12,8 @@ use std::collections::VecDeque;
 pub const MAX_CAPACITY: u32 = 65_536;
 /// Of a table, and of a suggested size too.
 pub const MAX_SIZE: u32 = 65_536;
+/// The most empty buckets that one step passes.
+pub const EMPTY_VISITS: u32 = 10;
 
 /// The refusals that a script can bring about. The specification's 2 (damaged) and
 /// 9 (short) need memory that the program never lends.
@@ -93,9 +95,10 @@ impl Table {
         chain.remove(place)
     }
 
-    /// The first bucket with keys, from bucket `start` on.
-    fn first_filled(&self, start: usize) -> Option<usize> {
-        (start..self.buckets.len()).find(|&index| !self.buckets[index].is_empty())
+    /// The first bucket with keys among so many from bucket `start` on.
+    fn first_filled(&self, start: usize, visits: usize) -> Option<usize> {
+        let end = self.buckets.len().min(start + visits);
+        (start..end).find(|&index| !self.buckets[index].is_empty())
     }
 
     fn take_chain(&mut self, index: usize) -> VecDeque<Entry> {
@@ -221,35 +224,38 @@ impl Store {
         Ok(())
     }
 
-    /// Moves the next filled bucket, or ends the move when none is left.
+    /// Moves the next filled bucket, unless too many empty ones come before it: a
+    /// step does not hunt through a sparse table. The step that leaves the old
+    /// table without keys ends the move.
     pub fn step(&mut self) -> Result<Step, Refusal> {
-        match self.rehash.take() {
-            None => Err(Refusal::NotMoving),
-            Some(rehash) if self.table.held == 0 => {
-                self.table = rehash.target;
-                Ok(Step {
-                    moved: 0,
-                    moving: false,
-                })
-            }
-            Some(mut rehash) => {
-                let index = self
-                    .table
-                    .first_filled(rehash.next)
-                    .expect("the old table's keys lie at or after the next bucket");
+        let mut rehash = self.rehash.take().ok_or(Refusal::NotMoving)?;
+        let mut moved = 0;
+        // There may be no keys before the step: the store was empty when the move
+        // began, or the last of the old table's keys were deleted since.
+        if self.table.held > 0 {
+            let visits = EMPTY_VISITS as usize;
+            if let Some(index) = self.table.first_filled(rehash.next, visits) {
                 let chain = self.table.take_chain(index);
-                let moved = chain.len();
+                moved = chain.len();
                 for entry in chain {
                     rehash.target.insert(entry);
                 }
                 rehash.next = index + 1;
-                self.rehash = Some(rehash);
-                Ok(Step {
-                    moved,
-                    moving: true,
-                })
+            } else {
+                rehash.next += visits;
+                assert!(
+                    rehash.next < self.table.buckets.len(),
+                    "the old table's keys lie at or after the next bucket"
+                );
             }
         }
+        let moving = self.table.held > 0;
+        if moving {
+            self.rehash = Some(rehash);
+        } else {
+            self.table = rehash.target;
+        }
+        Ok(Step { moved, moving })
     }
 
     /// One call of the walk: the keys of the cursor's buckets in chain order.
@@ -311,6 +317,13 @@ mod tests {
 
     fn finish(store: &mut Store) {
         while store.step().unwrap().moving {}
+    }
+
+    /// Each step by the number of keys that it moves, and whether the move goes on.
+    fn expect_steps(store: &mut Store, steps: &[(usize, bool)]) {
+        for &(moved, moving) in steps {
+            assert_eq!(store.step(), Ok(Step { moved, moving }));
+        }
     }
 
     #[test]
@@ -408,28 +421,9 @@ mod tests {
     fn adds_during_a_move_go_to_the_new_table() {
         let mut store = store(8, 4, [0, 1]);
         store.resize(8).unwrap();
-        assert_eq!(
-            store.step(),
-            Ok(Step {
-                moved: 1,
-                moving: true
-            })
-        );
+        expect_steps(&mut store, &[(1, true)]);
         store.add(4, 40).unwrap();
-        assert_eq!(
-            store.step(),
-            Ok(Step {
-                moved: 1,
-                moving: true
-            })
-        );
-        assert_eq!(
-            store.step(),
-            Ok(Step {
-                moved: 0,
-                moving: false
-            })
-        );
+        expect_steps(&mut store, &[(1, false)]);
         assert_eq!(store.find(4), Ok(40));
         assert_eq!(store.step(), Err(Refusal::NotMoving));
     }
@@ -440,14 +434,54 @@ mod tests {
         store.resize(2).unwrap();
         store.delete(0).unwrap();
         store.delete(1).unwrap();
-        assert_eq!(
-            store.step(),
-            Ok(Step {
-                moved: 0,
-                moving: false
-            })
-        );
+        expect_steps(&mut store, &[(0, false)]);
         assert_eq!(store.size(), 2);
+    }
+
+    #[test]
+    fn a_step_passes_ten_empty_buckets_at_most() {
+        for (key, steps) in [
+            (0, &[(1, false)][..]),
+            (9, &[(1, false)]),
+            (10, &[(0, true), (1, false)]),
+            (19, &[(0, true), (1, false)]),
+            (20, &[(0, true), (0, true), (1, false)]),
+            (31, &[(0, true), (0, true), (0, true), (1, false)]),
+        ] {
+            let mut store = store(8, 32, [key]);
+            store.resize(4).unwrap();
+            expect_steps(&mut store, steps);
+            assert_eq!((store.size(), store.find(key)), (4, Ok(10 * key)));
+        }
+    }
+
+    /// Deletes thin the old table out once its move has begun.
+    #[test]
+    fn buckets_that_were_emptied_are_passed_like_others() {
+        let mut store = store(8, 32, [0, 1, 5, 11, 25]);
+        store.resize(64).unwrap();
+        expect_steps(&mut store, &[(1, true)]);
+        store.delete(1).unwrap();
+        store.delete(5).unwrap();
+        expect_steps(&mut store, &[(0, true)]);
+        store.delete(11).unwrap();
+        expect_steps(&mut store, &[(0, true), (1, false)]);
+        assert_eq!((store.size(), store.held()), (64, 2));
+    }
+
+    /// From the last bucket of the largest table, and from no bucket at all.
+    #[test]
+    fn the_longest_and_the_shortest_move() {
+        let mut store = store(1, 65_536, [65_535]);
+        store.resize(32_768).unwrap();
+        let passing = vec![(0, true); 6553];
+        expect_steps(&mut store, &passing);
+        expect_steps(&mut store, &[(1, false)]);
+
+        store.delete(65_535).unwrap();
+        store.resize(65_536).unwrap();
+        expect_steps(&mut store, &[(0, false)]);
+        assert_eq!(store.step(), Err(Refusal::NotMoving));
     }
 
     #[test]

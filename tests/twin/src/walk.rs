@@ -1,17 +1,19 @@
 //! A witness that follows a run from outside, knowing only the commands and
 //! their replies, and says when a promise of the request is broken: demand 3,
 //! how often a walk hands out a key and which of the keys that come meanwhile
-//! it must hand out, and of each walk call demand 2.
+//! it must hand out, of each walk call demand 2, and how many steps a move takes.
 //!
-//! It has nothing in common with the store. The program's limits and the numbers
-//! of the answers stand here once more, from the specification; the plain map, the
-//! live sizes and which keys are in the new table it learns from calls and answers;
-//! and where a walk goes it reads off the line of `line.rs`. Left to the store is
-//! only in which order a bucket's own keys come.
+//! It has nothing in common with the store but the most empty buckets of a step,
+//! a number that the cases written by hand fix for both. The program's limits and
+//! the numbers of the answers stand here once more, from the specification; the
+//! plain map, the live sizes and which keys are in the new table it learns from
+//! calls and answers; and where a walk goes it reads off the line of `line.rs`.
+//! Left to the store is only in which order a bucket's own keys come.
 
 use crate::line::{self, number_at, part, place};
 use crate::program::{Command, Exchange, Reply};
-use std::collections::BTreeMap;
+use crate::store::EMPTY_VISITS;
+use std::collections::{BTreeMap, BTreeSet};
 use std::ops::AddAssign;
 
 /// The numbers of the answers.
@@ -62,6 +64,16 @@ struct Held {
     in_new: bool,
 }
 
+/// How far the move under way has come.
+#[derive(Default)]
+struct Progress {
+    /// The old table's buckets before this one are empty.
+    next: u32,
+    /// How many steps were answered since the move began, and how many may be.
+    steps: u32,
+    most: u32,
+}
+
 /// The sizes that the smaller live table had at the calls of a walk.
 struct Sizes {
     last: u32,
@@ -93,9 +105,10 @@ struct Walk {
     resized: bool,
 }
 
-/// How many walks were seen through to their end, and what they met.
+/// How many walks and moves were seen through to their end, and what they met.
 #[derive(Clone, Copy, Debug, Default)]
 pub struct Tally {
+    /// Walks.
     pub ended: usize,
     /// Those of them whose calls did not all see the same tables.
     pub resized: usize,
@@ -106,6 +119,10 @@ pub struct Tally {
     pub repeated: usize,
     /// How many keys were added ahead of a walk, and owed from then on.
     pub late: usize,
+    /// Moves.
+    pub moves: usize,
+    /// Steps, also of other moves, that only passed empty buckets.
+    pub passing: usize,
 }
 
 impl AddAssign for Tally {
@@ -115,6 +132,8 @@ impl AddAssign for Tally {
         self.shrunk += other.shrunk;
         self.repeated += other.repeated;
         self.late += other.late;
+        self.moves += other.moves;
+        self.passing += other.passing;
     }
 }
 
@@ -127,6 +146,8 @@ pub struct Witness {
     added: Vec<u64>,
     /// `None` before the first start that was answered.
     live: Option<Live>,
+    /// Of the last move, if none is under way.
+    progress: Progress,
     walks: Vec<Walk>,
     tally: Tally,
 }
@@ -209,32 +230,47 @@ impl Witness {
             new: Some(size),
             ..live
         });
+        let filled: BTreeSet<u32> = self.held.values().map(|held| held.key % live.old).collect();
+        self.progress = Progress::begin(live.old, filled.len() as u32);
         expect(reply, DONE, &[])
     }
 
     /// A step moves the keys of the lowest bucket that a key still in the old
-    /// table calls for. With none left there the new table is the only one.
+    /// table calls for, or only comes nearer to it if it is too far off. With
+    /// none left there, before the step or behind it, the new table is the only
+    /// one.
     fn step(&mut self, live: Live, reply: &Reply) -> Result<(), String> {
         let Some(new) = live.new else {
             return expect(reply, NOT_MOVING, &[]);
         };
-        let left = || self.held.values().filter(|held| !held.in_new);
-        let Some(lowest) = left().map(|held| held.key % live.old).min() else {
+        let goes_on = matches!(told(reply), (DONE, [_, 1]));
+        self.progress.count(goes_on)?;
+        let left = self.held.values().filter(|held| !held.in_new);
+        let mut moved = 0;
+        if let Some(lowest) = left.map(|held| held.key % live.old).min() {
+            if lowest - self.progress.next < EMPTY_VISITS {
+                for held in self.held.values_mut() {
+                    if !held.in_new && held.key % live.old == lowest {
+                        held.in_new = true;
+                        moved += 1;
+                    }
+                }
+                self.progress.next = lowest + 1;
+            } else {
+                self.progress.next += EMPTY_VISITS;
+                self.tally.passing += 1;
+            }
+        }
+        let moving = self.held.values().any(|held| !held.in_new);
+        if !moving {
             self.held.values_mut().for_each(|held| held.in_new = false);
             self.live = Some(Live {
                 old: new,
                 new: None,
             });
-            return expect(reply, DONE, &[0, 0]);
-        };
-        let mut moved = 0;
-        for held in self.held.values_mut() {
-            if !held.in_new && held.key % live.old == lowest {
-                held.in_new = true;
-                moved += 1;
-            }
+            self.tally.moves += 1;
         }
-        expect(reply, DONE, &[moved, 1])
+        expect(reply, DONE, &[moved, u32::from(moving)])
     }
 
     fn scan(&mut self, live: Live, cursor: u32, reply: &Reply) -> Result<(), String> {
@@ -339,6 +375,33 @@ impl Witness {
             self.tally += ended.tally();
         }
         self.walks.retain(|walk| walk.due != 0);
+        Ok(())
+    }
+}
+
+impl Progress {
+    /// That of a move from a table of this size, so many of whose buckets are
+    /// filled. Each of these takes one step at most, and the empty ones take one
+    /// for as many as a step may pass. A move of no keys has a step too.
+    fn begin(size: u32, filled: u32) -> Self {
+        Progress {
+            next: 0,
+            steps: 0,
+            most: (filled + (size - filled) / EMPTY_VISITS).max(1),
+        }
+    }
+
+    /// Counts a step, and looks that there were not too many.
+    fn count(&mut self, goes_on: bool) -> Result<(), String> {
+        self.steps += 1;
+        // A move that goes on needs one more step at least.
+        let least = self.steps + u32::from(goes_on);
+        if least > self.most {
+            let most = self.most;
+            return Err(format!(
+                "a move needs {least} steps or more, with {most} as its bound"
+            ));
+        }
         Ok(())
     }
 }
@@ -462,6 +525,7 @@ impl Walk {
             shrunk: usize::from(self.sizes.shrinks > 0),
             repeated: keys.filter(|times| times.len() > 1).count(),
             late: self.late,
+            ..Tally::default()
         }
     }
 }
@@ -552,16 +616,22 @@ mod tests {
 
     #[test]
     fn the_model_keeps_its_promises() {
-        let script = "N 8 4\nA 1 10\nA 6 60\nC 0\nR 8\nC 2\nS\nC 1\nS\nS\nC 3\nC 7\n";
+        let script = "N 8 4\nA 1 10\nA 6 60\nC 0\nR 8\nC 2\nS\nC 1\nS\nC 3\nC 7\n";
         let tally = witness(script).tally();
         assert_eq!((tally.ended, tally.resized, tally.shrunk), (1, 1, 0));
+        assert_eq!((tally.moves, tally.passing), (1, 0));
         // The second call of this walk sees a smaller table, and hands out key 0
         // again. Key 3 comes ahead of the walk, key 4 behind it, and key 7 has
         // gone by the next call.
-        let script = "N 8 4\nA 0 10\nC 0\nR 2\nS\nS\nA 3 30\nC 2\nA 4 40\nA 7 70\nD 7\nC 1\n";
+        let script = "N 8 4\nA 0 10\nC 0\nR 2\nS\nA 3 30\nC 2\nA 4 40\nA 7 70\nD 7\nC 1\n";
         let tally = witness(script).tally();
         assert_eq!((tally.ended, tally.resized, tally.shrunk), (1, 1, 1));
         assert_eq!((tally.repeated, tally.late), (1, 1));
+        // Two steps pass empty buckets, and a start breaks the move off; one
+        // more, and the next step ends the move.
+        let script = "N 8 32\nA 20 20\nR 4\nS\nS\nN 8 32\nA 19 19\nR 4\nS\nS\n";
+        let tally = witness(script).tally();
+        assert_eq!((tally.moves, tally.passing), (1, 3));
     }
 
     #[test]
@@ -645,7 +715,7 @@ mod tests {
     /// Both bounds are attained: at sizes 4, 2 and 1 key 0 comes three times.
     #[test]
     fn a_key_may_come_once_more_for_each_halving() {
-        let script = "N 4 4\nA 0 7\nC 0\nR 2\nS\nS\nC 2\nR 1\nS\nS\nC 1\n";
+        let script = "N 4 4\nA 0 7\nC 0\nR 2\nS\nC 2\nR 1\nS\nC 1\n";
         let tally = witness(script).tally();
         assert_eq!((tally.ended, tally.shrunk, tally.repeated), (1, 1, 1));
         let sizes = [(4, 0, 2, &[0][..]), (2, 2, 1, &[0]), (1, 1, 3, &[0])];
@@ -826,9 +896,76 @@ mod tests {
                 (&[2, 0], due),
             ],
         );
-        let ending = "N 8 4\nA 1 10\nR 8\nS\nA 2 20\nS\n";
+        // The last keys of the old table, moved and deleted. Other keys are in
+        // the new one.
+        let ending = "N 8 16\nA 1 10\nR 8\nA 2 20\nS\n";
+        let due = "0 [1, 0] is to be answered";
+        expect_noticed(
+            ending,
+            &[1, 0],
+            &[
+                (&[1, 1], due),
+                (&[0, 0], due),
+                (&[0, 1], due),
+                (&[2, 0], due),
+            ],
+        );
+        let deleted = "N 8 16\nA 1 10\nR 8\nA 2 20\nD 1\nS\n";
         let due = "0 [0, 0] is to be answered";
-        expect_noticed(ending, &[0, 0], &[(&[1, 1], due), (&[0, 1], due)]);
+        expect_noticed(deleted, &[0, 0], &[(&[0, 1], due), (&[1, 0], due)]);
+        // Nine empty buckets before a filled one, ten, and after these none.
+        let due = "0 [1, 1] is to be answered";
+        let nine = "N 8 64\nA 9 90\nA 60 600\nR 8\nS\n";
+        expect_noticed(nine, &[1, 1], &[(&[0, 1], due), (&[1, 0], due)]);
+        let passed = "N 8 64\nA 10 100\nA 60 600\nR 8\nS\nS\n";
+        expect_noticed(passed, &[1, 1], &[(&[0, 1], due), (&[1, 0], due)]);
+        let due = "0 [0, 1] is to be answered";
+        let ten = "N 8 64\nA 10 100\nA 60 600\nR 8\nS\n";
+        expect_noticed(ten, &[0, 1], &[(&[1, 1], due), (&[0, 0], due)]);
+    }
+
+    #[test]
+    fn a_move_of_too_many_steps_is_noticed() {
+        // One bucket is filled, and less than ten are empty.
+        expect_noticed(
+            "N 8 8\nA 7 70\nR 1\nS\n",
+            &[1, 0],
+            &[(&[1, 1], "2 steps or more, with 1 as its bound")],
+        );
+        // Ten are empty, and all of them come first.
+        expect_noticed(
+            "N 8 16\nA 10 100\nR 1\nS\nS\n",
+            &[1, 0],
+            &[(&[1, 1], "3 steps or more, with 2 as its bound")],
+        );
+        // Of 63 empty ones three take no step of their own.
+        expect_noticed(
+            &("N 8 64\nA 63 630\nR 1\n".to_string() + &"S\n".repeat(7)),
+            &[1, 0],
+            &[(&[1, 1], "8 steps or more, with 7 as its bound")],
+        );
+        // The filled buckets are those that the move began with.
+        expect_noticed(
+            "N 8 8\nA 1 10\nA 2 20\nA 9 90\nR 1\nA 3 30\nD 1\nD 9\nS\n",
+            &[1, 0],
+            &[(&[1, 1], "0 [1, 0] is to be answered")],
+        );
+        expect_noticed(
+            "N 8 8\nA 1 10\nA 2 20\nA 9 90\nR 1\nS\nA 3 30\nD 2\nS\n",
+            &[0, 0],
+            &[(&[0, 1], "3 steps or more, with 2 as its bound")],
+        );
+        // Another move has its own, behind an end and behind a start.
+        expect_noticed(
+            "N 8 8\nA 1 10\nA 2 20\nR 1\nS\nS\nR 2\nS\n",
+            &[2, 0],
+            &[(&[2, 1], "2 steps or more, with 1 as its bound")],
+        );
+        expect_noticed(
+            "N 8 8\nA 1 10\nA 2 20\nR 1\nS\nN 8 4\nA 1 10\nR 1\nS\n",
+            &[1, 0],
+            &[(&[1, 1], "2 steps or more, with 1 as its bound")],
+        );
     }
 
     #[test]

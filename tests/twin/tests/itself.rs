@@ -52,6 +52,17 @@ fn the_twin_tells_good_programs_from_bad() {
     );
     let deaf = program("deaf", "echo 10");
     expect_failure(&deaf, &[], 1, "answer 1 differs at byte 1");
+    // Ends a move a step late.
+    let late = program(
+        "late",
+        &format!("'{TWIN}' --answer | sed 's/^0 3 0$/0 3 1/'"),
+    );
+    expect_failure(
+        &late,
+        &["7", "0"],
+        1,
+        "seed 7, the printed script: answer 7",
+    );
     let failing = program("failing", &format!("'{TWIN}' --answer; exit 3"));
     expect_failure(&failing, &[], 1, "exit status: 3");
 

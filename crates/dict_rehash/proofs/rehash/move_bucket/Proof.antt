@@ -2,12 +2,15 @@
 -- Assumes nothing.
 use borrow.Author.Needs.{needs}
 use Rattle.dict_rehash.specs.Progress.{stepRoom}
-use Rattle.dict_rehash.proofs.Stepping.{target-legal, target-fits, chain-of, bucket-unsound, bucket-moved, bucket-room}
+use Rattle.dict_rehash.proofs.Stepping.{target-legal, target-fits, chain-of, bucket-unsound, bucket-moved, bucket-room, bucket-behind}
 use Rattle.dict_rehash.proofs.rehash.move_bucket.Statement.{statement}
 use Rattle.dict_rehash.proofs.rehash.move_bucket.Tie as tie
 
 move-chain-requires : tie.Need-move-chain-requires
 move-chain-requires c κs = ((search target-legal, search target-fits), search chain-of)
+
+add-behind : tie.Need-add-t24
+add-behind c = search bucket-behind
 
 returns : tie.Need-returns
 unfolding stepRoom
@@ -28,6 +31,7 @@ move-bucket-spec =
     move-chain-requires
     (λ c. search needs)
     (λ c. search needs)
+    add-behind
     (λ c. search needs)
     returns
     (λ c. search needs)

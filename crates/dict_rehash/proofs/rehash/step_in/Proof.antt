@@ -4,7 +4,7 @@ use borrow.Author.Needs.{needs}
 use Rattle.model.proofs.Soundness.{tested-sound}
 use Rattle.memory.proofs.Tested.{checked-refused, checked-sound}
 use Rattle.dict_rehash.specs.Progress.{stepAnswer, stepRoom}
-use Rattle.dict_rehash.proofs.Stepping.{step-resting, step-finished, step-moved}
+use Rattle.dict_rehash.proofs.Stepping.{none-moved-tested, step-resting, step-finished, step-moved}
 use Rattle.dict_rehash.proofs.rehash.step_in.Statement.{statement}
 use Rattle.dict_rehash.proofs.rehash.step_in.Tie as tie
 
@@ -12,8 +12,7 @@ move-next-requires : tie.Need-move-next-requires
 move-next-requires c κs = (search tested-sound, search needs)
 
 returns : tie.Need-returns
-unfolding stepRoom
-returns c = (search (checked-sound, step-finished), tt)
+returns c = (search (checked-sound, step-finished), search none-moved-tested)
 
 returns-2 : tie.Need-returns-2
 returns-2 c = (search (checked-sound, step-moved), search needs)

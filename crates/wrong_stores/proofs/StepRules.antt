@@ -1,0 +1,156 @@
+-- The stores of specs/StepRules are excluded: by demand 3, by demand 1 where no history leads, and by how soon a rehash ends.
+-- And a rehash of ours that takes as many steps as are allowed.
+-- Assumes nothing.
+use Prim.Native.Nat.{ℕ, _+_, _-_, _/_, _≤_, _<_}
+use mathlib.Core.Path.{_≡_, refl, subst, _∙_}
+use mathlib.Core.Logic.{inl, inr}
+use mathlib.Core.List.{List, [], _∷_}
+use lib.Dec.{lit≤, lit<}
+use lib.ListN.{getD, set, replicate, getD-replicate}
+use lib.Seq.{getD-set-other}
+use borrow.Author.Tests.{eqb-false}
+use native.Mathlib.Omega.{arith}
+use Rattle.model.specs.declared.Table.{Table}
+use Rattle.model.specs.Limits.{emptyVisits}
+use Rattle.model.specs.Memory.{Place}
+use Rattle.model.specs.Cases.{sparse}
+use Rattle.model.specs.Sequences.{World, Call, perform, run}
+use Rattle.model.proofs.Tests.{true-not-false}
+use Rattle.refinement.specs.Demand1.{Demand1, headOf, StepDamaged}
+use Rattle.refinement.specs.Demand3.{Demand3}
+use Rattle.refinement.specs.RehashesEnd.{UnderWay, answeredSteps, filledBuckets, RehashesEnd}
+use Rattle.wrong_stores.specs.StepRules as wrong
+use Rattle.wrong_stores.specs.StepRules.{passing, passesFilled, passesToEnd, endsLate, neverDone, endsAtOnce}
+use Rattle.wrong_stores.specs.Rehashes as rehashes
+use Rattle.wrong_stores.specs.Rehashes.{stepsAhead}
+use Rattle.wrong_stores.proofs.Start.{computing, started, add, at, rehash-at, differ, neither, must-step-damaged, no-look}
+
+-- Demand 3, `answers`, `values`. One key in a table of 16, and a rehash to 8: the tenth bucket is in reach, the eleventh not.
+
+abbrev oneKey : ℕ → List Call
+oneKey key = add key 10 ∷ Call.resize 8 ∷ Call.rehashStep ∷ []
+
+unfoldable looks : Unit {0}
+unfolding computing wrong.looking passing
+looks = tt
+
+pub eleven-excluded : Demand3 (passing 11) → ⊥
+unfolding looks
+eleven-excluded d =
+    differ 0 (1 ∷ 0 ∷ []) (0 ∷ 1 ∷ []) refl (at d 16 refl (oneKey 10) .answers .1 .1 .0 .values (no-look refl))
+
+pub nine-excluded : Demand3 (passing 9) → ⊥
+unfolding looks
+nine-excluded d =
+    differ 0 (0 ∷ 1 ∷ []) (1 ∷ 0 ∷ []) refl (at d 16 refl (oneKey 9) .answers .1 .1 .0 .values (no-look refl))
+
+pub passesFilled-excluded : Demand3 passesFilled → ⊥
+unfolding looks passesFilled
+passesFilled-excluded d =
+    differ 0 (0 ∷ 1 ∷ []) (1 ∷ 0 ∷ []) refl (at d 16 refl (oneKey 3) .answers .1 .1 .0 .values (no-look refl))
+
+-- a step that moves the only key ends the rehash, ..
+
+unfoldable ending : Unit {0}
+unfolding computing wrong.behind wrong.unended wrong.goesOn endsLate neverDone endsAtOnce
+ending = tt
+
+pub endsLate-excluded : Demand3 endsLate → ⊥
+unfolding ending
+endsLate-excluded d =
+    differ 1 (1 ∷ 1 ∷ []) (1 ∷ 0 ∷ []) refl (at d 16 refl (oneKey 3) .answers .1 .1 .0 .values (no-look refl))
+
+-- .. a step in an empty store does, ..
+pub neverDone-excluded : Demand3 neverDone → ⊥
+unfolding ending
+neverDone-excluded d =
+    differ 1 (0 ∷ 1 ∷ []) (0 ∷ 0 ∷ []) refl
+    (at d 2 refl (Call.resize 4 ∷ Call.rehashStep ∷ []) .answers .1 .0 .values (no-look refl))
+
+-- .. and one that leaves a key in the old table does not
+pub endsAtOnce-excluded : Demand3 endsAtOnce → ⊥
+unfolding ending
+endsAtOnce-excluded d =
+    differ 1 (1 ∷ 0 ∷ []) (1 ∷ 1 ∷ []) refl
+    (at d 2 refl (add 0 10 ∷ add 1 11 ∷ Call.resize 4 ∷ Call.rehashStep ∷ []) .answers .1 .1 .1 .0 .values (no-look refl))
+
+-- Demand 1, `numbers`. The old table is said to hold a key, but from bucket 6 on, of 16, there is none: the end comes with the
+-- tenth bucket, and the step is damaged; ..
+
+all-empty : (next : ℕ) → 0 < next → (b : ℕ) → next ≤ b → b < 16 → headOf (sparse 0 next) (Place.bucket Table.Old b) ≡ 0
+unfolding computing sparse
+all-empty next pos b from below =
+    getD-set-other (replicate 16 0) 0 b 1 0 (omega arith) ∙ getD-replicate 16 b 0 0 below
+
+end-first : StepDamaged (sparse 0 6)
+unfolding computing sparse
+end-first = (lit< tt, inl (lit≤ tt, all-empty 6 (lit< tt)))
+
+pub passesToEnd-excluded : Demand1 passesToEnd → ⊥
+unfolding computing passesToEnd sparse
+passesToEnd-excluded d =
+    must-step-damaged 0 refl true-not-false refl end-first (d .numbers (sparse 0 6) Call.rehashStep)
+
+-- .. and from bucket 5 on a step passes ten, and is not damaged
+not-damaged : StepDamaged (sparse 0 5) → ⊥
+unfolding computing sparse
+not-damaged (pos, inl (reach, end)) = omega arith
+not-damaged (pos, inr (b, first, unsound)) =
+    first .filled (all-empty 5 (lit< tt) b (first .from-next) (omega (arith, first .in-reach)))
+
+pub eleven-excluded-by-numbers : Demand1 (passing 11) → ⊥
+unfolding looks sparse
+eleven-excluded-by-numbers d =
+    neither (λ h. eqb-false 2 1 refl (h .1))
+    (λ h. neither (λ i. true-not-false (i .0)) (λ i. neither (λ j. not-damaged (j .0)) (λ j. eqb-false 2 0 refl (j .1)) (i .1)) (h .1))
+    (d .numbers (sparse 0 5) Call.rehashStep)
+
+-- How soon a rehash ends, `within-size`: with one bucket, filled, the first step ends it; ..
+pub endsLate-excluded-by-size : RehashesEnd endsLate → ⊥
+unfolding ending
+endsLate-excluded-by-size d =
+    let h = rehash-at d 1 refl (add 0 10 ∷ []) refl (Call.resize 2) (Call.rehashStep ∷ []) .within-size (refl, refl) in
+    omega arith
+
+-- .. with two, empty, at most two do, whatever comes between them
+pub neverDone-excluded-by-size : RehashesEnd neverDone → ⊥
+unfolding ending
+neverDone-excluded-by-size d =
+    let h = rehash-at d 2 refl [] refl (Call.resize 4) (Call.rehashStep ∷ add 0 10 ∷ Call.resize 8 ∷ Call.rehashStep ∷ [])
+    .within-size (refl, (refl, (refl, (refl, refl)))) in
+    omega arith
+
+-- `within-filled`: one filled bucket of 16, the last: two steps
+pub one-excluded : RehashesEnd (passing 1) → ⊥
+unfolding looks
+one-excluded d =
+    let h = rehash-at d 16 refl (add 15 10 ∷ []) refl (Call.resize 8) (Call.rehashStep ∷ Call.rehashStep ∷ []) .within-filled
+    (refl, (refl, refl)) in
+    omega arith
+
+-- `each-step`: the next bucket is not the one behind an empty one
+abbrev heads : List ℕ
+heads = 1 ∷ 0 ∷ 2 ∷ replicate 13 0
+
+pub stepsAhead-excluded-by-each-step : RehashesEnd stepsAhead → ⊥
+unfolding computing stepsAhead rehashes.goingOn rehashes.behindEmpty
+stepsAhead-excluded-by-each-step d =
+    neither (λ far. omega arith)
+    (λ (b, filled, from, below, is). let one : 1 ≡ b = omega arith in filled (subst (λ (n : ℕ). _≡_ {A = ℕ} (getD heads n 0) 0) one refl))
+    (rehash-at d 4 refl (add 0 10 ∷ add 2 12 ∷ []) refl (Call.resize 8) [] .each-step Call.rehashStep (refl, refl) refl)
+
+-- Both bounds are met by ours: with two filled buckets of two, and with one of 16, the last. One step leaves the rehash under
+-- way, and the second ends it.
+
+abbrev twoOfTwo : World
+twoOfTwo = run perform (started perform 2) (add 0 10 ∷ add 1 11 ∷ Call.resize 4 ∷ [])
+
+abbrev lastOfSixteen : World
+lastOfSixteen = run perform (started perform 16) (add 15 10 ∷ Call.resize 8 ∷ [])
+
+pub steps-met : (UnderWay perform twoOfTwo (Call.rehashStep ∷ []) × (answeredSteps perform twoOfTwo (Call.rehashStep ∷ []) + 1 ≡ 2))
+    × (UnderWay perform lastOfSixteen (Call.rehashStep ∷ [])
+    × (answeredSteps perform lastOfSixteen (Call.rehashStep ∷ []) + 1
+    ≡ filledBuckets lastOfSixteen + (16 - filledBuckets lastOfSixteen) / emptyVisits))
+unfolding computing
+steps-met = (((refl, refl), refl), ((refl, refl), refl))

@@ -111,7 +111,7 @@ fn move_bucket(
     }
 }
 
-// The first filled bucket from the next one on is the one that moves, unless more empty ones come first than a step passes.
+// The first filled bucket from the next one on is the one that moves, unless as many empty ones come first as a step passes.
 // The old table holds keys, so if its end comes first it is damaged.
 fn move_next(current: &mut [u32], other: &mut [u32], entries: &mut [u32], s: State) -> Progress
     requires { ⌜ Sound s (length (now current)) (length (now other)) (length (now entries)) ⌝ }
@@ -183,6 +183,7 @@ fn state_after(s: State, count: u32, next: u32) -> State
     } else {
         n.old_used = s.old_used - count;
         n.new_used = new_used;
+        // It is true already in every state that comes here, but nothing asks that of a state.
         n.rehashing = true;
         n.rehash_index = next;
     }

@@ -19,7 +19,7 @@ use Rattle.model.specs.declared.UpdateAnswer.{UpdateAnswer}
 use Rattle.model.specs.declared.AddAnswer.{AddAnswer}
 use Rattle.model.specs.declared.DeleteAnswer.{DeleteAnswer}
 use Rattle.model.specs.declared.StepAnswer.{StepAnswer}
-use Rattle.model.specs.Memory.{Place, Live, keysHeld, sizeOf, keyOf, valueOf, setValue, chainAt}
+use Rattle.model.specs.Memory.{Place, Live, keysHeld, sizeOf, keyOf, valueOf, setValue}
 use Rattle.model.specs.Calls.{After, lookup, held, found, updated, takeable, target, pushed, added, removed, deleted, stepDone, movedChain, movedFrom, aheadOf, stepped}
 use Rattle.invariant.proofs.Shape.{IsBucket, Shape}
 use Rattle.invariant.proofs.ToUndamaged.{chain-at}

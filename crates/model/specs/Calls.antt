@@ -281,7 +281,7 @@ resize s first second entries size =
 
 -- Step
 
--- what comes from bucket b on, where so many buckets are left in the table and a step may still pass so many empty ones
+-- what comes from bucket b on, where the table has `left` buckets from there and `passes` empty ones may still be passed
 unfoldable pub ahead : List ℕ → ℕ → ℕ → ℕ → Ahead
 ahead buckets b zero passes = Ahead.End
 ahead buckets b (suc left) zero = Ahead.Empty b

@@ -79,7 +79,7 @@ inBoth b =
     world (stateOf false (oldNew 2 4) (oldNew 1 1) true 0 3 3) (1 ∷ 0 ∷ []) (2 ∷ 0 ∷ 0 ∷ 0 ∷ [])
     (0 ∷ 2 ∷ 10 ∷ 0 ∷ b ∷ 20 ∷ 0 ∷ 7 ∷ 70 ∷ [])
 
--- In another one, key b is the only one held, in bucket b of an old table of 16; and that bucket is the next one.
+-- In another one, key b is the only one held, in bucket b of an old table of 16, and `next` is the next bucket to move.
 unfoldable pub sparse : ℕ → ℕ → World
 sparse b next =
     world (stateOf false (oldNew 16 2) (oldNew 1 0) true next 0 1) (set (replicate 16 0) b 1) (replicate 2 0)

@@ -1,9 +1,9 @@
 -- How many buckets of a table some keys call for, and how many steps a rehash takes at most to move them.
 -- Assumes nothing.
-use Prim.Native.Nat.{ℕ, suc, _+_, _-_, _/_, _<_, _≤_, max}
-use mathlib.Core.Path.{_≡_, refl, sym, ap, subst, _∙_}
+use Prim.Native.Nat.{ℕ, suc, _+_, _-_, _<_, _≤_}
+use mathlib.Core.Path.{_≡_, refl, subst}
 use mathlib.Core.Logic.{_≢_}
-use mathlib.Core.Bool.{Bool, true, false, not, cond}
+use mathlib.Core.Bool.{Bool, not, cond}
 use mathlib.Core.List.{List, []}
 use native.Mathlib.Nat.{mod-lt}
 use native.Mathlib.Omega.{arith}
@@ -14,8 +14,10 @@ use Rattle.model.specs.Keys.{hash, bucketOf}
 use Rattle.model.specs.Limits.{emptyVisits}
 use Rattle.model.specs.Memory.{sum}
 use Rattle.model.proofs.Tests.{Tells, tells-eq}
+use Rattle.refinement.specs.RehashesEnd.{mostSteps}
 use Rattle.invariant.proofs.Lists.{first-member, of-keep, tells-any}
 use Rattle.invariant.proofs.Sums.{sum-atmost, sum-less, sum-few}
+use Rattle.refinement.proofs.IdealSteps.{one-at-most}
 use Rattle.refinement.proofs.MovedKeys.{lowestOf, lowest-reached, lowest-below}
 
 -- 1 for a bucket that one of the keys calls for, else 0
@@ -25,9 +27,9 @@ calledFor size keys b = cond (any (λ k. eqb (bucketOf k size) b) keys) 1 0
 unfoldable pub bucketsCalled : ℕ → List ℕ → ℕ
 bucketsCalled size keys = sum (calledFor size keys) size
 
--- the steps at most from that next bucket on: one for each bucket called for, and one for every so many others
+-- the steps at most from that next bucket on
 unfoldable pub stepsLeft : ℕ → List ℕ → ℕ → ℕ
-stepsLeft size keys next = max 1 (bucketsCalled size keys + (size - next - bucketsCalled size keys) / emptyVisits)
+stepsLeft size keys next = mostSteps (size - next) (bucketsCalled size keys)
 
 module _ (size : ℕ) where
   Calls : List ℕ → ℕ → Type 0
@@ -48,9 +50,6 @@ module _ (size : ℕ) where
       by (Tells.holds (k, i, e)) = some k i e
       by (Tells.fails f) = none (λ k i e. f (k, i, e))
 
-  at-most-one : (keys : List ℕ) (b : ℕ) → calledFor size keys b ≤ 1
-  at-most-one keys b = called-by (λ n. n ≤ 1) keys b (λ k i e. omega arith) (λ f. omega arith)
-
   called : (keys : List ℕ) (k : ℕ) → In k keys → calledFor size keys (bucketOf k size) ≡ 1
   called keys k i = called-by (λ n. n ≡ 1) keys (bucketOf k size) (λ j h e. refl) (λ f. absurd (f k i refl))
 
@@ -66,11 +65,13 @@ module _ (size : ℕ) where
 
   -- buckets from one on
   called-fit : (keys : List ℕ) (a : ℕ) → ((k : ℕ) → In k keys → a ≤ bucketOf k size) → bucketsCalled size keys ≤ size - a
-  unfolding bucketsCalled
+  unfolding bucketsCalled calledFor
   called-fit keys a above =
-      sum-few (calledFor size keys) a size (at-most-one keys) (λ b l. not-called keys b (λ k i e. omega (arith, above k i)))
+      sum-few (calledFor size keys) a size
+      (λ b. one-at-most (any (λ k. eqb (bucketOf k size) b) keys) 1 0 (omega arith) (omega arith))
+      (λ b l. not-called keys b (λ k i e. omega (arith, above k i)))
 
-  in-table : 0 < size → (k : ℕ) → bucketOf k size < size
+  pub in-table : 0 < size → (k : ℕ) → bucketOf k size < size
   unfolding bucketOf hash
   in-table pos k = mod-lt k pos
 
@@ -116,7 +117,7 @@ module _ (size : ℕ) where
 
     pub moving-less : 0 < size → keys ≢ [] → rest ≢ [] → (next : ℕ) → ((k : ℕ) → In k keys → next ≤ bucketOf k size)
         → stepsLeft size rest (suc (lowestOf size keys)) < stepsLeft size keys next
-    unfolding stepsLeft emptyVisits
+    unfolding stepsLeft mostSteps emptyVisits
     moving-less pos f g next above =
         let (low, i, e) = lowest-reached size keys f in
         omega (
@@ -132,25 +133,30 @@ module _ (size : ℕ) where
 
     pub passing-less : 0 < size → keys ≢ [] → (next : ℕ) → ((k : ℕ) → In k keys → next + emptyVisits ≤ bucketOf k size)
         → stepsLeft size keys (next + emptyVisits) < stepsLeft size keys next
-    unfolding stepsLeft emptyVisits
+    unfolding stepsLeft mostSteps emptyVisits
     passing-less pos f next above =
-        let fits : bucketsCalled size keys ≤ size - (next + 10) = called-fit keys (next + emptyVisits) above in
+        let fits = called-fit keys _ above in
         omega (arith, some-called keys pos f)
 
     pub fewer-less : (keys′ : List ℕ) → ((k : ℕ) → In k keys′ → In k keys) → (next : ℕ) → ((k : ℕ) → In k keys → next ≤ bucketOf k size)
         → stepsLeft size keys′ next ≤ stepsLeft size keys next
-    unfolding stepsLeft bucketsCalled emptyVisits
+    unfolding stepsLeft mostSteps bucketsCalled emptyVisits
     fewer-less keys′ sub next above =
         let less = sum-atmost (calledFor size keys′) (calledFor size keys) size (fewer keys keys′ sub) in
         omega (arith, called-fit keys next above)
 
     -- from the first bucket on: by any number of filled buckets that is not below those called for
     pub steps-at-first : (filled next : ℕ) → next ≡ 0 → bucketsCalled size keys ≤ filled → filled ≤ size
-        → stepsLeft size keys next ≤ max 1 (filled + (size - filled) / emptyVisits)
-    unfolding stepsLeft emptyVisits
+        → stepsLeft size keys next ≤ mostSteps size filled
+    unfolding stepsLeft mostSteps emptyVisits
     steps-at-first filled next e called-filled fits = omega arith
 
--- no more than the buckets of the table
-pub steps-fit : (size filled : ℕ) → 0 < size → filled ≤ size → max 1 (filled + (size - filled) / emptyVisits) ≤ size
-unfolding emptyVisits
+-- one is left at least, ..
+pub some-steps : (size : ℕ) (keys : List ℕ) (next : ℕ) → 0 < stepsLeft size keys next
+unfolding stepsLeft mostSteps
+some-steps size keys next = omega arith
+
+-- .. and at most as many as the table has buckets
+pub steps-fit : (size filled : ℕ) → 0 < size → filled ≤ size → mostSteps size filled ≤ size
+unfolding mostSteps emptyVisits
 steps-fit size filled pos fits = omega arith

@@ -15,17 +15,27 @@ use Rattle.model.specs.Keys.{bucketOf}
 use Rattle.model.specs.Limits.{emptyVisits}
 use Rattle.model.specs.Calls.{acceptable}
 use Rattle.model.specs.Walk.{Tables}
-use Rattle.model.specs.Sequences.{ReadCall, Call, keysOf, mapDoes}
-use Rattle.model.proofs.Tests.{true-not-false}
+use Rattle.model.specs.Sequences.{ReadCall, Call, PlainMap, keysOf, mapDoes}
+use Rattle.model.proofs.Tests.{true-not-false, told}
 use Rattle.refinement.specs.Demand3.{Lengths, Ideal, ideal, among, begun, startNumber, startAnswer, keyAnswer, resizeAnswer, stepDone, stepAnswer, groupPairs, scanAnswer, readAnswer, predict}
 use Rattle.refinement.specs.RehashesEnd.{isStep}
 use Rattle.invariant.proofs.Lists.{of-keep}
-use Rattle.refinement.proofs.IdealSteps.{either}
+use Rattle.refinement.proofs.IdealSteps.{either, any-step}
+use Rattle.refinement.proofs.PlainMaps.{tells-among}
 use Rattle.refinement.proofs.MovedKeys.{lowestOf, lowest-reached, lowest-below}
-use Rattle.refinement.proofs.CalledBuckets.{stepsLeft, rest-sub, rest-behind, moving-less, passing-less, fewer-less}
+use Rattle.refinement.proofs.CalledBuckets.{stepsLeft, in-table, rest-sub, rest-behind, moving-less, passing-less, fewer-less}
 
 one-not-two : {size old new : ℕ} → Tables.one size ≡ Tables.two old new → ⊥
 one-not-two e = let z : _≡_ {A = ℕ} 0 1 = cc in omega arith
+
+pub step-or-not : (c : Call) → (c ≡ Call.rehashStep) ⊎ (isStep c ≡ false)
+unfolding isStep
+step-or-not Call.rehashStep = inl refl
+step-or-not (Call.init capacity size) = inr refl
+step-or-not (Call.on key c) = inr refl
+step-or-not (Call.resize size) = inr refl
+step-or-not (Call.scan cursor lent) = inr refl
+step-or-not (Call.read c) = inr refl
 
 -- ---- a rehash begins
 
@@ -70,31 +80,40 @@ module _ (l : Lengths) (i : Ideal) (size old new : ℕ) (resting : i .tables ≡
 
 -- ---- and goes on
 
--- under way from a table of that size: no key still to move calls for a bucket before the next one
+-- under way from a table of that size: the keys still to move are held, and none calls for a bucket before the next one
 pub record During (size : ℕ) (i : Ideal) : Type 0 where
   pub new : ℕ
   pub tables : i .tables ≡ Tables.two size new
   pub above : (k : ℕ) → In k (i .unmoved) → i .index ≤ bucketOf k size
+  pub held : (k : ℕ) → In k (i .unmoved) → In k (keysOf (i .plain .pairs))
 
 abbrev pub left : ℕ → Ideal → ℕ
 left size i = stepsLeft size (i .unmoved) (i .index)
 
--- the next bucket comes to stand so many further on, or one beyond the bucket of one of the keys
+-- With a step the next bucket comes to stand so many further on, and all keys call for later ones; or one beyond the lowest
+-- that a key calls for.
 unfoldable pub Onward : ℕ → List ℕ → ℕ → ℕ → Type 0
 Onward size keys now then =
-    (then ≡ now + emptyVisits)
-    ⊎ ((k : ℕ) × In k keys × (now ≤ bucketOf k size) × (bucketOf k size < now + emptyVisits) × (then ≡ suc (bucketOf k size)))
+    ((then ≡ now + emptyVisits) × (now + emptyVisits < size) × ((k : ℕ) → In k keys → now + emptyVisits ≤ bucketOf k size))
+    ⊎ ((k : ℕ)
+    × In k keys
+    × (bucketOf k size < now + emptyVisits)
+    × (then ≡ suc (bucketOf k size))
+    × ((j : ℕ) → In j keys → bucketOf k size ≤ bucketOf j size))
 
--- A step after which it is still under way leaves less steps to go, and none but those keys.
-pub record Goes (size : ℕ) (keys : List ℕ) (now : ℕ) (j : Ideal) : Type 0 where
-  pub during : During size j
-  pub less : left size j < stepsLeft size keys now
+-- A step on some unmoved keys, after which it is still under way: the same pairs, fewer steps to go, no keys but those.
+pub record Goes (size : ℕ) (i : Ideal) (keys : List ℕ) (j : Ideal) : Type 0 where
+  pub new : ℕ
+  pub tables : j .tables ≡ Tables.two size new
+  pub plain : j .plain ≡ i .plain
+  pub above : (k : ℕ) → In k (j .unmoved) → j .index ≤ bucketOf k size
+  pub less : left size j < stepsLeft size keys (i .index)
   pub only : (k : ℕ) → In k (j .unmoved) → In k keys
-  pub onward : Onward size keys now (j .index)
+  pub onward : Onward size keys (i .index) (j .index)
 
 module _ (i : Ideal) (size new a b : ℕ) (pos : 0 < size) where
   abbrev StepGoes : List ℕ → Reply Ideal → Type 0
-  StepGoes keys r = r .state .tables ≡ Tables.two a b → Goes size keys (i .index) (r .state)
+  StepGoes keys r = r .state .tables ≡ Tables.two a b → Goes size i keys (r .state)
 
   done-goes : (keys : List ℕ) (count : ℕ) (ks : List ℕ) (next : ℕ) → ((k : ℕ) → In k ks → next ≤ bucketOf k size)
       → (ks ≢ [] → stepsLeft size ks next < stepsLeft size keys (i .index)) → ((k : ℕ) → In k ks → In k keys)
@@ -103,7 +122,10 @@ module _ (i : Ideal) (size new a b : ℕ) (pos : 0 < size) where
   done-goes keys count [] next above less only onward e = absurd (one-not-two e)
   done-goes keys count (k ∷ ks) next above less only onward e =
       record {
-        during = record { new = new; tables = refl; above = above };
+        new = new;
+        tables = refl;
+        plain = refl;
+        above = above;
         less = less (λ n. let z : _≡_ {A = ℕ} 0 1 = cc in omega arith);
         only = only;
         onward = onward;
@@ -140,19 +162,23 @@ module _ (i : Ideal) (size new a b : ℕ) (pos : 0 < size) where
           (inr (
             k,
             h,
-            above k h,
             omega (arith, ltb-true low (i .index + emptyVisits) f, is),
             ap suc (sym is),
+            λ j g. omega (arith, is, lowest-below size keys j g),
           ))
       by false f =
           done-goes keys 0 keys (i .index + emptyVisits) (behind f)
-          (λ g. passing-less size keys pos some-left (i .index) (behind f)) (λ k h. h) (inl refl)
+          (λ g. passing-less size keys pos some-left (i .index) (behind f)) (λ k h. h)
+          (inl (refl, omega (arith, behind f k (inl refl), in-table size pos k), behind f))
 
 -- any other call leaves the tables and the next bucket, and brings no key to the old table
 pub record Kept (i j : Ideal) : Type 0 where
   pub tables : j .tables ≡ i .tables
+  pub turned : j .turned ≡ i .turned
   pub index : j .index ≡ i .index
   pub only : (k : ℕ) → In k (j .unmoved) → In k (i .unmoved)
+  pub held : ((k : ℕ) → In k (i .unmoved) → In k (keysOf (i .plain .pairs))) → (k : ℕ) → In k (j .unmoved)
+      → In k (keysOf (j .plain .pairs))
 
 module _ (l : Lengths) (i : Ideal) (size new : ℕ) (moving : i .tables ≡ Tables.two size new) where
   -- (or else it starts anew)
@@ -160,14 +186,14 @@ module _ (l : Lengths) (i : Ideal) (size new : ℕ) (moving : i .tables ≡ Tabl
   Keeps r = (a b : ℕ) → r .state .tables ≡ Tables.two a b → Kept i (r .state)
 
   same : (a b : ℕ) → i .tables ≡ Tables.two a b → Kept i i
-  same a b e = record { tables = refl; index = refl; only = λ k h. h }
+  same a b e = record { tables = refl; turned = refl; index = refl; only = λ k h. h; held = λ f. f }
 
   resize-keeps : (n : ℕ) (t : Tables) → t ≡ Tables.two size new → Keeps (resizeAnswer l i n t)
   unfolding resizeAnswer reply
   resize-keeps n (Tables.one a) e = absurd (one-not-two e)
   resize-keeps n (Tables.two a b) e = same
 
-  pub keeps : (c : Call) → isStep c ≡ false → Keeps (predict l i c)
+  keeps : (c : Call) → isStep c ≡ false → Keeps (predict l i c)
   unfolding predict keyAnswer startAnswer begun scanAnswer readAnswer reply ideal isStep
   keeps (Call.init capacity n) f = by (startNumber l capacity n)
     where
@@ -175,11 +201,14 @@ module _ (l : Lengths) (i : Ideal) (size new : ℕ) (moving : i .tables ≡ Tabl
       by zero a b e = absurd (one-not-two e)
       by (suc m) a b e = same a b e
   keeps (Call.on key c) f =
+      let keys = keysOf (mapDoes (i .plain) key c .state .pairs) in
       λ a b e.
       record {
         tables = refl;
+        turned = refl;
         index = refl;
-        only = λ k h. of-keep (λ j. among j (keysOf (mapDoes (i .plain) key c .state .pairs))) k (i .unmoved) h .0;
+        only = λ k h. of-keep (λ j. among j keys) k (i .unmoved) h .0;
+        held = λ g k h. told (tells-among k keys) (of-keep (λ j. among j keys) k (i .unmoved) h .1);
       }
   keeps (Call.resize n) f = resize-keeps n (i .tables) moving
   keeps Call.rehashStep f = absurd (true-not-false f)
@@ -188,16 +217,43 @@ module _ (l : Lengths) (i : Ideal) (size new : ℕ) (moving : i .tables ≡ Tabl
   keeps (Call.read (ReadCall.suggestedSize growing)) f = same
   keeps (Call.read ReadCall.currentTable) f = same
 
+  -- the current buffer stays the same, with a step too
+  pub still-turned : (c : Call) (a b : ℕ) → predict l i c .state .tables ≡ Tables.two a b → predict l i c .state .turned ≡ i .turned
+  unfolding predict reply stepDone ideal
+  still-turned c a b = by (step-or-not c)
+    where
+      done : (old n count : ℕ) (ks : List ℕ) (next : ℕ) → stepDone i old n count ks next .state .tables ≡ Tables.two a b
+          → stepDone i old n count ks next .state .turned ≡ i .turned
+      done old n count [] next e = absurd (one-not-two e)
+      done old n count (k ∷ ks) next e = refl
+
+      by : (c ≡ Call.rehashStep) ⊎ (isStep c ≡ false) → predict l i c .state .tables ≡ Tables.two a b
+          → predict l i c .state .turned ≡ i .turned
+      by (inl s) =
+          subst (λ (c : Call). predict l i c .state .tables ≡ Tables.two a b → predict l i c .state .turned ≡ i .turned) (sym s)
+          (any-step i (λ r. r .state .tables ≡ Tables.two a b → r .state .turned ≡ i .turned) (i .tables) (i .unmoved) (λ e. refl)
+          (λ old n is. done old n))
+      by (inr f) = λ e. keeps c f a b e .turned
+
 -- While it is under way: a step, and any other call.
 module _ (l : Lengths) (i : Ideal) (size : ℕ) (d : During size i) (pos : 0 < size) (a b : ℕ) where
   pub goes-step : predict l i Call.rehashStep .state .tables ≡ Tables.two a b
-      → Goes size (i .unmoved) (i .index) (predict l i Call.rehashStep .state)
+      → During size (predict l i Call.rehashStep .state) × Goes size i (i .unmoved) (predict l i Call.rehashStep .state)
   unfolding predict
-  goes-step =
+  goes-step e =
+      let g =
       subst
       (λ (t : Tables).
-      stepAnswer i t (i .unmoved) .state .tables ≡ Tables.two a b → Goes size (i .unmoved) (i .index) (stepAnswer i t (i .unmoved) .state))
-      (sym (d .tables)) (step-goes i size (d .new) a b pos (i .unmoved) (d .above))
+      stepAnswer i t (i .unmoved) .state .tables ≡ Tables.two a b → Goes size i (i .unmoved) (stepAnswer i t (i .unmoved) .state))
+      (sym (d .tables)) (step-goes i size (d .new) a b pos (i .unmoved) (d .above)) e in (
+        record {
+          new = g .new;
+          tables = g .tables;
+          above = g .above;
+          held = λ k h. subst (λ (m : PlainMap). In k (keysOf (m .pairs))) (sym (g .plain)) (d .held k (g .only k h));
+        },
+        g,
+      )
 
   pub goes-other : (c : Call) → isStep c ≡ false → predict l i c .state .tables ≡ Tables.two a b
       → During size (predict l i c .state) × Kept i (predict l i c .state) × (left size (predict l i c .state) ≤ left size i)
@@ -207,6 +263,7 @@ module _ (l : Lengths) (i : Ideal) (size : ℕ) (d : During size i) (pos : 0 < s
           new = d .new;
           tables = k .tables ∙ d .tables;
           above = λ j h. omega (arith, k .index, d .above j (k .only j h));
+          held = k .held (d .held);
         },
         k,
         subst (λ (n : ℕ). stepsLeft size (predict l i c .state .unmoved) n ≤ left size i) (sym (k .index))

@@ -1,6 +1,6 @@
 -- The ideal's step: refused, or so many keys moved and the rest unmoved.
 -- Assumes nothing.
-use Prim.Native.Nat.{ℕ, _+_}
+use Prim.Native.Nat.{ℕ, _+_, _≤_}
 use mathlib.Core.Path.{_≡_, refl}
 use mathlib.Core.Bool.{Bool, true, false, cond}
 use mathlib.Core.List.{List, [], _∷_}
@@ -15,6 +15,9 @@ use Rattle.refinement.specs.Demand3.{Ideal, lowest, stepDone, stepAnswer
 pub either : {A : Type 0} (P : A → Type 0) (t : Bool) (x y : A) → P x → P y → P (cond t x y)
 either P true x y p q = p
 either P false x y p q = q
+
+pub one-at-most : (t : Bool) (m n : ℕ) → m ≤ 1 → n ≤ 1 → cond t m n ≤ 1
+one-at-most = either (λ (k : ℕ). k ≤ 1)
 
 module _ (i : Ideal) (P : Reply Ideal → Type 0) where
   -- what holds of a refused step, and of every other, holds of the ideal's

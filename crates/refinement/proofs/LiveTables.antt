@@ -70,10 +70,10 @@ start-legal l capacity size =
     by true false n e = absurd (omega arith)
     by false b n e = absurd (omega arith)
 
-either : (t : Bool) (r q : Reply Ideal) → (t ≡ true → Legal (r .state .tables)) → Legal (q .state .tables)
+legal-either : (t : Bool) (r q : Reply Ideal) → (t ≡ true → Legal (r .state .tables)) → Legal (q .state .tables)
     → Legal (cond t r q .state .tables)
-either true r q h k = h refl
-either false r q h k = k
+legal-either true r q h k = h refl
+legal-either false r q h k = k
 
 module _ (l : Lengths) (i : Ideal) (legal : Legal (i .tables)) where
   after-start : (capacity size n : ℕ) → startNumber l capacity size ≡ n → Legal (startAnswer i capacity size n .state .tables)
@@ -88,7 +88,7 @@ module _ (l : Lengths) (i : Ideal) (legal : Legal (i .tables)) where
       let other = cond (i .turned) (l .first) (l .second) in
       let grown : acceptable old other size ≡ true → Legal (Tables.two old size) =
       λ t. let a = allowed old other size t in (h, a .0, a .1) in
-      either (acceptable old other size) _ _ grown legal
+      legal-either (acceptable old other size) _ _ grown legal
 
   step-done : (old new : ℕ) → Legal (Tables.two old new) → (count : ℕ) (unmoved : List ℕ) (next : ℕ)
       → Legal (stepDone i old new count unmoved next .state .tables)
@@ -105,6 +105,6 @@ module _ (l : Lengths) (i : Ideal) (legal : Legal (i .tables)) where
       any-step i (λ r. Legal (r .state .tables)) (i .tables) (i .unmoved) legal
       (λ old new e. step-done old new (subst Legal e legal))
   predict-legal (Call.scan cursor lent) =
-      either (leb (length (groupPairs i cursor) * 2) (length lent)) _ _ (λ t. legal) legal
+      legal-either (leb (length (groupPairs i cursor) * 2) (length lent)) _ _ (λ t. legal) legal
   predict-legal (Call.read (ReadCall.suggestedSize growing)) = legal
   predict-legal (Call.read ReadCall.currentTable) = legal

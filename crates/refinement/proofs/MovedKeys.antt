@@ -1,5 +1,5 @@
 -- The keys that a step moves: the unmoved keys of the lowest bucket that one of them calls for are the keys on the chain of
--- the first filled bucket. They are none where the old table holds no keys, and only there.
+-- the first filled bucket. There are no unmoved keys where the old table holds none, and only there.
 -- Assumes nothing.
 use Prim.Native.Nat.{ℕ, _<_, _≤_, min}
 use mathlib.Core.Path.{_≡_, refl, sym, ap, subst, _∙_}

@@ -2,7 +2,7 @@
 -- filled bucket, or passes empty ones, or finds no keys in the old table; and with no keys left there the rehash is over.
 -- Assumes nothing.
 use Prim.Native.Nat.{ℕ, suc, _+_, _<_, _≤_}
-use mathlib.Core.Path.{_≡_, refl, sym, ap, ap₂, subst, _∙_}
+use mathlib.Core.Path.{_≡_, refl, sym, ap, subst, _∙_}
 use mathlib.Core.Logic.{_≢_, inl, inr}
 use mathlib.Core.Bool.{Bool, true, false, not, cond}
 use mathlib.Core.List.{List, [], _∷_}
@@ -348,7 +348,7 @@ module _ (w : World) (i : Ideal) (a : Agrees w i) where
             (settles 0 b _ _ _ (i .unmoved) (step-passes (a .shape) rehashing f b e)
             (passed-on a rehashing b (omega (arith, before .live)) (no-head a rehashing b before)))
 
-  -- a step, refused, ending the rehash or moving a chain
+  -- a step, refused or answered
   pub step-steps : (l : Lengths) → Steps w Call.rehashStep (predict l i Call.rehashStep)
   unfolding predict stepAnswer Moves tablesOf tablesBy
   step-steps l =

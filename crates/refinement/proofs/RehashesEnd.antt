@@ -1,136 +1,203 @@
 -- How soon a rehash ends: so it is in every store that meets demand 3, and in ours.
 -- Assumes nothing.
-use Prim.Native.Nat.{ℕ, zero, suc, _+_, _-_, _/_, _<_, _≤_, max}
-use mathlib.Core.Path.{_≡_, refl, sym, ap, subst, subst₂, _∙_}
+use Prim.Native.Nat.{ℕ, zero, suc, _+_, _<_, _≤_}
+use mathlib.Core.Path.{_≡_, refl, sym, ap, subst, subst₃, _∙_}
 use mathlib.Core.Logic.{_⊎_, inl, inr}
-use mathlib.Core.Bool.{Bool, true, false, _&&_, _||_, not, cond}
+use mathlib.Core.Bool.{Bool, true, false, _&&_, cond}
 use mathlib.Core.List.{List, [], _∷_, _++_}
+use mathlib.Core.Option.{some}
+use native.Mathlib.Decide.{ℕ-discrete}
 use native.Mathlib.Omega.{arith}
 use lib.Dec.{eqb}
-use lib.ListN.{getD}
 use borrow.Author.Tests.{eq-eqb, ne-eqb}
 use Rattle.cursor.specs.Member.{In}
 use Rattle.model.specs.declared.Table.{Table}
 use Rattle.model.specs.Keys.{bucketOf}
 use Rattle.model.specs.Limits.{largestExponent, legalSize, emptyVisits}
-use Rattle.model.specs.Memory.{Place, sizeOf, bucketsOf, headAt, budgetAt, belongs, chain, chainAt, listed, entriesAt}
+use Rattle.model.specs.Memory.{Place, Live, sizeOf, budgetAt, belongs, chain, chainAt, listed, entriesAt, keyOf, valueOf}
 use Rattle.model.specs.Calls.{sound}
 use Rattle.model.specs.Walk.{Tables, tablesBy, tablesOf}
-use Rattle.model.specs.Sequences.{World, Call, Outcome, perform, carry, run, event, events, keysOf}
+use Rattle.model.specs.Sequences.{World, Call, Outcome, perform, carry, run}
 use Rattle.model.proofs.Power.{legal-pos}
 use Rattle.model.proofs.Soundness.{sound-facts}
+use Rattle.model.proofs.Linked.{read-sound, linked-first}
 use Rattle.model.proofs.Shared.{in-its-bucket}
-use Rattle.model.proofs.Tests.{true-not-false, tested}
+use Rattle.model.proofs.Tests.{true-not-false, told, tested}
 use Rattle.refinement.specs.Worlds.{current, other, UndamagedAt, Held}
-use Rattle.refinement.specs.Demand3.{Lengths, lengthsOf, Ideal, ideal, begun, among, tableOf, predict, replay, Answered, AsPredicted, Matches, Demand3}
-use Rattle.refinement.specs.RehashesEnd.{UnderWay, isStep, answeredStep, answeredSteps, filledBuckets, Advances, RehashEnds, RehashesEnd}
+use Rattle.refinement.specs.Demand1.{headOf, EmptyFrom, FirstFilled}
+use Rattle.refinement.specs.Demand3.{Lengths, lengthsOf, Ideal, begun, among, tableOf, predict, replay, Matches, Demand3}
+use Rattle.refinement.specs.RehashesEnd.{Ongoing, UnderWay, isStep, answeredStep, answeredSteps, filledBuckets, mostSteps, Advances, RehashEnds, RehashesEnd}
 use Rattle.invariant.proofs.Sums.{sum-atmost, sum-few}
+use Rattle.refinement.proofs.IdealSteps.{one-at-most}
 use Rattle.refinement.proofs.PlainMaps.{key-value, tells-among}
-use Rattle.refinement.proofs.CalledBuckets.{calledFor, bucketsCalled, stepsLeft, called-by, steps-at-first, steps-fit}
-use Rattle.refinement.proofs.IdealCalls.{JustBegun, begins, During, left, Onward, Goes, goes-step, goes-other}
+use Rattle.refinement.proofs.CalledBuckets.{calledFor, bucketsCalled, in-table, called-by, some-steps, steps-at-first, steps-fit}
+use Rattle.refinement.proofs.IdealCalls.{JustBegun, begins, During, left, Onward, Goes, step-or-not, still-turned, goes-step, goes-other}
 use Rattle.refinement.proofs.Demand3.{demand3}
 
--- a chain from no head
+-- a chain from no head, and from one
 empty-chain : (test : ℕ → Bool) (entries : List ℕ) (capacity budget : ℕ) → listed (chain test entries capacity budget 0) ≡ []
 unfolding chain listed
 empty-chain test entries capacity zero = refl
 empty-chain test entries capacity (suc budget) = refl
 
+chain-first : (test : ℕ → Bool) (entries : List ℕ) (capacity budget head : ℕ) (ns : List ℕ)
+    → chain test entries capacity budget head ≡ some ns → (head ≡ 0 → ⊥) → In head ns
+chain-first test entries capacity budget head ns e f =
+    let (linked, short, passing) = read-sound test entries capacity budget head ns e in
+    let (rest, is, behind) = linked-first entries capacity head ns (omega (arith, f)) linked in
+    subst (λ (ms : List ℕ). In head ms) (sym is) (inl refl)
+
 -- ---- a store beside the ideal
 
-pub record Beside (l : Lengths) (w : World) (i : Ideal) : Type 0 where
-  pub undamaged : UndamagedAt w
-  pub matches : Matches l w i
+-- a step, in the store's words, by the unmoved keys
+unfoldable Moves : ℕ → List ℕ → World → World → Type 0
+Moves size keys w v =
+    (EmptyFrom w (w .state .«rehash_index» + emptyVisits)
+    × (v .state .«rehash_index» ≡ w .state .«rehash_index» + emptyVisits))
+    ⊎ ((k : ℕ)
+    × In k keys
+    × FirstFilled w (bucketOf k size)
+    × (v .state .«rehash_index» ≡ suc (bucketOf k size)))
+
+record Beside (l : Lengths) (w : World) (i : Ideal) : Type 0 where
+  undamaged : UndamagedAt w
+  matches : Matches l w i
 
 -- whatever calls come
 abbrev Along : (World → Call → Outcome) → Lengths → World → Ideal → Type 0
 Along does l w i = (calls : List Call) → Beside l (run does w calls) (replay l i calls)
 
-module _ (l : Lengths) (w : World) (i : Ideal) (b : Beside l w i) where
+module _ (l : Lengths) (w : World) (i : Ideal) (beside : Beside l w i) where
+  abbrev size : ℕ
+  size = w .state .«old_size»
+
+  abbrev head : ℕ → ℕ
+  head b = headOf w (Place.bucket Table.Old b)
+
+  abbrev chainOf : Table → ℕ → List ℕ
+  chainOf t b = entriesAt (w .state) (current w) (other w) (w .entries) (Place.bucket t b)
+
   -- the same tables
-  moving-tables : w .state .rehashing ≡ true → i .tables ≡ Tables.two (w .state .«old_size») (w .state .«new_size»)
+  moving-tables : w .state .rehashing ≡ true → i .tables ≡ Tables.two size (w .state .«new_size»)
   unfolding tablesOf tablesBy
   moving-tables e =
-      sym (b .matches .tables) ∙ ap (λ (t : Bool). tablesBy t (w .state .«old_size») (w .state .«new_size»)) e
+      sym (beside .matches .tables) ∙ ap (λ (t : Bool). tablesBy t size (w .state .«new_size»)) e
 
-  resting-tables : w .state .rehashing ≡ false → i .tables ≡ Tables.one (w .state .«old_size»)
+  resting-tables : w .state .rehashing ≡ false → i .tables ≡ Tables.one size
   unfolding tablesOf tablesBy
   resting-tables e =
-      sym (b .matches .tables) ∙ ap (λ (t : Bool). tablesBy t (w .state .«old_size») (w .state .«new_size»)) e
+      sym (beside .matches .tables) ∙ ap (λ (t : Bool). tablesBy t size (w .state .«new_size»)) e
 
-  some-buckets : 0 < w .state .«old_size»
+  same-size : w .state .rehashing ≡ true → (n : ℕ) → During n i → n ≡ size
+  same-size e n d = let same = sym (d .tables) ∙ moving-tables e in cc
+
+  some-buckets : 0 < size
   unfolding UndamagedAt legalSize sound
   some-buckets =
-      legal-pos largestExponent (w .state .«old_size»)
-      (sound-facts (w .state) (current w) (other w) (w .entries) (b .undamaged .state-sound) .old-legal)
+      legal-pos largestExponent size
+      (sound-facts (w .state) (current w) (other w) (w .entries) (beside .undamaged .state-sound) .old-legal)
 
-  -- Where a rehash has just begun, the buckets that keys call for are filled.
-  module _ (e : w .state .rehashing ≡ true) (j : JustBegun i) where
-    -- the head of a chain with an entry on it
-    head-there : (b n : ℕ) → In n (entriesAt (w .state) (current w) (other w) (w .entries) (Place.bucket Table.Old b))
-        → getD (current w) b 0 ≡ 0 → ⊥
-    unfolding entriesAt chainAt headAt bucketsOf
-    head-there b n there z =
+  -- While a rehash is under way, the buckets of the old table that unmoved keys call for are filled, and no others.
+  module _ (e : w .state .rehashing ≡ true) (d : During size i) where
+    -- a chain with an entry on it has a head
+    some-head : (b n : ℕ) → In n (chainOf Table.Old b) → head b ≡ 0 → ⊥
+    unfolding entriesAt chainAt headOf
+    some-head b n there z =
         let test = belongs (w .state) (Place.bucket Table.Old b) in
         let budget = budgetAt (w .state) (Place.bucket Table.Old b) in
         subst (λ (ns : List ℕ). In n ns)
-        (ap (λ (head : ℕ). listed (chain test (w .entries) (w .state .capacity) budget head)) z
+        (ap (λ (h : ℕ). listed (chain test (w .entries) (w .state .capacity) budget h)) z
         ∙ empty-chain test (w .entries) (w .state .capacity) budget)
         there
 
-    filled-there : (k : ℕ) → In k (i .unmoved) → getD (current w) (bucketOf k (w .state .«old_size»)) 0 ≡ 0 → ⊥
-    unfolding tableOf sizeOf
-    filled-there k h z =
-        let (value, held) = key-value k (i .plain .pairs) (subst (λ (ks : List ℕ). In k ks) (j .unmoved) h) in
-        let at = b .matches .contents .in-store k value held in
-        let old : at .table ≡ Table.Old = b .matches .each-table k value at
-        ∙ ap (λ (t : Tables). tableOf t (i .unmoved) k) (moving-tables e)
-        ∙ ap (λ (t : Bool). cond t Table.Old Table.New) (tested (tells-among k (i .unmoved)) h) in
-        let there = subst (λ (t : Table). In (at .entry) (entriesAt (w .state) (current w) (other w) (w .entries) (Place.bucket t (at .index))))
-        old (at .there) in
-        let its-bucket : bucketOf k (w .state .«old_size») ≡ at .index = ap (λ (n : ℕ). bucketOf n (w .state .«old_size»)) (sym (at .its-key))
-        ∙ in-its-bucket (w .state) (current w) (other w) (w .entries) Table.Old (at .index) (at .entry) there in
-        head-there (at .index) (at .entry) there (subst (λ (n : ℕ). getD (current w) n 0 ≡ 0) its-bucket z)
+    its-bucket : (b n : ℕ) → In n (chainOf Table.Old b) → bucketOf (keyOf (w .entries) n) size ≡ b
+    unfolding sizeOf
+    its-bucket b n there = in-its-bucket (w .state) (current w) (other w) (w .entries) Table.Old b n there
 
-    called-filled : bucketsCalled (w .state .«old_size») (i .unmoved) ≤ filledBuckets w
+    -- the ideal's table of a key
+    in-old : (k : ℕ) → tableOf (i .tables) (i .unmoved) k ≡ cond (among k (i .unmoved)) Table.Old Table.New
+    unfolding tableOf
+    in-old k = ap (λ (t : Tables). tableOf t (i .unmoved) k) (moving-tables e)
+
+    called-filled : (k : ℕ) → In k (i .unmoved) → head (bucketOf k size) ≡ 0 → ⊥
+    called-filled k h z =
+        let (value, is) = key-value k (i .plain .pairs) (d .held k h) in
+        let at = beside .matches .contents .in-store k value is in
+        let old : at .table ≡ Table.Old = beside .matches .each-table k value at
+        ∙ in-old k
+        ∙ ap (λ (t : Bool). cond t Table.Old Table.New) (tested (tells-among k (i .unmoved)) h) in
+        let there = subst (λ (t : Table). In (at .entry) (chainOf t (at .index))) old (at .there) in
+        let there-too = subst (λ (n : ℕ). In (at .entry) (chainOf Table.Old n))
+        (sym (its-bucket (at .index) (at .entry) there) ∙ ap (λ (n : ℕ). bucketOf n size) (at .its-key)) there in
+        some-head (bucketOf k size) (at .entry) there-too z
+
+    others-empty : (b : ℕ) → b < size → ((k : ℕ) → In k (i .unmoved) → bucketOf k size ≡ b → ⊥) → head b ≡ 0
+    unfolding UndamagedAt Live sizeOf chainAt headOf
+    others-empty b below none =
+        elim (ℕ-discrete (head b) 0) [
+          | yes z ↦ z
+          | no f ↦
+              let n = head b in
+              let there : In n (chainOf Table.Old b) =
+              chain-first _ (w .entries) (w .state .capacity) _ n _ (beside .undamaged .chains-sound (Place.bucket Table.Old b) below) f in
+              let key = keyOf (w .entries) n in
+              let held : Held w key (valueOf (w .entries) n) =
+              record { entry = n; table = Table.Old; index = b; live = below; there = there; its-key = refl; its-value = refl } in
+              let old : Table.Old ≡ cond (among key (i .unmoved)) Table.Old Table.New =
+              beside .matches .each-table key (valueOf (w .entries) n) held ∙ in-old key in
+              absurd (none key (told (tells-among key (i .unmoved)) (chosen (among key (i .unmoved)) old)) (its-bucket b n there))
+        ]
+      where
+        chosen : (t : Bool) → Table.Old ≡ cond t Table.Old Table.New → t ≡ true
+        chosen true e = refl
+        chosen false e = let z : _≡_ {A = ℕ} 0 1 = cc in absurd (omega arith)
+
+    -- counted
+    few-called : bucketsCalled size (i .unmoved) ≤ filledBuckets w
     unfolding bucketsCalled filledBuckets
-    called-filled =
-        sum-atmost (calledFor (w .state .«old_size») (i .unmoved)) (λ n. cond (eqb (getD (current w) n 0) 0) 0 1) (w .state .«old_size»)
-        (λ n.
-        called-by (w .state .«old_size») (λ m. m ≤ cond (eqb (getD (current w) n 0) 0) 0 1) (i .unmoved) n
+    few-called =
+        sum-atmost (calledFor size (i .unmoved)) (λ b. cond (eqb (head b) 0) 0 1) size
+        (λ b.
+        called-by size (λ m. m ≤ cond (eqb (head b) 0) 0 1) (i .unmoved) b
         (λ k h is.
-        let there : getD (current w) n 0 ≡ 0 → ⊥ = λ z. filled-there k h (subst (λ (m : ℕ). getD (current w) m 0 ≡ 0) (sym is) z) in
-        subst (λ (t : Bool). 1 ≤ cond t 0 1) (sym (ne-eqb (getD (current w) n 0) 0 there)) (omega arith))
+        let there : head b ≡ 0 → ⊥ = λ z. called-filled k h (subst (λ (n : ℕ). head n ≡ 0) (sym is) z) in
+        subst (λ (t : Bool). 1 ≤ cond t 0 1) (sym (ne-eqb (head b) 0 there)) (omega arith))
         (λ f. omega arith))
 
-  filled-fit : filledBuckets w ≤ w .state .«old_size»
+    -- what a step of the ideal means in the store
+    moves : (v : World) → Onward size (i .unmoved) (w .state .«rehash_index») (v .state .«rehash_index») → Moves size (i .unmoved) w v
+    unfolding Onward Moves EmptyFrom
+    moves v (inl (is, below, far)) =
+        inl ((λ b from l. others-empty b (omega arith) (λ k h at. omega (arith, far k h))), is)
+    moves v (inr (k, h, near, is, lowest)) =
+        let from : w .state .«rehash_index» ≤ bucketOf k size = omega (arith, d .above k h, beside .matches .index) in
+        let below = in-table size some-buckets k in
+        inr (
+          k,
+          h,
+          record {
+            from-next = from;
+            in-reach = near;
+            in-table = below;
+            filled = called-filled k h;
+            empty-before = λ b from l. others-empty b (omega arith) (λ j g at. omega (arith, lowest j g));
+          },
+          is,
+        )
+
+  few-filled : filledBuckets w ≤ size
   unfolding filledBuckets
-  filled-fit =
-      omega (
-        arith,
-        sum-few (λ n. cond (eqb (getD (current w) n 0) 0) 0 1) 0 (w .state .«old_size») (λ n. one (eqb (getD (current w) n 0) 0))
-            (λ n l. absurd (omega arith)),
-      )
-    where
-      one : (t : Bool) → cond t 0 1 ≤ 1
-      one true = omega arith
-      one false = omega arith
+  few-filled =
+      let fits = sum-few (λ b. cond (eqb (head b) 0) 0 1) 0 size (λ b. one-at-most (eqb (head b) 0) 0 1 (omega arith) (omega arith))
+      (λ b l. absurd (omega arith)) in
+      omega arith
 
 -- ---- while it goes on
 
-now : (does : World → Call → Outcome) (w : World) (calls : List Call) → UnderWay does w calls → w .state .rehashing ≡ true
-unfolding UnderWay
-now does w [] u = u
-now does w (c ∷ cs) u = u .0
-
-step-or-not : (c : Call) → (c ≡ Call.rehashStep) ⊎ (isStep c ≡ false)
-unfolding isStep
-step-or-not Call.rehashStep = inl refl
-step-or-not (Call.init capacity size) = inr refl
-step-or-not (Call.on key c) = inr refl
-step-or-not (Call.resize size) = inr refl
-step-or-not (Call.scan cursor lent) = inr refl
-step-or-not (Call.read c) = inr refl
+now : (does : World → Call → Outcome) (began w : World) (calls : List Call) → UnderWay does began w calls → w .state .rehashing ≡ true
+unfolding UnderWay Ongoing
+now does began w [] u = u .0
+now does began w (c ∷ cs) u = u .0 .0
 
 no-step : (w : World) (c : Call) (o : Outcome) → isStep c ≡ false
     → carry w o .state .«rehash_index» ≡ w .state .«rehash_index» → answeredStep w c o ≡ false
@@ -141,10 +208,6 @@ no-step w c o f e =
     both : (t : Bool) → (t && false) ≡ false
     both true = refl
     both false = refl
-
-at-most-one : (t : Bool) → cond t 1 0 ≤ 1
-at-most-one true = omega arith
-at-most-one false = omega arith
 
 -- what a call does, counted if it is an answered step
 record OneCall (size : ℕ) (w : World) (i : Ideal) (c : Call) (o : Outcome) (j : Ideal) : Type 0 where
@@ -174,14 +237,14 @@ module _ (does : World → Call → Outcome) (l : Lengths) (size : ℕ) (pos : 0
       StepGoes : Call → Type 0
       StepGoes e =
           predict l i e .state .tables ≡ Tables.two (w′ .state .«old_size») (w′ .state .«new_size»)
-          → Goes size (i .unmoved) (i .index) (predict l i e .state)
+          → During size (predict l i e .state) × Goes size i (i .unmoved) (predict l i e .state)
 
       by : (c ≡ Call.rehashStep) ⊎ (isStep c ≡ false) → OneCall size w i c (does w c) i′
       by (inl e) =
-          let g = subst StepGoes (sym e) (goes-step l i size d pos _ _) tables in
+          let (on, g) = subst StepGoes (sym e) (goes-step l i size d pos _ _) tables in
           record {
-            during = g .during;
-            less = omega (arith, g .less, at-most-one (answeredStep w c (does w c)));
+            during = on;
+            less = omega (arith, g .less, one-at-most (answeredStep w c (does w c)) 1 0 (omega arith) (omega arith));
             only = g .only;
             onward = λ t. g .onward;
           }
@@ -195,27 +258,34 @@ module _ (does : World → Call → Outcome) (l : Lengths) (size : ℕ) (pos : 0
             onward = λ t. absurd (true-not-false (sym t ∙ none));
           }
 
-  bounded : (calls : List Call) (w : World) (i : Ideal) → Along does l w i → During size i → UnderWay does w calls
-      → answeredSteps does w calls < left size i
-  unfolding answeredSteps UnderWay stepsLeft run replay
-  bounded [] w i along d u = omega arith
-  bounded (c ∷ cs) w i along d u =
-      let g = goes w i along d c (now does (carry w (does w c)) cs (u .1)) in
-      omega (arith, g .less, bounded cs (carry w (does w c)) (predict l i c .state) (λ ds. along (c ∷ ds)) (g .during) (u .1))
+  bounded : (began : World) (calls : List Call) (w : World) (i : Ideal) → Along does l w i → During size i
+      → UnderWay does began w calls → answeredSteps does w calls < left size i
+  unfolding answeredSteps UnderWay run replay
+  bounded began [] w i along d u = some-steps size (i .unmoved) (i .index)
+  bounded began (c ∷ cs) w i along d u =
+      let g = goes w i along d c (now does began (carry w (does w c)) cs (u .1)) in
+      omega
+      (arith, g .less, bounded began cs (carry w (does w c)) (predict l i c .state) (λ ds. along (c ∷ ds)) (g .during) (u .1))
 
   -- the last call, by the keys that were to move before all
-  last-onward : (calls : List Call) (w : World) (i : Ideal) → Along does l w i → During size i → (c : Call)
-      → UnderWay does w (calls ++ c ∷ []) → answeredStep (run does w calls) c (does (run does w calls) c) ≡ true
-      → Onward size (i .unmoved) (run does w calls .state .«rehash_index») (run does w (calls ++ c ∷ []) .state .«rehash_index»)
-  unfolding UnderWay run replay Onward
-  last-onward [] w i along d c u t =
-      subst₂ (Onward size (i .unmoved)) (sym (along [] .matches .index)) (sym (along (c ∷ []) .matches .index))
-      (goes w i along d c (u .1) .onward t)
-  last-onward (e ∷ cs) w i along d c u t =
-      let g = goes w i along d e (now does (carry w (does w e)) (cs ++ c ∷ []) (u .1)) in
-      elim (last-onward cs (carry w (does w e)) (predict l i e .state) (λ ds. along (e ∷ ds)) (g .during) c (u .1) t) [
+  last-moves : (began : World) (calls : List Call) (w : World) (i : Ideal) → Along does l w i → During size i → (c : Call)
+      → UnderWay does began w (calls ++ c ∷ []) → answeredStep (run does w calls) c (does (run does w calls) c) ≡ true
+      → Moves size (i .unmoved) (run does w calls) (run does w (calls ++ c ∷ []))
+  unfolding UnderWay run replay Moves
+  last-moves began [] w i along d c u t =
+      let at = along [] in
+      let e = now does began w (c ∷ []) u in
+      let same = same-size l w i at e size d in
+      let onward = goes w i along d c (now does began (carry w (does w c)) [] (u .1)) .onward t in
+      subst (λ (n : ℕ). Moves n (i .unmoved) w (carry w (does w c))) (sym same)
+      (moves l w i at e (subst (λ (n : ℕ). During n i) same d) (carry w (does w c))
+      (subst₃ (λ (n now then : ℕ). Onward n (i .unmoved) now then) same (sym (at .matches .index))
+      (sym (along (c ∷ []) .matches .index)) onward))
+  last-moves began (e ∷ cs) w i along d c u t =
+      let g = goes w i along d e (now does began (carry w (does w e)) (cs ++ c ∷ []) (u .1)) in
+      elim (last-moves began cs (carry w (does w e)) (predict l i e .state) (λ ds. along (e ∷ ds)) (g .during) c (u .1) t) [
         | inl far ↦ inl far
-        | inr (k, h, from, below, is) ↦ inr (k, g .only k h, from, below, is)
+        | inr (k, h, first, is) ↦ inr (k, g .only k h, first, is)
       ]
 
 -- ---- from its beginning
@@ -232,16 +302,23 @@ module _ (does : World → Call → Outcome) (l : Lengths) where
   replay-last [] i c = refl
   replay-last (e ∷ cs) i c = replay-last cs (predict l i e .state) c
 
-  ends : (w : World) (i : Ideal) → Along does l w i → (before : List Call) → run does w before .state .rehashing ≡ false
-      → (first : Call) (calls : List Call) → RehashEnds does (run does w (before ++ first ∷ [])) calls
-  unfolding Advances Onward
-  ends w i along before resting first calls =
+  ends : (w : World) (i : Ideal) → Along does l w i → (before : List Call) (first : Call)
+      → ¬ Ongoing (run does w (before ++ first ∷ [])) (run does w before) → (calls : List Call)
+      → RehashEnds does (run does w (before ++ first ∷ [])) calls
+  unfolding Ongoing Advances Moves
+  ends w i along before first not-before calls =
       record {
-        within-size = λ u. omega (arith, most u, steps-fit _ _ some (filled-fit l w′ i′ at));
+        within-size = λ u. omega (arith, most u, steps-fit _ _ some (few-filled l w′ i′ at));
         within-filled = most;
         each-step = advances;
       }
     where
+      v : World
+      v = run does w before
+
+      j : Ideal
+      j = replay l i before
+
       w′ : World
       w′ = run does w (before ++ first ∷ [])
 
@@ -254,13 +331,30 @@ module _ (does : World → Call → Outcome) (l : Lengths) where
       some : 0 < w′ .state .«old_size»
       some = some-buckets l w′ i′ at
 
+      along′ : Along does l w′ i′
+      along′ = along-run (before ++ first ∷ []) w i along
+
+      then : w′ .state .rehashing ≡ true
+          → predict l j first .state .tables ≡ Tables.two (w′ .state .«old_size») (w′ .state .«new_size»)
+      then e =
+          subst (λ (k : Ideal). k .tables ≡ Tables.two (w′ .state .«old_size») (w′ .state .«new_size»))
+          (replay-last before i first) (moving-tables l w′ i′ at e)
+
+      -- there was none before
+      resting : w′ .state .rehashing ≡ true → v .state .rehashing ≡ false
+      resting e = by (v .state .rehashing) refl
+        where
+          by : (t : Bool) → v .state .rehashing ≡ t → v .state .rehashing ≡ false
+          by false r = r
+          by true r =
+              let still = still-turned l j _ _ (moving-tables l v j (along before) r) first _ _ (then e) in
+              let last = ap (λ (k : Ideal). k .turned) (replay-last before i first) in
+              absurd (not-before (r, along before .matches .turned ∙ sym (at .matches .turned ∙ last ∙ still)))
+
       just : w′ .state .rehashing ≡ true → JustBegun i′
       just e =
-          subst
-          (λ (j : Ideal). j .tables ≡ Tables.two (w′ .state .«old_size») (w′ .state .«new_size») → JustBegun j)
-          (sym (replay-last before i first))
-          (begins l (replay l i before) _ _ _ (resting-tables l (run does w before) (replay l i before) (along before) resting) first)
-          (moving-tables l w′ i′ at e)
+          subst JustBegun (sym (replay-last before i first))
+          (begins l j _ _ _ (resting-tables l v j (along before) (resting e)) first (then e))
 
       during : w′ .state .rehashing ≡ true → During (w′ .state .«old_size») i′
       during e =
@@ -268,31 +362,29 @@ module _ (does : World → Call → Outcome) (l : Lengths) where
             new = w′ .state .«new_size»;
             tables = moving-tables l w′ i′ at e;
             above = λ k h. omega (arith, just e .index);
+            held = λ k h. subst (λ (ks : List ℕ). In k ks) (just e .unmoved) h;
           }
 
-      most : UnderWay does w′ calls
-          → answeredSteps does w′ calls
-          < max 1 (filledBuckets w′ + (w′ .state .«old_size» - filledBuckets w′) / emptyVisits)
+      most : UnderWay does w′ w′ calls → answeredSteps does w′ calls < mostSteps (w′ .state .«old_size») (filledBuckets w′)
       most u =
-          let e = now does w′ calls u in
-          let fewer = bounded does l (w′ .state .«old_size») some calls w′ i′ (along-run (before ++ first ∷ []) w i along) (during e) u in
+          let e = now does w′ w′ calls u in
+          let fewer = bounded does l (w′ .state .«old_size») some w′ calls w′ i′ along′ (during e) u in
           omega (
             arith,
             fewer,
             steps-at-first (w′ .state .«old_size») (i′ .unmoved) (filledBuckets w′) (i′ .index) (just e .index)
-                (called-filled l w′ i′ at e (just e)) (filled-fit l w′ i′ at),
+                (few-called l w′ i′ at e (during e)) (few-filled l w′ i′ at),
           )
 
-      advances : (c : Call) → UnderWay does w′ (calls ++ c ∷ [])
+      advances : (c : Call) → UnderWay does w′ w′ (calls ++ c ∷ [])
           → answeredStep (run does w′ calls) c (does (run does w′ calls) c) ≡ true
           → Advances w′ (run does w′ calls) (run does w′ (calls ++ c ∷ []))
       advances c u t =
-          let e = now does w′ (calls ++ c ∷ []) u in
-          elim
-          (last-onward does l (w′ .state .«old_size») some calls w′ i′ (along-run (before ++ first ∷ []) w i along) (during e) c u t) [
+          let e = now does w′ w′ (calls ++ c ∷ []) u in
+          elim (last-moves does l (w′ .state .«old_size») some w′ calls w′ i′ along′ (during e) c u t) [
             | inl far ↦ inl far
-            | inr (k, h, from, below, is) ↦
-                inr (bucketOf k (w′ .state .«old_size»), filled-there l w′ i′ at e (just e) k h, from, below, is)
+            | inr (k, h, filled, is) ↦
+                inr (bucketOf k (w′ .state .«old_size»), filled, called-filled l w′ i′ at e (during e) k h, is)
           ]
 
 pub demand3-ends : (does : World → Call → Outcome) → Demand3 does → RehashesEnd does
@@ -300,11 +392,11 @@ unfolding run
 demand3-ends does d =
     record {
       rehashes =
-          λ w capacity size answered before resting first calls.
+          λ w capacity size answered before first not-before calls.
           ends does (lengthsOf w) (carry w (does w (Call.init capacity size))) (begun capacity size)
           (λ cs.
           let s = d .sequence w capacity size answered cs in record { undamaged = s .undamaged; matches = s .matches })
-          before resting first calls;
+          before first not-before calls;
     }
 
 pub rehashes-end : RehashesEnd perform

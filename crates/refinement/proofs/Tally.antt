@@ -12,12 +12,11 @@ use lib.Dec.{leb, eqb, eqb·suc-zero}
 use Rattle.model.specs.Answers.{Reply, reply}
 use Rattle.model.specs.Memory.{keysHeld}
 use Rattle.model.specs.Calls.{acceptable}
-use Rattle.model.specs.Walk.{Tables, smallerOf}
+use Rattle.model.specs.Walk.{Tables}
 use Rattle.model.specs.Sequences.{World, KeyCall, ReadCall, Call, Outcome, carry, run, Event, event, events, keysOf, valueFor, withPairs, mapAnswer, mapDoes}
 use Rattle.cursor.specs.Next.{next}
-use Rattle.refinement.specs.Demand2.{nextCursor}
 use Rattle.refinement.specs.Demand3.{Lengths, lengthsOf, Ideal, ideal, begun, startNumber, startAnswer, keyAnswer, resizeAnswer, stepDone, groupPairs, scanAnswer, readAnswer, predict, replay, Answered, Demand3}
-use Rattle.refinement.proofs.IdealSteps.{any-step}
+use Rattle.refinement.proofs.IdealSteps.{either, any-step}
 use Rattle.refinement.proofs.PlainMaps.{length-changed, length-taken}
 
 -- the keys held after a call that was answered 0
@@ -79,29 +78,17 @@ module _ (i : Ideal) where
   counted l (Call.resize size) = by (i .tables)
     where
       by : (t : Tables) → Counted i (Call.resize size) (resizeAnswer l i size t)
-      by (Tables.one old) = either (acceptable old (cond (i .turned) (l .first) (l .second)) size)
-        where
-          either : (t : Bool)
-              → Counted i (Call.resize size)
-              (cond t (reply 0 [] (ideal (i .plain) (Tables.two old size) (i .turned) (keysOf (i .plain .pairs)) 0)) (reply 6 [] i))
-          either true = refl
-          either false = refl
+      by (Tables.one old) =
+          either (Counted i (Call.resize size)) (acceptable old (cond (i .turned) (l .first) (l .second)) size)
+          (reply 0 [] (ideal (i .plain) (Tables.two old size) (i .turned) (keysOf (i .plain .pairs)) 0)) (reply 6 [] i) refl refl
       by (Tables.two old new) = refl
   counted l Call.rehashStep = any-step i (Counted i Call.rehashStep) (i .tables) (i .unmoved) refl (λ old new e. done old new)
     where
       done : (old new count : ℕ) (ks : List ℕ) (next : ℕ) → Counted i Call.rehashStep (stepDone i old new count ks next)
       done old new count [] next = refl
       done old new count (k ∷ ks) next = refl
-  counted l (Call.scan cursor lent) = either (leb (length (groupPairs i cursor) * 2) (length lent))
-    where
-      either : (t : Bool)
-          → Counted i (Call.scan cursor lent)
-          (cond t
-          (reply 0
-          (nextCursor (pairs i) (next (smallerOf (i .tables)) cursor) ∷ length (groupPairs i cursor) ∷ []) i)
-          (reply 9 (0 ∷ length (groupPairs i cursor) ∷ []) i))
-      either true = refl
-      either false = refl
+  counted l (Call.scan cursor lent) =
+      either (Counted i (Call.scan cursor lent)) (leb (length (groupPairs i cursor) * 2) (length lent)) _ _ refl refl
   counted l (Call.read (ReadCall.suggestedSize growing)) = refl
   counted l (Call.read ReadCall.currentTable) = refl
 

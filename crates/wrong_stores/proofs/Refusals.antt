@@ -17,7 +17,7 @@ use Rattle.model.specs.Calls.{recounted, oldNew}
 use Rattle.model.specs.Sequences.{World, world, Call, Outcome, perform, run}
 use Rattle.refinement.specs.Demand1.{Demand1, nth, Chain, SoundChain, places, TooMany, GroupDamaged}
 use Rattle.refinement.specs.Demand3.{Demand3}
-use Rattle.wrong_stores.specs.Refusals.{refusesAll, refusesLarge, takesLarger, refusesResizes, overlooksDamage, losesState, writesFirst, refusesWalks, alwaysShort, readAgain, sumAfterShort, sumByCapacity, sumBelowKeys, roomForAll, shortMiscounts, countsRefused, writesRefused}
+use Rattle.wrong_stores.specs.Refusals.{refusesAll, refusesLarge, takesLarger, refusesResizes, refusesSteps, overlooksDamage, losesState, writesFirst, refusesWalks, alwaysShort, readAgain, sumAfterShort, sumByCapacity, sumBelowKeys, roomForAll, shortMiscounts, countsRefused, writesRefused}
 use Rattle.wrong_stores.proofs.Start.{computing, zeros, started, room, find, update, add, at, apart, differ, must-be-damaged, no-look}
 
 -- Demand 3, `begins`: the start's number is fixed by the limits and the lengths.
@@ -45,6 +45,12 @@ twoKeys c = add 0 10 ∷ add 1 11 ∷ c ∷ []
 pub refusesResizes-excluded : Demand3 refusesResizes → ⊥
 unfolding computing refusesResizes twoKeys
 refusesResizes-excluded d = eqb-false 6 0 refl (at d 2 refl (twoKeys (Call.resize 4)) .answers .1 .1 .0 .number)
+
+-- a step during a rehash has none
+pub refusesSteps-excluded : Demand3 refusesSteps → ⊥
+unfolding computing refusesSteps
+refusesSteps-excluded d =
+    eqb-false 2 0 refl (at d 2 refl (add 0 10 ∷ Call.resize 4 ∷ Call.rehashStep ∷ []) .answers .1 .1 .0 .number)
 
 -- a walk call's only refusal is 9
 pub refusesWalks-excluded : Demand3 refusesWalks → ⊥

@@ -1,24 +1,24 @@
 -- The stores of specs/StepRules are excluded: by demand 3, by demand 1 where no history leads, and by how soon a rehash ends.
 -- And a rehash of ours that takes as many steps as are allowed.
 -- Assumes nothing.
-use Prim.Native.Nat.{ℕ, _+_, _-_, _/_, _≤_, _<_}
+use Prim.Native.Nat.{ℕ, _+_, _≤_, _<_}
 use mathlib.Core.Path.{_≡_, refl, subst, _∙_}
 use mathlib.Core.Logic.{inl, inr}
 use mathlib.Core.List.{List, [], _∷_}
+use mathlib.Core.Bool.{false}
 use lib.Dec.{lit≤, lit<}
-use lib.ListN.{getD, set, replicate, getD-replicate}
+use lib.ListN.{getD, replicate, getD-replicate}
 use lib.Seq.{getD-set-other}
 use borrow.Author.Tests.{eqb-false}
 use native.Mathlib.Omega.{arith}
 use Rattle.model.specs.declared.Table.{Table}
-use Rattle.model.specs.Limits.{emptyVisits}
 use Rattle.model.specs.Memory.{Place}
 use Rattle.model.specs.Cases.{sparse}
 use Rattle.model.specs.Sequences.{World, Call, perform, run}
 use Rattle.model.proofs.Tests.{true-not-false}
 use Rattle.refinement.specs.Demand1.{Demand1, headOf, StepDamaged}
 use Rattle.refinement.specs.Demand3.{Demand3}
-use Rattle.refinement.specs.RehashesEnd.{UnderWay, answeredSteps, filledBuckets, RehashesEnd}
+use Rattle.refinement.specs.RehashesEnd.{UnderWay, answeredSteps, filledBuckets, mostSteps, RehashesEnd}
 use Rattle.wrong_stores.specs.StepRules as wrong
 use Rattle.wrong_stores.specs.StepRules.{passing, passesFilled, passesToEnd, endsLate, neverDone, endsAtOnce}
 use Rattle.wrong_stores.specs.Rehashes as rehashes
@@ -52,7 +52,7 @@ passesFilled-excluded d =
 -- a step that moves the only key ends the rehash, ..
 
 unfoldable ending : Unit {0}
-unfolding computing wrong.behind wrong.unended wrong.goesOn endsLate neverDone endsAtOnce
+unfolding computing wrong.goesOn endsLate neverDone endsAtOnce
 ending = tt
 
 pub endsLate-excluded : Demand3 endsLate → ⊥
@@ -109,35 +109,45 @@ eleven-excluded-by-numbers d =
 pub endsLate-excluded-by-size : RehashesEnd endsLate → ⊥
 unfolding ending
 endsLate-excluded-by-size d =
-    let h = rehash-at d 1 refl (add 0 10 ∷ []) refl (Call.resize 2) (Call.rehashStep ∷ []) .within-size (refl, refl) in
+    let h = rehash-at d 1 refl (add 0 10 ∷ []) (Call.resize 2) refl (Call.rehashStep ∷ []) .within-size
+    ((refl, refl), (refl, refl)) in
     omega arith
 
 -- .. with two, empty, at most two do, whatever comes between them
 pub neverDone-excluded-by-size : RehashesEnd neverDone → ⊥
 unfolding ending
 neverDone-excluded-by-size d =
-    let h = rehash-at d 2 refl [] refl (Call.resize 4) (Call.rehashStep ∷ add 0 10 ∷ Call.resize 8 ∷ Call.rehashStep ∷ [])
-    .within-size (refl, (refl, (refl, (refl, refl)))) in
+    let h = rehash-at d 2 refl [] (Call.resize 4) refl (Call.rehashStep ∷ add 0 10 ∷ Call.resize 8 ∷ Call.rehashStep ∷ [])
+    .within-size ((refl, refl), ((refl, refl), ((refl, refl), ((refl, refl), (refl, refl))))) in
     omega arith
 
 -- `within-filled`: one filled bucket of 16, the last: two steps
 pub one-excluded : RehashesEnd (passing 1) → ⊥
 unfolding looks
 one-excluded d =
-    let h = rehash-at d 16 refl (add 15 10 ∷ []) refl (Call.resize 8) (Call.rehashStep ∷ Call.rehashStep ∷ []) .within-filled
-    (refl, (refl, refl)) in
+    let h = rehash-at d 16 refl (add 15 10 ∷ []) (Call.resize 8) refl (Call.rehashStep ∷ Call.rehashStep ∷ []) .within-filled
+    ((refl, refl), ((refl, refl), (refl, refl))) in
     omega arith
 
--- `each-step`: the next bucket is not the one behind an empty one
+-- `each-step`: the next bucket is not the one behind an empty one, ..
 abbrev heads : List ℕ
 heads = 1 ∷ 0 ∷ 2 ∷ replicate 13 0
 
 pub stepsAhead-excluded-by-each-step : RehashesEnd stepsAhead → ⊥
 unfolding computing stepsAhead rehashes.goingOn rehashes.behindEmpty
 stepsAhead-excluded-by-each-step d =
-    neither (λ far. omega arith)
-    (λ (b, filled, from, below, is). let one : 1 ≡ b = omega arith in filled (subst (λ (n : ℕ). _≡_ {A = ℕ} (getD heads n 0) 0) one refl))
-    (rehash-at d 4 refl (add 0 10 ∷ add 2 12 ∷ []) refl (Call.resize 8) [] .each-step Call.rehashStep (refl, refl) refl)
+    neither (λ far. omega (arith, far .1))
+    (λ (b, first, filled, is).
+    let one : 1 ≡ b = omega arith in filled (subst (λ (n : ℕ). _≡_ {A = ℕ} (getD heads n 0) 0) one refl))
+    (rehash-at d 4 refl (add 0 10 ∷ add 2 12 ∷ []) (Call.resize 8) refl [] .each-step Call.rehashStep ((refl, refl), (refl, refl)) refl)
+
+-- .. and the buckets passed are empty
+pub passesFilled-excluded-by-each-step : RehashesEnd passesFilled → ⊥
+unfolding looks passesFilled
+passesFilled-excluded-by-each-step d =
+    neither (λ far. eqb-false 1 0 refl (far .0 3 (lit≤ tt) (lit< tt)))
+    (λ (b, first, filled, is). eqb-false 1 0 refl (first .empty-before 3 (lit≤ tt) (omega arith)))
+    (rehash-at d 16 refl (add 3 10 ∷ []) (Call.resize 8) refl [] .each-step Call.rehashStep ((refl, refl), (refl, refl)) refl)
 
 -- Both bounds are met by ours: with two filled buckets of two, and with one of 16, the last. One step leaves the rehash under
 -- way, and the second ends it.
@@ -148,9 +158,13 @@ twoOfTwo = run perform (started perform 2) (add 0 10 ∷ add 1 11 ∷ Call.resiz
 abbrev lastOfSixteen : World
 lastOfSixteen = run perform (started perform 16) (add 15 10 ∷ Call.resize 8 ∷ [])
 
-pub steps-met : (UnderWay perform twoOfTwo (Call.rehashStep ∷ []) × (answeredSteps perform twoOfTwo (Call.rehashStep ∷ []) + 1 ≡ 2))
-    × (UnderWay perform lastOfSixteen (Call.rehashStep ∷ [])
-    × (answeredSteps perform lastOfSixteen (Call.rehashStep ∷ []) + 1
-    ≡ filledBuckets lastOfSixteen + (16 - filledBuckets lastOfSixteen) / emptyVisits))
-unfolding computing
-steps-met = (((refl, refl), refl), ((refl, refl), refl))
+unfoldable pub EndsWith : World → ℕ → Type 0
+EndsWith w most =
+    UnderWay perform w w (Call.rehashStep ∷ [])
+    × (answeredSteps perform w (Call.rehashStep ∷ []) + 1 ≡ most)
+    × (run perform w (Call.rehashStep ∷ Call.rehashStep ∷ []) .state .rehashing ≡ false)
+
+pub steps-met : EndsWith twoOfTwo (twoOfTwo .state .«old_size»)
+    × EndsWith lastOfSixteen (mostSteps (lastOfSixteen .state .«old_size») (filledBuckets lastOfSixteen))
+unfolding computing EndsWith
+steps-met = ((((refl, refl), (refl, refl)), refl, refl), (((refl, refl), (refl, refl)), refl, refl))

@@ -9,15 +9,16 @@ use lib.Dec.{leb, ltb, eqb}
 use Rattle.model.specs.declared.Error.{Error}
 use Rattle.model.specs.declared.FindAnswer.{FindAnswer}
 use Rattle.model.specs.declared.ResizeAnswer.{ResizeAnswer}
+use Rattle.model.specs.declared.StepAnswer.{StepAnswer}
 use Rattle.model.specs.declared.ScanAnswer.{ScanAnswer}
 use Rattle.model.specs.Limits.{largestCapacity}
 use Rattle.model.specs.Memory.{keysHeld, setValue}
-use Rattle.model.specs.Answers.{reply, findReply, resizeReply}
+use Rattle.model.specs.Answers.{reply, findReply, resizeReply, stepReply}
 use Rattle.model.specs.Calls.{noState}
 use Rattle.model.specs.Walk.{AfterScan, tablesOf, group, groupPlaces, chainsAt, atMost, scanned}
 use Rattle.model.specs.Sequences.{World, Call, Outcome, kept, keptScan, perform}
 use Rattle.refinement.specs.Worlds.{current, other}
-use Rattle.wrong_stores.specs.OneCall.{but, butInit, butFind, butUpdate, butResize, butScan, ifDone, ifRefused, ifDamaged, answering, handingBack, listing, leaving}
+use Rattle.wrong_stores.specs.OneCall.{but, butInit, butFind, butUpdate, butResize, butStep, butScan, ifDone, ifRefused, ifDamaged, answering, handingBack, listing, leaving}
 
 -- refuses every call
 unfoldable pub refusesAll : World → Call → Outcome
@@ -34,6 +35,10 @@ takesLarger = butInit (λ capacity size w o. cond (leb capacity largestCapacity)
 -- refuses every resize
 unfoldable pub refusesResizes : World → Call → Outcome
 refusesResizes = butResize (λ size w o. ifDone (kept w (resizeReply (w .state) (ResizeAnswer.Refused Error.BadSize)) []) o)
+
+-- refuses every step
+unfoldable pub refusesSteps : World → Call → Outcome
+refusesSteps = butStep (λ w o. ifDone (kept w (stepReply (w .state) (StepAnswer.Refused Error.Damaged)) []) o)
 
 -- takes a chain that is not sound for one without the key
 unfoldable pub overlooksDamage : World → Call → Outcome

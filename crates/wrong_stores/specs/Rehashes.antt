@@ -1,7 +1,7 @@
 -- Wrong stores by a resize or a step.
 use Prim.Native.Nat.{ℕ, zero, suc, _+_, max}
 use mathlib.Core.Bool.{true, false}
-use mathlib.Core.List.{List, [], _∷_}
+use mathlib.Core.List.{[], _∷_}
 use lib.ListN.{length, getD, take}
 use lib.Dec.{eqb}
 use Rattle.cursor.specs.Member.{keep}
@@ -42,7 +42,7 @@ keepsIndex =
     let s = o .reply .state in
     ifDone (handingBack (goingOn (max (w .state .«rehash_index») (s .«rehash_index»)) s) o) o)
 
--- a step passes the empty buckets behind the one that it moved
+-- a step passes as many empty buckets more as ours may, behind where ours stops
 unfoldable pub behindEmpty : State → Ahead → ℕ
 behindEmpty s (Ahead.Filled b) = b
 behindEmpty s (Ahead.Empty b) = b
@@ -72,8 +72,8 @@ moreSteps (suc more) moved w o =
 unfoldable pub movesAll : World → Call → Outcome
 movesAll = butStep (λ w o. ifDone (moreSteps (w .state .«old_size») (getD (o .reply .values) 0 0) w o) o)
 
--- The lying step moves the bucket behind the next one too, if keys are left then, but says and counts on as if one bucket had
--- moved; the step after it says that it moves the other one, and moves nothing.
+-- The lying step moves the next filled bucket too, if keys are left then, but says and counts on as if one bucket had moved;
+-- the step after it says that it moves the other one, and moves nothing. (So it goes where those two are neighbours.)
 
 -- the memory of the one outcome, with the answer of the other
 unfoldable pub saying : Outcome → Outcome → Outcome

@@ -6,15 +6,14 @@ use lib.ListN.{getD}
 use lib.Dec.{eqb, ltb}
 use Rattle.model.specs.declared.State.{State}
 use Rattle.model.specs.declared.Ahead.{Ahead}
-use Rattle.model.specs.declared.StepAnswer.{StepAnswer}
 use Rattle.model.specs.Limits.{emptyVisits}
 use Rattle.model.specs.Answers.{stepReply}
-use Rattle.model.specs.Calls.{After, back, ahead, advanced, finished, movedFrom, aheadOf}
+use Rattle.model.specs.Calls.{back, ahead, advanced, finished, movedFrom, aheadOf}
 use Rattle.model.specs.Sequences.{World, Call, Outcome, left}
 use Rattle.refinement.specs.Worlds.{current, other}
 use Rattle.wrong_stores.specs.OneCall.{butStep, ifDone, ifDamaged, answering, handingBack}
 
--- A step that goes by what another look ahead says, where the old table holds keys.
+-- A step that goes by what another look ahead says, where ours is answered and the old table holds keys.
 unfoldable pub looking : (State → List ℕ → Ahead) → World → Call → Outcome
 looking look =
     butStep
@@ -38,37 +37,34 @@ passesFilled =
     (λ s buckets.
     let next = s .«rehash_index» + emptyVisits in cond (ltb next (s .«old_size»)) (Ahead.Empty next) (aheadOf s buckets))
 
--- it passes the last empty buckets too, where they are as many as ours may pass, and not one is filled
+-- where the table's end comes first, it passes the empty buckets before it, if they are as many as ours may pass
 unfoldable pub passesToEnd : World → Call → Outcome
 passesToEnd =
     butStep
     (λ w o.
     let s = w .state in
     let next = s .«rehash_index» + emptyVisits in
-    ifDamaged
-    (cond (eqb next (s .«old_size»))
-    (left (stepReply s) (back (s .«second_is_current») (movedFrom s (current w) (other w) (w .entries) (Ahead.Empty next))))
-    o)
-    o)
+    elim (aheadOf s (current w)) [
+      | Ahead.Filled b ↦ o
+      | Ahead.Empty b ↦ o
+      | Ahead.End ↦
+          cond (eqb next (s .«old_size»))
+          (ifDamaged
+          (left (stepReply s) (back (s .«second_is_current») (movedFrom s (current w) (other w) (w .entries) (Ahead.Empty next))))
+          o)
+          o
+    ])
 
 -- A step that ends the rehash at another time.
 
--- the state as it would be, had the step not ended it
-unfoldable pub behind : State → Ahead → ℕ
-behind s (Ahead.Filled b) = suc b
-behind s (Ahead.Empty b) = b
-behind s Ahead.End = s .«old_size»
-
-unfoldable pub unended : World → Outcome → State
-unended w o =
-    let s = w .state in advanced s (getD (o .reply .values) 0 0) (behind s (aheadOf s (current w)))
-
--- going on, where ours has ended it
+-- where ours has ended it, it goes on, with every bucket passed
 unfoldable pub goesOn : World → Outcome → Outcome
 goesOn w o =
+    let s = w .state in
+    let count = getD (o .reply .values) 0 0 in
     elim (o .reply .state .rehashing) [
       | true ↦ o
-      | false ↦ answering (getD (o .reply .values) 0 0 ∷ 1 ∷ []) (handingBack (unended w o) o)
+      | false ↦ answering (count ∷ 1 ∷ []) (handingBack (advanced s count (s .«old_size»)) o)
     ]
 
 -- the step that moves the last keys goes on, and the next one ends the rehash

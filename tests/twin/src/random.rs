@@ -417,7 +417,7 @@ impl Generator {
             return self.random.pick(&[legal, illegal]);
         };
         let size = store.size();
-        // A sparse script goes back to a large table at once.
+        // A sparse script mostly goes back to a large table.
         if self.kind == Kind::Sparse && size < LARGE {
             return self.random.pick(&[legal, legal, legal, illegal]);
         }

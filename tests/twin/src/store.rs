@@ -225,7 +225,7 @@ impl Store {
     }
 
     /// Moves the next filled bucket, unless too many empty ones come before it: a
-    /// step does not hunt through a sparse table. The step that leaves the old
+    /// step does not search through a sparse table. The step that leaves the old
     /// table without keys ends the move.
     pub fn step(&mut self) -> Result<Step, Refusal> {
         let mut rehash = self.rehash.take().ok_or(Refusal::NotMoving)?;

@@ -121,7 +121,7 @@ pub struct Tally {
     pub late: usize,
     /// Moves.
     pub moves: usize,
-    /// Steps, also of other moves, that only passed empty buckets.
+    /// Steps that only passed empty buckets, of moves that a start broke off too.
     pub passing: usize,
 }
 
@@ -926,7 +926,7 @@ mod tests {
 
     #[test]
     fn a_move_of_too_many_steps_is_noticed() {
-        // One bucket is filled, and less than ten are empty.
+        // One bucket is filled, and fewer than ten are empty.
         expect_noticed(
             "N 8 8\nA 7 70\nR 1\nS\n",
             &[1, 0],

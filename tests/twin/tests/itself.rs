@@ -52,7 +52,7 @@ fn the_twin_tells_good_programs_from_bad() {
     );
     let deaf = program("deaf", "echo 10");
     expect_failure(&deaf, &[], 1, "answer 1 differs at byte 1");
-    // Ends a move a step late.
+    // Says of a move that has ended that it goes on.
     let late = program(
         "late",
         &format!("'{TWIN}' --answer | sed 's/^0 3 0$/0 3 1/'"),

@@ -106,7 +106,8 @@ fn move_bucket(
         ChainLength::Sound(count) => {
             move_chain(other, entries, s.new_size, head, count);
             current[index] = 0;
-            Progress::Moved(count, b + 1)
+            let next = b + 1;
+            Progress::Moved(count, next)
         }
     }
 }
@@ -183,7 +184,7 @@ fn state_after(s: State, count: u32, next: u32) -> State
     } else {
         n.old_used = s.old_used - count;
         n.new_used = new_used;
-        // It is true already in every state that comes here, but nothing asks that of a state.
+        // It is so already in every state that comes here, but this function does not require it.
         n.rehashing = true;
         n.rehash_index = next;
     }

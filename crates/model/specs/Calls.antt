@@ -307,6 +307,7 @@ finished s =
 unfoldable pub settled : State → State
 settled s = cond (eqb (s .«old_used») 0) (finished s) s
 
+-- what it answers then
 unfoldable pub stepDone : State → ℕ → ℕ → StepAnswer
 stepDone s count next = StepAnswer.Stepped count (settled (advanced s count next))
 

@@ -51,8 +51,8 @@ filledBuckets w = sum (λ b. cond (eqb (headOf w (Place.bucket Table.Old b)) 0) 
 unfoldable pub mostSteps : ℕ → ℕ → ℕ
 mostSteps size filled = max 1 (filled + (size - filled) / emptyVisits)
 
--- From w to v: as many empty buckets as a step passes are passed; or the first filled one is, and that bucket was filled
--- when the rehash began.
+-- From w to v: the next bucket is behind as many empty ones as a step passes; or behind the first filled one, which was
+-- filled when the rehash began too.
 unfoldable pub Advances : World → World → World → Type 0
 Advances began w v =
     (EmptyFrom w (w .state .«rehash_index» + emptyVisits)
@@ -67,7 +67,7 @@ pub record RehashEnds (does : World → Call → Outcome) (w : World) (calls : L
   -- while it is under way, fewer steps were answered than the old table has buckets: the last of so many ends it, if none
   -- before does
   pub within-size : UnderWay does w w calls → answeredSteps does w calls < w .state .«old_size»
-  -- .. and fewer than by the buckets that were filled when it began
+  -- .. and fewer than the most steps, by the buckets that were filled when it began
   pub within-filled : UnderWay does w w calls → answeredSteps does w calls < mostSteps (w .state .«old_size») (filledBuckets w)
   -- each answered step advances so: no bucket of the old table is filled anew
   pub each-step : (c : Call) → UnderWay does w w (calls ++ c ∷ [])

@@ -20,7 +20,7 @@ use Rattle.refinement.specs.Demand1.{Demand1, headOf, StepDamaged}
 use Rattle.refinement.specs.Demand3.{Demand3}
 use Rattle.refinement.specs.RehashesEnd.{UnderWay, answeredSteps, filledBuckets, mostSteps, RehashesEnd}
 use Rattle.wrong_stores.specs.StepRules as wrong
-use Rattle.wrong_stores.specs.StepRules.{passing, passesFilled, passesToEnd, endsLate, neverDone, endsAtOnce}
+use Rattle.wrong_stores.specs.StepRules.{passesEleven, passesNine, passesOne, passesFilled, passesToEnd, endsLate, neverDone, endsAtOnce}
 use Rattle.wrong_stores.specs.Rehashes as rehashes
 use Rattle.wrong_stores.specs.Rehashes.{stepsAhead}
 use Rattle.wrong_stores.proofs.Start.{computing, started, add, at, rehash-at, differ, neither, must-step-damaged, no-look}
@@ -31,17 +31,17 @@ abbrev oneKey : ℕ → List Call
 oneKey key = add key 10 ∷ Call.resize 8 ∷ Call.rehashStep ∷ []
 
 unfoldable looks : Unit {0}
-unfolding computing wrong.looking passing
+unfolding computing wrong.looking wrong.passing passesEleven passesNine passesOne
 looks = tt
 
-pub eleven-excluded : Demand3 (passing 11) → ⊥
+pub passesEleven-excluded : Demand3 passesEleven → ⊥
 unfolding looks
-eleven-excluded d =
+passesEleven-excluded d =
     differ 0 (1 ∷ 0 ∷ []) (0 ∷ 1 ∷ []) refl (at d 16 refl (oneKey 10) .answers .1 .1 .0 .values (no-look refl))
 
-pub nine-excluded : Demand3 (passing 9) → ⊥
+pub passesNine-excluded : Demand3 passesNine → ⊥
 unfolding looks
-nine-excluded d =
+passesNine-excluded d =
     differ 0 (0 ∷ 1 ∷ []) (1 ∷ 0 ∷ []) refl (at d 16 refl (oneKey 9) .answers .1 .1 .0 .values (no-look refl))
 
 pub passesFilled-excluded : Demand3 passesFilled → ⊥
@@ -98,9 +98,9 @@ not-damaged (pos, inl (reach, end)) = omega arith
 not-damaged (pos, inr (b, first, unsound)) =
     first .filled (all-empty 5 (lit< tt) b (first .from-next) (omega (arith, first .in-reach)))
 
-pub eleven-excluded-by-numbers : Demand1 (passing 11) → ⊥
+pub passesEleven-excluded-by-numbers : Demand1 passesEleven → ⊥
 unfolding looks sparse
-eleven-excluded-by-numbers d =
+passesEleven-excluded-by-numbers d =
     neither (λ h. eqb-false 2 1 refl (h .1))
     (λ h. neither (λ i. true-not-false (i .0)) (λ i. neither (λ j. not-damaged (j .0)) (λ j. eqb-false 2 0 refl (j .1)) (i .1)) (h .1))
     (d .numbers (sparse 0 5) Call.rehashStep)
@@ -122,9 +122,9 @@ neverDone-excluded-by-size d =
     omega arith
 
 -- `within-filled`: one filled bucket of 16, the last: two steps
-pub one-excluded : RehashesEnd (passing 1) → ⊥
+pub passesOne-excluded : RehashesEnd passesOne → ⊥
 unfolding looks
-one-excluded d =
+passesOne-excluded d =
     let h = rehash-at d 16 refl (add 15 10 ∷ []) (Call.resize 8) refl (Call.rehashStep ∷ Call.rehashStep ∷ []) .within-filled
     ((refl, refl), ((refl, refl), (refl, refl))) in
     omega arith

@@ -30,6 +30,15 @@ unfoldable pub passing : ℕ → World → Call → Outcome
 passing visits =
     looking (λ s buckets. ahead buckets (s .«rehash_index») (s .«old_size» - s .«rehash_index») visits)
 
+unfoldable pub passesEleven : World → Call → Outcome
+passesEleven = passing 11
+
+unfoldable pub passesNine : World → Call → Outcome
+passesNine = passing 9
+
+unfoldable pub passesOne : World → Call → Outcome
+passesOne = passing 1
+
 -- it passes as many buckets as ours may, filled or not, if there is one behind them
 unfoldable pub passesFilled : World → Call → Outcome
 passesFilled =

@@ -9,8 +9,8 @@ use Rattle.dict_rehash.proofs.rehash.move_bucket.Tie as tie
 move-chain-requires : tie.Need-move-chain-requires
 move-chain-requires c κs = ((search target-legal, search target-fits), search chain-of)
 
-add-behind : tie.Need-add-t24
-add-behind c = search bucket-behind
+add-next : tie.Need-add-next
+add-next c = search bucket-behind
 
 returns : tie.Need-returns
 unfolding stepRoom
@@ -31,7 +31,7 @@ move-bucket-spec =
     move-chain-requires
     (λ c. search needs)
     (λ c. search needs)
-    add-behind
+    add-next
     (λ c. search needs)
     returns
     (λ c. search needs)

@@ -1,4 +1,4 @@
--- `dict_rehash::rehash::step_in` meets its contract: the tests in the order of the answers, then what comes from the next bucket on.
+-- `dict_rehash::rehash::step_in` meets its contract: the tests in the order of the answers, then what comes next.
 -- Assumes nothing.
 use borrow.Author.Needs.{needs}
 use Rattle.model.proofs.Soundness.{tested-sound}

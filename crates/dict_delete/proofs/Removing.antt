@@ -2,18 +2,17 @@
 -- found decides.
 -- Assumes nothing.
 use Prim.Native.Nat.{ℕ, zero, suc, _-_, _≤_}
-use mathlib.Core.Path.{_≡_, refl, sym, ap, _∙_}
+use mathlib.Core.Path.{_≡_, refl}
 use mathlib.Core.List.{List}
 use native.Mathlib.Omega.{arith}
 use lib.ListN.{set}
 use Rattle.model.specs.declared.State.{State}
 use Rattle.model.specs.declared.Table.{Table}
-use Rattle.model.specs.declared.Error.{Error}
 use Rattle.model.specs.declared.Lookup.{Lookup}
 use Rattle.model.specs.declared.DeleteAnswer.{DeleteAnswer}
 use Rattle.model.specs.Keys.{bucketOf}
 use Rattle.model.specs.Memory.{linkOf, setLink, setEntry, sizeOf, usedOf, bucketsOf}
-use Rattle.model.specs.Calls.{After, changed, recounted, withCount, held, lookup, unlinkBucket, unlinkEntry, removed, deleted}
+use Rattle.model.specs.Calls.{After, changed, recounted, withCount, lookup, unlinkBucket, unlinkEntry, removed, deleted}
 use Rattle.model.proofs.Soundness.{Sound}
 use Rattle.model.proofs.Lookups.{Located}
 use Rattle.search.specs.Tables.{Readable}

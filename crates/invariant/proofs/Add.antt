@@ -10,8 +10,8 @@ use Rattle.cursor.specs.Member.{In}
 use Rattle.model.specs.declared.State.{State}
 use Rattle.model.specs.declared.AddAnswer.{AddAnswer}
 use Rattle.model.specs.declared.Table.{Table}
-use Rattle.model.specs.Memory.{Place, Live, sizeOf, usedOf, bucketsOf, keysHeld, keyPlace, keyOf, valueOf}
-use Rattle.model.specs.Calls.{After, Chains, push, pushed, target, changed, withCount, oldNew, stateOf, recounted}
+use Rattle.model.specs.Memory.{Place, Live, usedOf, bucketsOf, keysHeld, keyPlace, keyOf, valueOf}
+use Rattle.model.specs.Calls.{After, push, pushed, target, changed, withCount, oldNew, stateOf, recounted}
 use Rattle.invariant.proofs.Shape.{Home, IsBucket, Shape, facts}
 use Rattle.invariant.proofs.Places.{one, inTable, LiveTable, key-bucket, key-home, key-live, bucket-not-free}
 use Rattle.invariant.proofs.LinkedChains.{shape-range}

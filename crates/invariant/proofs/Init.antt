@@ -9,7 +9,6 @@ use native.Mathlib.Decide.{decLt}
 use native.Mathlib.Omega.{arith}
 use lib.ListN.{length, getD, drop, length-append, length-drop}
 use Rattle.cursor.specs.Member.{In}
-use Rattle.model.specs.declared.State.{State}
 use Rattle.model.specs.declared.Table.{Table}
 use Rattle.model.specs.Limits.{largestCapacity, legalCapacity, legalSize}
 use Rattle.model.specs.Memory.{Place, Live, headAt, sizeOf, usedOf, bucketsOf, keyOf, linkOf, soundState, sum}

@@ -6,11 +6,9 @@ use mathlib.Core.Path.{_≡_, refl, sym, subst, _∙_}
 use mathlib.Core.Logic.{inl}
 use mathlib.Core.List.{List, [], _∷_, _++_}
 use native.Mathlib.Omega.{arith}
-use lib.ListN.{length}
 use Rattle.cursor.specs.Member.{Distinct, In}
 use Rattle.model.specs.declared.State.{State}
-use Rattle.model.specs.declared.Table.{Table}
-use Rattle.model.specs.Memory.{Place, Live, bucketsOf, keyOf, valueOf, setKey, setValue}
+use Rattle.model.specs.Memory.{Place, Live, keyOf, valueOf, setKey, setValue}
 use Rattle.model.proofs.Fields.{length-setKey, length-setValue}
 use Rattle.invariant.proofs.Lists.{in-left, parts-apart, in-middle}
 use Rattle.invariant.proofs.Shape.{Shape, facts}

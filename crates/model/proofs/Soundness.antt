@@ -1,15 +1,14 @@
 -- What a sound state tells, fact by fact, and that these facts make it sound.
 -- Assumes nothing.
-use Prim.Native.Nat.{ℕ, _+_, _*_, _≤_, _<_}
+use Prim.Native.Nat.{ℕ, _+_, _*_, _≤_}
 use mathlib.Core.Path.{_≡_, refl, sym, ap, _∙_}
 use mathlib.Core.Bool.{Bool, true, false, _&&_, not}
 use mathlib.Core.List.{List}
 use lib.ListN.{length}
 use lib.Dec.{leb, eqb}
 use Rattle.model.specs.declared.State.{State}
-use Rattle.model.specs.declared.Table.{Table}
 use Rattle.model.specs.Limits.{largestCapacity, legalCapacity, legalSize}
-use Rattle.model.specs.Memory.{sizeOf, keysHeld, bucketsOf, soundCapacity, soundTable, soundRehash, soundBase, soundState}
+use Rattle.model.specs.Memory.{keysHeld, soundCapacity, soundTable, soundRehash, soundBase, soundState}
 use Rattle.model.specs.Calls.{sound}
 use Rattle.model.proofs.Tests.{Tells, told, tested, tells-true, tells-same, tells-and, tells-not, tells-le, tells-eq, true-not-false}
 
@@ -147,15 +146,6 @@ pub tested-counts : (s : State) (current other entries : ℕ) (r : Bool) → r �
 tested-counts s current other entries r e h =
     let all = tested-sound s current other entries r e h in
     record { held-fit = all .used-fits; capacity-limit = all .capacity-limit }
-
--- what reading a table asks
-module _ (s : State) (current other entries : ℕ) (h : Sound s current other entries) where
-  pub old-table : (legalSize (s .«old_size») ≡ true) × (s .«old_size» ≤ current) × (s .capacity * 3 ≤ entries)
-  old-table = (h .old-legal, h .old-fits, h .entries-fit)
-
-  pub new-table : s .rehashing ≡ true
-      → (legalSize (s .«new_size») ≡ true) × (s .«new_size» ≤ other) × (s .capacity * 3 ≤ entries)
-  new-table e = (h .rehashing e .new-legal, h .rehashing e .new-fits, h .entries-fit)
 
 -- The code's test, once it knows whether a rehash is under way.
 

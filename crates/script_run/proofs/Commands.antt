@@ -9,7 +9,7 @@ use Rattle.model.specs.Answers.{reply}
 use Rattle.model.specs.Sequences.{World, world, carry, carriedState}
 use Rattle.script.specs.declared.line.Command.{Command}
 use Rattle.script.specs.Lines.{command}
-use Rattle.script.specs.Answers.{answerLine, badLine}
+use Rattle.script.specs.Answers.{badLine}
 use Rattle.script.specs.Program.{Ran, answered, runCommand, runLine}
 use Rattle.script_run.specs.declared.answer.Reply.{Reply}
 use Rattle.script_run.specs.declared.answer.Values.{Values}

@@ -17,7 +17,7 @@ use Rattle.model.specs.Calls.{acceptable}
 use Rattle.model.specs.Walk.{Tables}
 use Rattle.model.specs.Sequences.{ReadCall, Call, PlainMap, keysOf, mapDoes}
 use Rattle.model.proofs.Tests.{true-not-false, told}
-use Rattle.refinement.specs.Demand3.{Lengths, Ideal, ideal, among, begun, startNumber, startAnswer, keyAnswer, resizeAnswer, stepDone, stepAnswer, groupPairs, scanAnswer, readAnswer, predict}
+use Rattle.refinement.specs.Demand3.{Lengths, Ideal, ideal, among, begun, startNumber, startAnswer, keyAnswer, resizeAnswer, afterStep, stepAnswer, groupPairs, scanAnswer, readAnswer, predict}
 use Rattle.refinement.specs.RehashesEnd.{isStep}
 use Rattle.invariant.proofs.Lists.{of-keep}
 use Rattle.refinement.proofs.IdealSteps.{either, any-step}
@@ -117,8 +117,8 @@ module _ (i : Ideal) (size new a b : ℕ) (pos : 0 < size) where
 
   done-goes : (keys : List ℕ) (count : ℕ) (ks : List ℕ) (next : ℕ) → ((k : ℕ) → In k ks → next ≤ bucketOf k size)
       → (ks ≢ [] → stepsLeft size ks next < stepsLeft size keys (i .index)) → ((k : ℕ) → In k ks → In k keys)
-      → Onward size keys (i .index) next → StepGoes keys (stepDone i size new count ks next)
-  unfolding stepDone reply ideal
+      → Onward size keys (i .index) next → StepGoes keys (afterStep i size new count ks next)
+  unfolding afterStep reply ideal
   done-goes keys count [] next above less only onward e = absurd (one-not-two e)
   done-goes keys count (k ∷ ks) next above less only onward e =
       record {
@@ -133,7 +133,7 @@ module _ (i : Ideal) (size new a b : ℕ) (pos : 0 < size) where
 
   step-goes : (keys : List ℕ) → ((k : ℕ) → In k keys → i .index ≤ bucketOf k size)
       → StepGoes keys (stepAnswer i (Tables.two size new) keys)
-  unfolding stepAnswer stepDone reply ideal lowestOf Onward
+  unfolding stepAnswer afterStep reply ideal lowestOf Onward
   step-goes [] above e = absurd (one-not-two e)
   step-goes (k ∷ ks) above e = by (ltb low (i .index + emptyVisits)) refl e
     where
@@ -152,9 +152,9 @@ module _ (i : Ideal) (size new a b : ℕ) (pos : 0 < size) where
       by : (t : Bool) → ltb low (i .index + emptyVisits) ≡ t
           → StepGoes keys
           (cond t
-          (stepDone i size new (length (keep (λ j. eqb (bucketOf j size) low) keys)) (keep (λ j. not (eqb (bucketOf j size) low)) keys)
+          (afterStep i size new (length (keep (λ j. eqb (bucketOf j size) low) keys)) (keep (λ j. not (eqb (bucketOf j size) low)) keys)
           (suc low))
-          (stepDone i size new 0 keys (i .index + emptyVisits)))
+          (afterStep i size new 0 keys (i .index + emptyVisits)))
       by true f =
           let (k, h, is) = lowest-reached size keys some-left in
           done-goes keys _ _ (suc low) (rest-behind size keys) (λ g. moving-less size keys pos some-left g (i .index) above)
@@ -219,11 +219,11 @@ module _ (l : Lengths) (i : Ideal) (size new : ℕ) (moving : i .tables ≡ Tabl
 
   -- the current buffer stays the same, with a step too
   pub still-turned : (c : Call) (a b : ℕ) → predict l i c .state .tables ≡ Tables.two a b → predict l i c .state .turned ≡ i .turned
-  unfolding predict reply stepDone ideal
+  unfolding predict reply afterStep ideal
   still-turned c a b = by (step-or-not c)
     where
-      done : (old n count : ℕ) (ks : List ℕ) (next : ℕ) → stepDone i old n count ks next .state .tables ≡ Tables.two a b
-          → stepDone i old n count ks next .state .turned ≡ i .turned
+      done : (old n count : ℕ) (ks : List ℕ) (next : ℕ) → afterStep i old n count ks next .state .tables ≡ Tables.two a b
+          → afterStep i old n count ks next .state .turned ≡ i .turned
       done old n count [] next e = absurd (one-not-two e)
       done old n count (k ∷ ks) next e = refl
 

@@ -9,7 +9,7 @@ use Rattle.model.specs.Keys.{bucketOf}
 use Rattle.model.specs.Limits.{emptyVisits}
 use Rattle.model.specs.Answers.{Reply, reply}
 use Rattle.model.specs.Walk.{Tables}
-use Rattle.refinement.specs.Demand3.{Ideal, lowest, stepDone, stepAnswer}
+use Rattle.refinement.specs.Demand3.{Ideal, lowest, afterStep, stepAnswer}
 
 -- what holds of both answers of a test holds of the one given
 pub either : {A : Type 0} (P : A → Type 0) (t : Bool) (x y : A) → P x → P y → P (cond t x y)
@@ -22,7 +22,7 @@ one-at-most = either (λ (k : ℕ). k ≤ 1)
 module _ (i : Ideal) (P : Reply Ideal → Type 0) where
   -- what holds of a refused step, and of every other, holds of the ideal's
   pub any-step : (tables : Tables) (unmoved : List ℕ) → P (reply 8 (0 ∷ 0 ∷ []) i)
-      → ((old new : ℕ) → tables ≡ Tables.two old new → (count : ℕ) (ks : List ℕ) (next : ℕ) → P (stepDone i old new count ks next))
+      → ((old new : ℕ) → tables ≡ Tables.two old new → (count : ℕ) (ks : List ℕ) (next : ℕ) → P (afterStep i old new count ks next))
       → P (stepAnswer i tables unmoved)
   unfolding stepAnswer
   any-step (Tables.one size) unmoved refused done = refused

@@ -18,7 +18,7 @@ use Rattle.model.specs.Calls.{oldNew, longEnough, acceptable}
 use Rattle.model.specs.Walk.{Tables, tablesBy, tablesOf}
 use Rattle.model.specs.Sequences.{Call, ReadCall}
 use Rattle.model.proofs.Soundness.{Sound}
-use Rattle.refinement.specs.Demand3.{Lengths, Ideal, ideal, begun, startNumber, startAnswer, keyAnswer, resizeAnswer, stepDone, groupPairs, scanAnswer, readAnswer, predict}
+use Rattle.refinement.specs.Demand3.{Lengths, Ideal, ideal, begun, startNumber, startAnswer, keyAnswer, resizeAnswer, afterStep, groupPairs, scanAnswer, readAnswer, predict}
 use Rattle.invariant.proofs.Resize.{allowed}
 use Rattle.refinement.proofs.IdealSteps.{any-step}
 
@@ -91,8 +91,8 @@ module _ (l : Lengths) (i : Ideal) (legal : Legal (i .tables)) where
       legal-either (acceptable old other size) _ _ grown legal
 
   step-done : (old new : ℕ) → Legal (Tables.two old new) → (count : ℕ) (unmoved : List ℕ) (next : ℕ)
-      → Legal (stepDone i old new count unmoved next .state .tables)
-  unfolding stepDone reply ideal Legal
+      → Legal (afterStep i old new count unmoved next .state .tables)
+  unfolding afterStep reply ideal Legal
   step-done old new h count [] next = h .1
   step-done old new h count (k ∷ ks) next = h
 

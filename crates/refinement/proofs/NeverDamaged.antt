@@ -17,7 +17,7 @@ use Rattle.model.specs.Walk.{Tables}
 use Rattle.model.specs.Sequences.{World, KeyCall, ReadCall, Call, Outcome, carry, run, Event, events, PlainMap, valueFor, mapAnswer, mapDoes}
 use Rattle.refinement.specs.Worlds.{UndamagedAt}
 use Rattle.refinement.specs.Demand1.{SoundChain}
-use Rattle.refinement.specs.Demand3.{Lengths, lengthsOf, Ideal, begun, startNumber, startAnswer, keyAnswer, resizeAnswer, stepDone, groupPairs, scanAnswer, readAnswer, predict, Answered, Demand3}
+use Rattle.refinement.specs.Demand3.{Lengths, lengthsOf, Ideal, begun, startNumber, startAnswer, keyAnswer, resizeAnswer, afterStep, groupPairs, scanAnswer, readAnswer, predict, Answered, Demand3}
 use Rattle.refinement.proofs.IdealSteps.{either, any-step}
 use Rattle.refinement.proofs.Demand1Chains.{AtPlace, place-read, place-sound}
 
@@ -61,8 +61,8 @@ module _ (l : Lengths) (i : Ideal) where
   resize-other size (Tables.two old new) = other 7 refl
   resize-other size (Tables.one old) = either Other (acceptable old _ size) _ _ (other 0 refl) (other 6 refl)
 
-  done-other : (old new count : ℕ) (unmoved : List ℕ) (next : ℕ) → Other (stepDone i old new count unmoved next)
-  unfolding stepDone reply
+  done-other : (old new count : ℕ) (unmoved : List ℕ) (next : ℕ) → Other (afterStep i old new count unmoved next)
+  unfolding afterStep reply
   done-other old new count [] next = other 0 refl
   done-other old new count (k ∷ ks) next = other 0 refl
 

@@ -21,13 +21,13 @@ use Rattle.model.specs.Answers.{Reply, reply, errorNumber, stepReply}
 use Rattle.model.specs.Keys.{bucketOf}
 use Rattle.model.specs.Limits.{emptyVisits}
 use Rattle.model.specs.Memory.{Place, Live, headAt, sizeOf, bucketsOf, keysHeld, keyPlace}
-use Rattle.model.specs.Calls.{After, Chains, stateOf, oldNew, retabled, advanced, finished, settled, movedChain, stepped}
+use Rattle.model.specs.Calls.{After, Chains, stateOf, oldNew, retabled, advanced, finished, settled, stepDone, movedChain, stepped}
 use Rattle.model.specs.Calls as calls
 use Rattle.model.specs.Walk.{Tables, tablesBy, tablesOf}
 use Rattle.model.specs.Sequences.{valueFor, World, Call, given, perform}
 use Rattle.model.proofs.Linked.{Linked}
 use Rattle.refinement.specs.Worlds.{current, other}
-use Rattle.refinement.specs.Demand3.{Lengths, Ideal, ideal, stepDone, stepAnswer, predict}
+use Rattle.refinement.specs.Demand3.{Lengths, Ideal, ideal, afterStep, stepAnswer, predict}
 use Rattle.invariant.proofs.Lists.{in-keep, of-keep, distinct-keep}
 use Rattle.invariant.proofs.Shape.{IsBucket, Shape, facts, shape-sound}
 use Rattle.invariant.proofs.Places.{same, LiveTable, key-bucket, key-live}
@@ -209,8 +209,8 @@ module _ {s : State} {current other entries : List ℕ} {i : Ideal} (a : AgreesO
 unfoldable movingFrom : Ideal → ℕ → ℕ → List ℕ → ℕ → Bool → Reply Ideal
 movingFrom i old new ks b near =
     cond near
-    (stepDone i old new (length (keep (λ j. eqb (bucketOf j old) b) ks)) (keep (λ j. not (eqb (bucketOf j old) b)) ks) (suc b))
-    (stepDone i old new 0 ks (i .index + emptyVisits))
+    (afterStep i old new (length (keep (λ j. eqb (bucketOf j old) b) ks)) (keep (λ j. not (eqb (bucketOf j old) b)) ks) (suc b))
+    (afterStep i old new 0 ks (i .index + emptyVisits))
 
 some-moving : (i : Ideal) (old new : ℕ) (ks : List ℕ) → ks ≢ []
     → stepAnswer i (Tables.two old new) ks
@@ -268,35 +268,35 @@ module _ (w : World) (i : Ideal) (a : Agrees w i) where
   -- Once so many keys have moved, and the store agrees with the ideal as far as that goes: with none unmoved the rehash is
   -- over, else it goes on.
   module _ (count next : ℕ) (c o e ks : List ℕ)
-      (is : call (current w) (other w) ≡ After.after (calls.stepDone s count next) c o e)
+      (is : call (current w) (other w) ≡ After.after (stepDone s count next) c o e)
       (then : AgreesOn (advanced s count next) c o e (ideal (i .plain) (Tables.two old new) (i .turned) ks next)) where
     abbrev t : State
     t = advanced s count next
 
-    over : t .«old_used» ≡ 0 → Steps w Call.rehashStep (stepDone i old new count ks next)
-    unfolding calls.stepDone settled advanced finished retabled stateOf sizeOf ideal stepDone
+    over : t .«old_used» ≡ 0 → Steps w Call.rehashStep (afterStep i old new count ks next)
+    unfolding stepDone settled advanced finished retabled stateOf sizeOf ideal afterStep
     over z =
         let j : Bool → Ideal = λ f. ideal (i .plain) (Tables.one new) (not f) [] 0 in
-        subst (λ (js : List ℕ). Steps w Call.rehashStep (stepDone i old new count js next)) (sym (none-unmoved then z))
+        subst (λ (js : List ℕ). Steps w Call.rehashStep (afterStep i old new count js next)) (sym (none-unmoved then z))
         (step-answered count (finished t) c o e (j (i .turned))
         (is ∙ ap (λ (b : Bool). After.after (StepAnswer.Stepped count (cond b (finished t) t)) c o e) (eq-eqb (t .«old_used») 0 z))
         (turned-agrees (s .«second_is_current») (finished t) c o e (j (i .turned)) refl
         (subst (λ (f : Bool). AgreesOn (finished t) o c e (j f)) (then .turned) (finished-on then refl z))))
 
-    on : t .«old_used» ≢ 0 → Steps w Call.rehashStep (stepDone i old new count ks next)
-    unfolding calls.stepDone settled advanced retabled stateOf ideal stepDone
+    on : t .«old_used» ≢ 0 → Steps w Call.rehashStep (afterStep i old new count ks next)
+    unfolding stepDone settled advanced retabled stateOf ideal afterStep
     on f = by ks (λ e. f (none-left then refl e)) then
       where
         by : (js : List ℕ) → js ≢ []
             → AgreesOn t c o e (ideal (i .plain) (Tables.two old new) (i .turned) js next)
-            → Steps w Call.rehashStep (stepDone i old new count js next)
+            → Steps w Call.rehashStep (afterStep i old new count js next)
         by [] g h = absurd (g refl)
         by (k ∷ js) g h =
             step-answered count t c o e _
             (is ∙ ap (λ (b : Bool). After.after (StepAnswer.Stepped count (cond b (finished t) t)) c o e) (ne-eqb (t .«old_used») 0 f))
             (kept-agrees (s .«second_is_current») t c o e _ refl h)
 
-    settles : Steps w Call.rehashStep (stepDone i old new count ks next)
+    settles : Steps w Call.rehashStep (afterStep i old new count ks next)
     settles = elim (ℕ-discrete (t .«old_used») 0) [ yes z ↦ over z | no f ↦ on f ]
 
   Moves : List ℕ → Type 0
@@ -305,12 +305,12 @@ module _ (w : World) (i : Ideal) (a : Agrees w i) where
   module _ (rehashing : s .rehashing ≡ true) where
     -- with no keys in the old table
     idle : s .«old_used» ≡ 0 → Moves (i .unmoved)
-    unfolding Moves stepAnswer stepDone
+    unfolding Moves stepAnswer afterStep
     idle z =
         let fits = facts (a .shape) .rehashing rehashing .index-fits in
         let none = none-unmoved a z in
         subst Moves (sym none)
-        (subst (λ (ks : List ℕ). Steps w Call.rehashStep (stepDone i old new 0 ks (s .«rehash_index»))) none
+        (subst (λ (ks : List ℕ). Steps w Call.rehashStep (afterStep i old new 0 ks (s .«rehash_index»))) none
         (settles 0 (s .«rehash_index») _ _ _ (i .unmoved) (step-idle (a .shape) rehashing z)
         (passed-on a rehashing (s .«rehash_index») fits (a .shape .passed-empty))))
 
@@ -332,7 +332,7 @@ module _ (w : World) (i : Ideal) (a : Agrees w i) where
             (movingFrom i old new (i .unmoved) (lowestOf old (i .unmoved)) (ltb (lowestOf old (i .unmoved)) (i .index + emptyVisits)))
         by some-left (Meets.filled b e before filled reach) =
             subst (λ (r : Reply Ideal). Steps w Call.rehashStep r)
-            (ap (λ (n : ℕ). stepDone i old new n (keep (stays a rehashing b before) (i .unmoved)) (suc b))
+            (ap (λ (n : ℕ). afterStep i old new n (keep (stays a rehashing b before) (i .unmoved)) (suc b))
             (sym (moved-count a rehashing b before filled))
             ∙ near b true (lowest-first a rehashing b before filled)
             (lt-ltb b (i .index + emptyVisits) (omega (arith, a .index))))
@@ -342,7 +342,7 @@ module _ (w : World) (i : Ideal) (a : Agrees w i) where
             let (low, j, l) = lowest-reached old (i .unmoved) some-left in
             let far = not-lower a b before low j in
             subst (λ (r : Reply Ideal). Steps w Call.rehashStep r)
-            (ap (stepDone i old new 0 (i .unmoved)) (omega (arith, a .index))
+            (ap (afterStep i old new 0 (i .unmoved)) (omega (arith, a .index))
             ∙ near (lowestOf old (i .unmoved)) false refl
             (le-ltb (lowestOf old (i .unmoved)) (i .index + emptyVisits) (omega (arith, a .index))))
             (settles 0 b _ _ _ (i .unmoved) (step-passes (a .shape) rehashing f b e)

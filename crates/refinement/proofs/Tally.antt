@@ -15,7 +15,7 @@ use Rattle.model.specs.Calls.{acceptable}
 use Rattle.model.specs.Walk.{Tables}
 use Rattle.model.specs.Sequences.{World, KeyCall, ReadCall, Call, Outcome, carry, run, Event, event, events, keysOf, valueFor, withPairs, mapAnswer, mapDoes}
 use Rattle.cursor.specs.Next.{next}
-use Rattle.refinement.specs.Demand3.{Lengths, lengthsOf, Ideal, ideal, begun, startNumber, startAnswer, keyAnswer, resizeAnswer, stepDone, groupPairs, scanAnswer, readAnswer, predict, replay, Answered, Demand3}
+use Rattle.refinement.specs.Demand3.{Lengths, lengthsOf, Ideal, ideal, begun, startNumber, startAnswer, keyAnswer, resizeAnswer, afterStep, groupPairs, scanAnswer, readAnswer, predict, replay, Answered, Demand3}
 use Rattle.refinement.proofs.IdealSteps.{either, any-step}
 use Rattle.refinement.proofs.PlainMaps.{length-changed, length-taken}
 
@@ -68,7 +68,7 @@ module _ (i : Ideal) where
       by KeyCall.delete (some held) e = omega (arith, length-taken key held (i .plain .pairs) e)
 
   counted : (l : Lengths) (c : Call) → Counted i c (predict l i c)
-  unfolding predict startAnswer begun ideal reply resizeAnswer stepDone scanAnswer readAnswer keysAfter
+  unfolding predict startAnswer begun ideal reply resizeAnswer afterStep scanAnswer readAnswer keysAfter
   counted l (Call.init capacity size) = by (startNumber l capacity size)
     where
       by : (n : ℕ) → Counted i (Call.init capacity size) (startAnswer i capacity size n)
@@ -84,7 +84,7 @@ module _ (i : Ideal) where
       by (Tables.two old new) = refl
   counted l Call.rehashStep = any-step i (Counted i Call.rehashStep) (i .tables) (i .unmoved) refl (λ old new e. done old new)
     where
-      done : (old new count : ℕ) (ks : List ℕ) (next : ℕ) → Counted i Call.rehashStep (stepDone i old new count ks next)
+      done : (old new count : ℕ) (ks : List ℕ) (next : ℕ) → Counted i Call.rehashStep (afterStep i old new count ks next)
       done old new count [] next = refl
       done old new count (k ∷ ks) next = refl
   counted l (Call.scan cursor lent) =

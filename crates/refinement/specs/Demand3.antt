@@ -98,20 +98,20 @@ lowest size b [] = b
 lowest size b (k ∷ ks) = lowest size (min b (bucketOf k size)) ks
 
 -- so many moved, these keys still unmoved, that bucket the next one; with none unmoved the rehash is over
-unfoldable pub stepDone : Ideal → ℕ → ℕ → ℕ → List ℕ → ℕ → Reply Ideal
-stepDone i old new count [] next = reply 0 (count ∷ 0 ∷ []) (ideal (i .plain) (Tables.one new) (not (i .turned)) [] 0)
-stepDone i old new count (k ∷ ks) next =
+unfoldable pub afterStep : Ideal → ℕ → ℕ → ℕ → List ℕ → ℕ → Reply Ideal
+afterStep i old new count [] next = reply 0 (count ∷ 0 ∷ []) (ideal (i .plain) (Tables.one new) (not (i .turned)) [] 0)
+afterStep i old new count (k ∷ ks) next =
     reply 0 (count ∷ 1 ∷ []) (ideal (i .plain) (Tables.two old new) (i .turned) (k ∷ ks) next)
 
 unfoldable pub stepAnswer : Ideal → Tables → List ℕ → Reply Ideal
 stepAnswer i (Tables.one size) unmoved = reply 8 (0 ∷ 0 ∷ []) i
-stepAnswer i (Tables.two old new) [] = stepDone i old new 0 [] (i .index)
+stepAnswer i (Tables.two old new) [] = afterStep i old new 0 [] (i .index)
 stepAnswer i (Tables.two old new) (k ∷ ks) =
     let b = lowest old (bucketOf k old) ks in
     let moves : ℕ → Bool = λ j. eqb (bucketOf j old) b in
     cond (ltb b (i .index + emptyVisits))
-    (stepDone i old new (length (keep moves (k ∷ ks))) (keep (λ j. not (moves j)) (k ∷ ks)) (suc b))
-    (stepDone i old new 0 (k ∷ ks) (i .index + emptyVisits))
+    (afterStep i old new (length (keep moves (k ∷ ks))) (keep (λ j. not (moves j)) (k ∷ ks)) (suc b))
+    (afterStep i old new 0 (k ∷ ks) (i .index + emptyVisits))
 
 -- A walk call's pairs are those whose bucket, in the table that has the key, is one of the group's.
 

@@ -78,15 +78,17 @@ module _ (l : Lengths) (w : World) (i : Ideal) (beside : Beside l w i) where
   chainOf t b = entriesAt (w .state) (current w) (other w) (w .entries) (Place.bucket t b)
 
   -- the same tables
+  tables-by : (t : Bool) → w .state .rehashing ≡ t → i .tables ≡ tablesBy t size (w .state .«new_size»)
+  unfolding tablesOf
+  tables-by t e = sym (beside .matches .tables) ∙ ap (λ (f : Bool). tablesBy f size (w .state .«new_size»)) e
+
   moving-tables : w .state .rehashing ≡ true → i .tables ≡ Tables.two size (w .state .«new_size»)
-  unfolding tablesOf tablesBy
-  moving-tables e =
-      sym (beside .matches .tables) ∙ ap (λ (t : Bool). tablesBy t size (w .state .«new_size»)) e
+  unfolding tablesBy
+  moving-tables = tables-by true
 
   resting-tables : w .state .rehashing ≡ false → i .tables ≡ Tables.one size
-  unfolding tablesOf tablesBy
-  resting-tables e =
-      sym (beside .matches .tables) ∙ ap (λ (t : Bool). tablesBy t size (w .state .«new_size»)) e
+  unfolding tablesBy
+  resting-tables = tables-by false
 
   same-size : w .state .rehashing ≡ true → (n : ℕ) → During n i → n ≡ size
   same-size e n d = let same = sym (d .tables) ∙ moving-tables e in cc

@@ -2,11 +2,9 @@
 -- Assumes nothing.
 use Prim.Native.Nat.{ℕ, zero, suc, _+_, _-_, _≤_, _<_}
 use mathlib.Core.Path.{_≡_, sym, ap, _∙_}
-use mathlib.Core.Bool.{Bool, true, false, cond}
 use mathlib.Core.List.{List}
 use native.Mathlib.Numerals.{add-one}
 use native.Mathlib.Omega.{arith}
-use lib.Dec.{eqb}
 use lib.ListN.{getD}
 use borrow.Author.Tests.{eq-eqb, ne-eqb}
 use Rattle.model.specs.declared.Ahead.{Ahead}
@@ -35,19 +33,6 @@ module _ (buckets : List ℕ) (b : ℕ) where
       → ahead buckets (b + 1) behind fewer ≡ ahead buckets b left passes
   unfolding ahead
   later left passes behind fewer e p h = rw (e, p, eq-eqb (getD buckets b 0) 0 h, add-one)
-
--- a filled bucket lies in the table
-pub filled-below : (buckets : List ℕ) (b left passes f : ℕ) → ahead buckets b left passes ≡ Ahead.Filled f → f < b + left
-unfolding ahead
-filled-below buckets b zero passes f e = let z : _≡_ {A = ℕ} 0 1 = cc in absurd (omega arith)
-filled-below buckets b (suc left) zero f e = let z : _≡_ {A = ℕ} 0 1 = cc in absurd (omega arith)
-filled-below buckets b (suc left) (suc passes) f e =
-    by (eqb (getD buckets b 0) 0) (filled-below buckets (suc b) left passes f) e
-  where
-    by : (t : Bool) → (ahead buckets (suc b) left passes ≡ Ahead.Filled f → f < suc b + left)
-        → cond t (ahead buckets (suc b) left passes) (Ahead.Filled b) ≡ Ahead.Filled f → f < b + suc left
-    by true h e = omega (arith, h e)
-    by false h e = let same : b ≡ f = cc in omega arith
 
 -- ---- the loop
 

@@ -19,13 +19,13 @@ use Rattle.model.specs.Limits.{legalSize}
 use Rattle.model.specs.Memory.{sizeOf, usedOf, bucketsOf, chain, headAt, budgetAt, belongs, chainAt, listed, soundState}
 use Rattle.model.specs.Calls.{After, Chains, stateOf, oldNew, retabled, moved, advanced, finished, settled, stepDone, movedChain, movedFrom, ahead, aheadOf, stepped}
 use Rattle.model.proofs.Soundness.{Sound, tested-sound}
+use Rattle.model.proofs.StepAhead.{filled-below}
 use Rattle.model.proofs.Linked.{Linked, room, read-sound, linked-wider}
 use Rattle.memory.specs.declared.chain.ChainLength.{ChainLength}
 use Rattle.memory.specs.Length.{lengthOf}
 use Rattle.memory.proofs.Counted.{counted, uncounted}
 use Rattle.dict_rehash.specs.declared.rehash.Progress.{Progress}
 use Rattle.dict_rehash.specs.Progress.{stepAnswer, stepRoom, oldChain, chains, ChainOf, ChainMoved}
-use Rattle.dict_rehash.proofs.LookingAhead.{filled-below}
 
 -- what a sound state says of the two tables during a rehash
 module _ (s : State) (current other entries : ℕ) (h : Sound s current other entries) (e : s .rehashing ≡ true) where

@@ -1,21 +1,22 @@
 -- The first free entry, which add takes, and what a step meets in the old table.
 -- Assumes nothing.
-use Prim.Native.Nat.{ℕ, zero, suc, _+_, _-_, _<_, _≤_}
+use Prim.Native.Nat.{ℕ, _+_, _-_, _<_, _≤_}
 use mathlib.Core.Path.{_≡_, refl, sym, ap, subst, _∙_}
 use mathlib.Core.Logic.{_≢_}
-use mathlib.Core.Bool.{Bool, true, false, cond, not, _&&_}
+use mathlib.Core.Bool.{true, not, _&&_}
 use mathlib.Core.List.{List, [], _∷_}
 use native.Mathlib.Decide.{decLt}
 use native.Mathlib.Omega.{arith}
-use lib.ListN.{length, getD}
+use lib.ListN.{length}
 use lib.Dec.{eqb, leb}
-use borrow.Author.Tests.{eqb-true, eqb-false, le-leb, ne-eqb}
+use borrow.Author.Tests.{le-leb, ne-eqb}
 use Rattle.model.specs.declared.State.{State}
 use Rattle.model.specs.declared.Table.{Table}
 use Rattle.model.specs.declared.Ahead.{Ahead}
 use Rattle.model.specs.Limits.{emptyVisits}
 use Rattle.model.specs.Memory.{Place, Live, sizeOf, usedOf, bucketsOf, headAt, linkOf}
-use Rattle.model.specs.Calls.{takeable, ahead, aheadOf}
+use Rattle.model.specs.Calls.{takeable, aheadOf}
+use Rattle.model.proofs.StepAhead.{AllEmpty, Comes, ahead-comes}
 use Rattle.model.proofs.Linked.{Linked, linked-head, linked-empty, linked-filled}
 use Rattle.invariant.proofs.Lists.{no-length}
 use Rattle.invariant.proofs.Sums.{term-in-sum, sum-zero}
@@ -35,51 +36,6 @@ pub data Meets {s : State} {current other entries : List ℕ} (h : Shape s curre
 -- add's tests of the first free entry
 tests : (head link capacity : ℕ) → 0 < head → link ≤ capacity → (not (eqb head 0) && leb link capacity) ≡ true
 tests head link capacity z l = rw (ne-eqb head 0 (omega arith), le-leb link capacity l)
-
--- What comes from bucket b on, up to an end, of which a step passes at most so many empty ones.
-
-unfoldable pub AllEmpty : List ℕ → ℕ → ℕ → Type 0
-AllEmpty buckets b end = (c : ℕ) → b ≤ c → c < end → getD buckets c 0 ≡ 0
-
-unfoldable pub Comes : List ℕ → ℕ → ℕ → ℕ → Ahead → Type 0
-Comes buckets b end passes (Ahead.Filled f) =
-    (b ≤ f) × (f < end) × (f < b + passes) × (getD buckets f 0 ≢ 0) × AllEmpty buckets b f
-Comes buckets b end passes (Ahead.Empty f) = (f ≡ b + passes) × (f < end) × AllEmpty buckets b f
-Comes buckets b end passes Ahead.End = (end ≤ b + passes) × AllEmpty buckets b end
-
-module _ (buckets : List ℕ) where
-  -- none
-  none-empty : (b end : ℕ) → end ≤ b → AllEmpty buckets b end
-  unfolding AllEmpty
-  none-empty b end l c from below = absurd (omega arith)
-
-  -- one bucket more in front, which is empty
-  one-more : (b end : ℕ) → getD buckets b 0 ≡ 0 → AllEmpty buckets (suc b) end → AllEmpty buckets b end
-  unfolding AllEmpty
-  one-more b end z h c from below =
-      elim (decLt b c) [ yes l ↦ h c l below | no l ↦ subst (λ (i : ℕ). getD buckets i 0 ≡ 0) (omega arith) z ]
-
-  comes-behind : (b end passes : ℕ) (r : Ahead) → getD buckets b 0 ≡ 0 → Comes buckets (suc b) end passes r
-      → Comes buckets b end (suc passes) r
-  unfolding Comes
-  comes-behind b end passes (Ahead.Filled f) z (from, below, reach, some-there, before) =
-      (omega arith, below, omega arith, some-there, one-more b f z before)
-  comes-behind b end passes (Ahead.Empty f) z (is, below, before) = (omega arith, below, one-more b f z before)
-  comes-behind b end passes Ahead.End z (reach, before) = (omega arith, one-more b end z before)
-
-  pub ahead-comes : (b left passes end : ℕ) → b + left ≡ end → Comes buckets b end passes (ahead buckets b left passes)
-  unfolding Comes ahead
-  ahead-comes b zero passes end e = (omega arith, none-empty b end (omega arith))
-  ahead-comes b (suc left) zero end e = (omega arith, omega arith, none-empty b b (omega arith))
-  ahead-comes b (suc left) (suc passes) end e =
-      pick (eqb (getD buckets b 0) 0) refl (ahead-comes (suc b) left passes end (omega arith))
-    where
-      pick : (t : Bool) → eqb (getD buckets b 0) 0 ≡ t → Comes buckets (suc b) end passes (ahead buckets (suc b) left passes)
-          → Comes buckets b end (suc passes) (cond t (ahead buckets (suc b) left passes) (Ahead.Filled b))
-      pick true z h =
-          comes-behind b end passes (ahead buckets (suc b) left passes) (eqb-true (getD buckets b 0) 0 z) h
-      pick false z h =
-          (omega arith, omega arith, omega arith, eqb-false (getD buckets b 0) 0 z, none-empty b b (omega arith))
 
 module _ {s : State} {current other entries : List ℕ} (h : Shape s current other entries) where
   -- a store that is not full has a first free entry, which can be taken

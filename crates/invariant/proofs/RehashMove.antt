@@ -1,6 +1,6 @@
 -- A rehash step keeps the shape: the entries of a bucket of the old table move, head to end, each to the head of its bucket
--- in the new one. Each move is one relink; the code writes the old bucket's head once, at the end. So does a step that only
--- passes empty buckets.
+-- in the new one. Each move is one relink; the code writes the old bucket's head once, at the end. A step that only passes
+-- empty buckets keeps the shape too.
 -- Assumes nothing.
 use Prim.Native.Nat.{ℕ, suc, _+_, _-_, _<_, _≤_}
 use mathlib.Core.Path.{_≡_, refl, sym, ap, subst, subst₃, _∙_}

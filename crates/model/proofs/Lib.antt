@@ -10,5 +10,6 @@ pub mod Soundness
 pub mod Computing
 pub mod Cases
 pub mod Lookups
+pub mod StepAhead
 pub mod Pairs
 pub mod Suggested

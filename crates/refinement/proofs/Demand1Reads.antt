@@ -18,11 +18,11 @@ use Rattle.model.specs.Memory.{Place, bucketsOf, keyPlace, headAt, chainAt}
 use Rattle.model.specs.Calls.{firstWith, searched, both, lookupIn, lookupWhile, lookup, aheadOf}
 use Rattle.model.specs.Walk.{joined, chainsAt}
 use Rattle.model.specs.Sequences.{World}
+use Rattle.model.proofs.StepAhead.{AllEmpty, Comes, ahead-comes}
 use Rattle.refinement.specs.Worlds.{current, other}
 use Rattle.refinement.specs.Demand1.{headOf, SoundChain, Damaged, OnChain, liveTables, keyPlaces, EmptyFrom, FirstFilled, EndFirst, KeysOn}
 use Rattle.invariant.proofs.Lists.{in-middle}
 use Rattle.invariant.proofs.Lookups.{FirstIn, first-in}
-use Rattle.invariant.proofs.FirstEntries.{AllEmpty, Comes, ahead-comes}
 use Rattle.refinement.proofs.Demand1Chains.{AtPlace, place-read, place-chain, place-sound, same-count, on-chain, in-chain}
 
 -- one of a list is such

@@ -90,11 +90,11 @@ module _ (l : Lengths) (i : Ideal) (legal : Legal (i .tables)) where
       λ t. let a = allowed old other size t in (h, a .0, a .1) in
       legal-either (acceptable old other size) _ _ grown legal
 
-  step-done : (old new : ℕ) → Legal (Tables.two old new) → (count : ℕ) (unmoved : List ℕ) (next : ℕ)
+  after-step : (old new : ℕ) → Legal (Tables.two old new) → (count : ℕ) (unmoved : List ℕ) (next : ℕ)
       → Legal (afterStep i old new count unmoved next .state .tables)
   unfolding afterStep reply ideal Legal
-  step-done old new h count [] next = h .1
-  step-done old new h count (k ∷ ks) next = h
+  after-step old new h count [] next = h .1
+  after-step old new h count (k ∷ ks) next = h
 
   pub predict-legal : (c : Call) → Legal (predict l i c .state .tables)
   unfolding predict keyAnswer scanAnswer readAnswer reply ideal
@@ -103,7 +103,7 @@ module _ (l : Lengths) (i : Ideal) (legal : Legal (i .tables)) where
   predict-legal (Call.resize size) = after-resize size (i .tables) legal
   predict-legal Call.rehashStep =
       any-step i (λ r. Legal (r .state .tables)) (i .tables) (i .unmoved) legal
-      (λ old new e. step-done old new (subst Legal e legal))
+      (λ old new e. after-step old new (subst Legal e legal))
   predict-legal (Call.scan cursor lent) =
       legal-either (leb (length (groupPairs i cursor) * 2) (length lent)) _ _ (λ t. legal) legal
   predict-legal (Call.read (ReadCall.suggestedSize growing)) = legal

@@ -1,6 +1,6 @@
 -- How soon a rehash ends: so it is in every store that meets demand 3, and in ours.
 -- Assumes nothing.
-use Prim.Native.Nat.{ℕ, zero, suc, _+_, _<_, _≤_}
+use Prim.Native.Nat.{ℕ, suc, _+_, _<_, _≤_}
 use mathlib.Core.Path.{_≡_, refl, sym, ap, subst, subst₃, _∙_}
 use mathlib.Core.Logic.{_⊎_, inl, inr}
 use mathlib.Core.Bool.{Bool, true, false, _&&_, cond}
@@ -20,6 +20,7 @@ use Rattle.model.specs.Walk.{Tables, tablesBy, tablesOf}
 use Rattle.model.specs.Sequences.{World, Call, Outcome, perform, carry, run}
 use Rattle.model.proofs.Power.{legal-pos}
 use Rattle.model.proofs.Soundness.{sound-facts}
+use Rattle.model.proofs.Chains.{chain-end}
 use Rattle.model.proofs.Linked.{read-sound, linked-first}
 use Rattle.model.proofs.Shared.{in-its-bucket}
 use Rattle.model.proofs.Tests.{true-not-false, told, tested}
@@ -34,12 +35,7 @@ use Rattle.refinement.proofs.CalledBuckets.{calledFor, bucketsCalled, i
 use Rattle.refinement.proofs.IdealCalls.{JustBegun, begins, During, left, Onward, Goes, step-or-not, still-turned, goes-step, goes-other}
 use Rattle.refinement.proofs.Demand3.{demand3}
 
--- a chain from no head, and from one
-empty-chain : (test : ℕ → Bool) (entries : List ℕ) (capacity budget : ℕ) → listed (chain test entries capacity budget 0) ≡ []
-unfolding chain listed
-empty-chain test entries capacity zero = refl
-empty-chain test entries capacity (suc budget) = refl
-
+-- the head of a chain is on it
 chain-first : (test : ℕ → Bool) (entries : List ℕ) (capacity budget head : ℕ) (ns : List ℕ)
     → chain test entries capacity budget head ≡ some ns → (head ≡ 0 → ⊥) → In head ns
 chain-first test entries capacity budget head ns e f =
@@ -103,14 +99,11 @@ module _ (l : Lengths) (w : World) (i : Ideal) (beside : Beside l w i) where
   module _ (e : w .state .rehashing ≡ true) (d : During size i) where
     -- a chain with an entry on it has a head
     some-head : (b n : ℕ) → In n (chainOf Table.Old b) → head b ≡ 0 → ⊥
-    unfolding entriesAt chainAt headOf
+    unfolding entriesAt listed chainAt headOf
     some-head b n there z =
-        let test = belongs (w .state) (Place.bucket Table.Old b) in
-        let budget = budgetAt (w .state) (Place.bucket Table.Old b) in
-        subst (λ (ns : List ℕ). In n ns)
-        (ap (λ (h : ℕ). listed (chain test (w .entries) (w .state .capacity) budget h)) z
-        ∙ empty-chain test (w .entries) (w .state .capacity) budget)
-        there
+        let none-there = chain-end (belongs (w .state) (Place.bucket Table.Old b)) (w .entries) (w .state .capacity)
+        (budgetAt (w .state) (Place.bucket Table.Old b)) (head b) z in
+        subst (λ (ns : List ℕ). In n ns) (ap listed none-there) there
 
     its-bucket : (b n : ℕ) → In n (chainOf Table.Old b) → bucketOf (keyOf (w .entries) n) size ≡ b
     unfolding sizeOf

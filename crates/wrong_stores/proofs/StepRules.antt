@@ -121,12 +121,19 @@ neverDone-excluded-by-size d =
     .within-size ((refl, refl), ((refl, refl), ((refl, refl), ((refl, refl), (refl, refl))))) in
     omega arith
 
--- `within-filled`: one filled bucket of 16, the last: two steps
+-- `within-filled`: one filled bucket of 16, the last: two steps; ..
 pub passesOne-excluded : RehashesEnd passesOne → ⊥
 unfolding looks
 passesOne-excluded d =
     let h = rehash-at d 16 refl (add 15 10 ∷ []) (Call.resize 8) refl (Call.rehashStep ∷ Call.rehashStep ∷ []) .within-filled
     ((refl, refl), ((refl, refl), (refl, refl))) in
+    omega arith
+
+-- .. and none of two: one step, which `within-size` does not ask for
+pub neverDone-excluded-by-filled : RehashesEnd neverDone → ⊥
+unfolding ending
+neverDone-excluded-by-filled d =
+    let h = rehash-at d 2 refl [] (Call.resize 4) refl (Call.rehashStep ∷ []) .within-filled ((refl, refl), (refl, refl)) in
     omega arith
 
 -- `each-step`: the next bucket is not the one behind an empty one, ..

@@ -226,8 +226,9 @@ added s current other entries key value Lookup.Absent =
     (pushed s current other entries key value (target (s .rehashing)))
     (After.after (AddAnswer.Refused Error.Damaged) current other entries))
 
-unfoldable pub add : State → List ℕ → List ℕ → List ℕ → ℕ → ℕ → After AddAnswer
-add s first second entries key value =
+-- add alone, with no step
+unfoldable pub addAlone : State → List ℕ → List ℕ → List ℕ → ℕ → ℕ → After AddAnswer
+addAlone s first second entries key value =
     writing s first second entries (AddAnswer.Refused Error.BadState)
     (λ current other. added s current other entries key value (lookup s current other entries key))
 
@@ -252,8 +253,9 @@ unfoldable pub deleted : State → List ℕ → List ℕ → List ℕ → ℕ �
 deleted s current other entries key l =
     held (λ e. After.after (DeleteAnswer.Refused e) current other entries) (removed s current other entries key) l
 
-unfoldable pub delete : State → List ℕ → List ℕ → List ℕ → ℕ → After DeleteAnswer
-delete s first second entries key =
+-- delete alone, with no step
+unfoldable pub deleteAlone : State → List ℕ → List ℕ → List ℕ → ℕ → After DeleteAnswer
+deleteAlone s first second entries key =
     writing s first second entries (DeleteAnswer.Refused Error.BadState)
     (λ current other. deleted s current other entries key (lookup s current other entries key))
 
@@ -337,6 +339,44 @@ unfoldable pub rehashStep : State → List ℕ → List ℕ → List ℕ → Aft
 rehashStep s first second entries =
     writing s first second entries (StepAnswer.Refused Error.BadState)
     (λ current other. stepped s current other entries (s .rehashing))
+
+-- Add and delete during a rehash: a step comes first
+
+-- what an answered call leaves; a refused one leaves these buffers
+unfoldable pub unlessRefused : {A : Type 0} → (A → Bool) → List ℕ → List ℕ → List ℕ → After A → After A
+unlessRefused done first second entries (After.after answer x y z) =
+    cond (done answer) (After.after answer x y z) (After.after answer first second entries)
+
+-- a call on what a step leaves. If the step or the call refuses, that is the answer, and all is as before both.
+unfoldable pub afterStep : {A : Type 0} → (Error → A) → (A → Bool) → (State → List ℕ → List ℕ → List ℕ → After A)
+    → List ℕ → List ℕ → List ℕ → After StepAnswer → After A
+afterStep refused done call first second entries (After.after (StepAnswer.Refused e) x y z) =
+    After.after (refused e) first second entries
+afterStep refused done call first second entries (After.after (StepAnswer.Stepped count t) x y z) =
+    unlessRefused done first second entries (call t x y z)
+
+unfoldable pub stepFirst : {A : Type 0} → (Error → A) → (A → Bool) → (State → List ℕ → List ℕ → List ℕ → After A)
+    → State → List ℕ → List ℕ → List ℕ → After A
+stepFirst refused done call s first second entries =
+    cond (s .rehashing)
+    (afterStep refused done call first second entries (rehashStep s first second entries))
+    (call s first second entries)
+
+unfoldable pub isAdded : AddAnswer → Bool
+isAdded (AddAnswer.Added t) = true
+isAdded (AddAnswer.Refused e) = false
+
+unfoldable pub add : State → List ℕ → List ℕ → List ℕ → ℕ → ℕ → After AddAnswer
+add s first second entries key value =
+    stepFirst AddAnswer.Refused isAdded (λ t x y z. addAlone t x y z key value) s first second entries
+
+unfoldable pub isDeleted : DeleteAnswer → Bool
+isDeleted (DeleteAnswer.Deleted t) = true
+isDeleted (DeleteAnswer.Refused e) = false
+
+unfoldable pub delete : State → List ℕ → List ℕ → List ℕ → ℕ → After DeleteAnswer
+delete s first second entries key =
+    stepFirst DeleteAnswer.Refused isDeleted (λ t x y z. deleteAlone t x y z key) s first second entries
 
 -- Suggested size
 

@@ -11,5 +11,6 @@ pub mod Computing
 pub mod Cases
 pub mod Lookups
 pub mod StepAhead
+pub mod StepLeaves
 pub mod Pairs
 pub mod Suggested

@@ -348,18 +348,18 @@ unlessRefused done first second entries (After.after answer x y z) =
     cond (done answer) (After.after answer x y z) (After.after answer first second entries)
 
 -- a call on what a step leaves. If the step or the call refuses, that is the answer, and all is as before both.
-unfoldable pub afterStep : {A : Type 0} → (Error → A) → (A → Bool) → (State → List ℕ → List ℕ → List ℕ → After A)
+unfoldable pub callAfter : {A : Type 0} → (Error → A) → (A → Bool) → (State → List ℕ → List ℕ → List ℕ → After A)
     → List ℕ → List ℕ → List ℕ → After StepAnswer → After A
-afterStep refused done call first second entries (After.after (StepAnswer.Refused e) x y z) =
+callAfter refused done call first second entries (After.after (StepAnswer.Refused e) x y z) =
     After.after (refused e) first second entries
-afterStep refused done call first second entries (After.after (StepAnswer.Stepped count t) x y z) =
+callAfter refused done call first second entries (After.after (StepAnswer.Stepped count t) x y z) =
     unlessRefused done first second entries (call t x y z)
 
 unfoldable pub stepFirst : {A : Type 0} → (Error → A) → (A → Bool) → (State → List ℕ → List ℕ → List ℕ → After A)
     → State → List ℕ → List ℕ → List ℕ → After A
 stepFirst refused done call s first second entries =
     cond (s .rehashing)
-    (afterStep refused done call first second entries (rehashStep s first second entries))
+    (callAfter refused done call first second entries (rehashStep s first second entries))
     (call s first second entries)
 
 unfoldable pub isAdded : AddAnswer → Bool

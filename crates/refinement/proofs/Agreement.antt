@@ -16,7 +16,7 @@ use Rattle.model.specs.Answers.{Reply, reply}
 use Rattle.model.specs.Memory.{Place, Live, sizeOf, keysHeld, keyOf, valueOf}
 use Rattle.model.specs.Calls.{After}
 use Rattle.model.specs.Walk.{tablesBy, tablesOf}
-use Rattle.model.specs.Sequences.{World, world, ReadCall, Call, perform, carry, PlainMap, keysOf, valueFor}
+use Rattle.model.specs.Sequences.{World, world, ReadCall, Call, Outcome, perform, carry, PlainMap, keysOf, valueFor}
 use Rattle.model.proofs.Tests.{told, tested, tested-not}
 use Rattle.refinement.specs.Worlds.{current, other, UndamagedAt, Held, Holds}
 use Rattle.refinement.specs.Demand3.{Lengths, lengthsOf, Ideal, ideal, among, tableOf, Matches}
@@ -68,6 +68,12 @@ pub record Steps (w : World) (c : Call) (r : Reply Ideal) : Type 0 where
   pub number : perform w c .reply .number ≡ r .number
   pub values : (c ≡ Call.read ReadCall.currentTable → ⊥) → perform w c .reply .values ≡ r .values
   pub agrees : Agrees (carry w (perform w c)) (r .state)
+
+-- a call on a key, by what it comes to
+pub record Comes (w : World) (o : Outcome) (r : Reply Ideal) : Type 0 where
+  pub number : o .reply .number ≡ r .number
+  pub values : o .reply .values ≡ r .values
+  pub agrees : Agrees (carry w o) (r .state)
 
 -- for a call that leaves the world
 pub leaves : (w : World) (i : Ideal) → Agrees w i → (c : Call) (n : ℕ) (vs : List ℕ) → carry w (perform w c) ≡ w

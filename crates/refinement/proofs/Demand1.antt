@@ -13,7 +13,8 @@ use Rattle.model.specs.Sequences.{World, Call, Outcome, kept, perform}
 use Rattle.model.proofs.Soundness.{sound-facts}
 use Rattle.refinement.specs.Worlds.{current, other, UndamagedAt}
 use Rattle.refinement.specs.Demand1.{BadState, GroupDamaged, Row, row, rows, Decides, Demand1}
-use Rattle.refinement.proofs.Demand1Calls.{decides, leaves, good}
+use Rattle.refinement.proofs.Demand1Calls.{decides, leaves}
+use Rattle.refinement.proofs.Demand1Steps.{good}
 use Rattle.refinement.proofs.GroupEntries.{enough, handsOut, isShort, walk-call}
 
 -- Demand 1.

@@ -1,4 +1,4 @@
--- What every call answers and leaves, in one walk over its definition: the number of the first row that is given; where it
+-- What every call answers and leaves, with no step before it, in one walk over its definition: the number of the first row that is given; where it
 -- is refused all that was there, and where it is answered the lengths of the buffers.
 -- Assumes nothing.
 use Prim.Native.Nat.{ℕ, zero, suc, _+_, _*_, _<_, _≤_}
@@ -34,13 +34,15 @@ use Rattle.model.proofs.Tests.{Tells, true-not-false, tells-true, tells-and, te
 use Rattle.model.proofs.Power.{legal-pos}
 use Rattle.model.proofs.Soundness.{sound-facts}
 use Rattle.model.proofs.Fields.{length-setLink, length-setKey, length-setValue, length-setEntry}
+use Rattle.model.proofs.StepLeaves.{length-moved}
 use Rattle.refinement.specs.Worlds.{current, other}
-use Rattle.refinement.specs.Demand1.{BadState, Damaged, keyPlaces, KeyHeld, Full, FreeListDamaged, SoundChain, EmptyFrom, FirstFilled, EndFirst, StepDamaged, places, KeysOn, TooMany, GroupDamaged, Short, Row, row, keyRows, rows, Decides, Leaves, keyZeros, LeavesAll}
+use Rattle.refinement.specs.Demand1.{BadState, Damaged, keyPlaces, KeyHeld, Full, FreeListDamaged, SoundChain, EmptyFrom, FirstFilled, EndFirst, StepDamaged, places, KeysOn, TooMany, GroupDamaged, Short, Row, row, keyRows, aloneRows, rows, Decides, Leaves, keyZeros, LeavesAll}
 use Rattle.refinement.specs.Demand3.{lengthsOf}
 use Rattle.invariant.proofs.ClearedBuckets.{length-cleared}
 use Rattle.invariant.proofs.Init.{started-buckets-length, started-entries-length}
 use Rattle.invariant.proofs.Resize.{allowed}
 use Rattle.refinement.proofs.Orientation.{firstBy, secondBy, worldBy, world-kept, soundAt, reads, put, writes}
+use Rattle.refinement.proofs.HiddenSteps.{alone}
 use Rattle.refinement.proofs.Demand1Chains.{AtPlace, place-read, place-sound}
 use Rattle.refinement.proofs.Demand1Tests.{Passes, passes-same, passes-not, passes-or, passes-le, passes-ne}
 use Rattle.refinement.proofs.Demand1Reads.{Says, lookup-says, Entries, places-say, same-keys, StepMeets, step-meets, same-first}
@@ -48,7 +50,7 @@ use Rattle.refinement.proofs.Demand1Reads.{Says, lookup-says, Entries, 
 -- ---- an outcome that goes by the table
 
 -- refused with a number, and all left as demand 1 says
-abbrev Refuses : World → Call → ℕ → Outcome → Type 0
+abbrev pub Refuses : World → Call → ℕ → Outcome → Type 0
 Refuses w c n o = (o .reply .number ≡ n) × LeavesAll w c o
 
 -- By rows that are left to test: refused with the number of the first that is given, and answered 0 if none is.
@@ -81,14 +83,6 @@ length-unlinked : (buckets entries : List ℕ) (b before n : ℕ) → length (un
 unfolding unlinkBucket
 length-unlinked buckets entries b zero n = length-set buckets b (linkOf entries n)
 length-unlinked buckets entries b (suc before) n = refl
-
-length-moved : (size : ℕ) (ns : List ℕ) (m : Chains)
-    → (length (moved size ns m .buckets) ≡ length (m .buckets)) × (length (moved size ns m .entries) ≡ length (m .entries))
-unfolding moved push
-length-moved size [] m = (refl, refl)
-length-moved size (n ∷ ns) m =
-    let (x, y) = length-moved size ns (push (bucketOf (keyOf (m .entries) n) size) n m) in
-    (x ∙ length-set (m .buckets) _ _, y ∙ length-setLink (m .entries) _ _)
 
 -- ---- calls on the current and the other buffer
 
@@ -199,26 +193,26 @@ module _ (w : World) where
       room (Tells.fails f) =
           Good.past f (gated (put w (addReply (w .state))) (passes-free f) (λ h. pushes) (refuse Error.Damaged))
 
-  keyed : (key : ℕ) (c : KeyCall) → Good w (Call.on key c) (rows w (Call.on key c)) (perform w (Call.on key c))
-  unfolding perform rows keyRows row given calls.find found calls.update updated calls.add added calls.delete deleted removed held unlinkEntry LeavesAll Leaves keyZeros findReply updateReply addReply deleteReply reply errorNumber kept carry lengthsOf world
-  keyed key KeyCall.find =
+  pub alone-good : (key : ℕ) (c : KeyCall) → Good w (Call.on key c) (row 1 (BadState w) ∷ aloneRows w key c) (alone w key c)
+  unfolding alone perform aloneRows keyRows row given calls.find found calls.update updated calls.addAlone added calls.deleteAlone deleted removed held unlinkEntry LeavesAll Leaves keyZeros findReply updateReply addReply deleteReply reply errorNumber kept carry lengthsOf world
+  alone-good key KeyCall.find =
       read (λ a. kept w (findReply (w .state) a) []) _ _ (refl, refl)
       (λ h.
       held-good key (λ l. kept w (findReply (w .state) (found (w .entries) l)) []) (refl, refl) (refl, refl)
       (λ t before n. Good.answered refl refl))
-  keyed key (KeyCall.update value) =
+  alone-good key (KeyCall.update value) =
       written _ (updateReply (w .state)) UpdateAnswer.Refused (λ e. (refl, refl)) _
       (λ refuse.
       held-good key (λ l. put w (updateReply (w .state)) (updated (current w) (other w) (w .entries) value l))
       (refuse Error.Damaged) (refuse Error.Absent)
       (λ t before n.
       done (updateReply (w .state)) _ _ _ _ refl refl refl (length-setValue (w .entries) n value)))
-  keyed key (KeyCall.add value) =
+  alone-good key (KeyCall.add value) =
       written _ (addReply (w .state)) AddAnswer.Refused (λ e. (refl, refl)) _
       (λ refuse.
       looked key (λ l. put w (addReply (w .state)) (here added key value l)) (refuse Error.Damaged)
       (λ n. Good.past n (added-good key value refuse)) (λ h t before n. Good.refused h (refuse Error.Present)))
-  keyed key KeyCall.delete =
+  alone-good key KeyCall.delete =
       written _ (deleteReply (w .state)) DeleteAnswer.Refused (λ e. (refl, refl)) _
       (λ refuse.
       held-good key (λ l. put w (deleteReply (w .state)) (here deleted key l)) (refuse Error.Damaged) (refuse Error.Absent)
@@ -234,7 +228,7 @@ module _ (w : World) where
   passes-size size =
       rw and-assoc (passes-or (passes-not (tells-true (legalSize size))) (passes-or (passes-ne _ _) (passes-le _ _)))
 
-  resized-good : (size : ℕ) → Good w (Call.resize size) (rows w (Call.resize size)) (perform w (Call.resize size))
+  pub resized-good : (size : ℕ) → Good w (Call.resize size) (rows w (Call.resize size)) (perform w (Call.resize size))
   unfolding perform rows row given calls.resize resized LeavesAll Leaves resizeReply reply errorNumber kept
   resized-good size =
       written (Call.resize size) (resizeReply (w .state)) ResizeAnswer.Refused (λ e. (refl, refl)) _
@@ -304,7 +298,7 @@ module _ (w : World) where
     stepped-good false = Good.refused refl (refuse Error.NotRehashing)
     stepped-good true = Good.past true-not-false (from-good _ (step-meets w) (tells-eq (w .state .«old_used») 0))
 
-  step-good : Good w Call.rehashStep (rows w Call.rehashStep) (perform w Call.rehashStep)
+  pub step-good : Good w Call.rehashStep (rows w Call.rehashStep) (perform w Call.rehashStep)
   unfolding perform rows given calls.rehashStep LeavesAll Leaves stepReply reply kept
   step-good =
       written Call.rehashStep (stepReply (w .state)) StepAnswer.Refused (λ e. (refl, refl)) _
@@ -326,7 +320,7 @@ module _ (w : World) where
       passes-same (λ h. (pos, length ns, keys, h))
       (λ s. omega (arith, s .3, same-keys w (places w cursor) (s .1) (length ns) (s .2) keys)) (passes-le _ _)
 
-  scan-good : (cursor : ℕ) (lent : List ℕ)
+  pub scan-good : (cursor : ℕ) (lent : List ℕ)
       → Good w (Call.scan cursor lent) (rows w (Call.scan cursor lent)) (perform w (Call.scan cursor lent))
   unfolding perform rows row given walk.scan atMost scanned scanReply reply errorNumber LeavesAll Leaves keptScan kept carry lengthsOf world places Entries GroupDamaged TooMany Short
   scan-good cursor lent =
@@ -369,7 +363,7 @@ module _ (w : World) where
 
   -- ---- init, and the calls that only read
 
-  init-good : (capacity size : ℕ)
+  pub init-good : (capacity size : ℕ)
       → Good w (Call.init capacity size) (rows w (Call.init capacity size)) (perform w (Call.init capacity size))
   unfolding perform rows row calls.init initReply reply errorNumber LeavesAll Leaves left kept carry lengthsOf world longEnough
   init-good capacity size =
@@ -390,7 +384,7 @@ module _ (w : World) where
   look-number (suc n) [] h l = absurd (omega arith)
   look-number (suc n) (b ∷ buckets) h l = refl
 
-  read-good : (c : ReadCall) → Good w (Call.read c) (rows w (Call.read c)) (perform w (Call.read c))
+  pub read-good : (c : ReadCall) → Good w (Call.read c) (rows w (Call.read c)) (perform w (Call.read c))
   unfolding perform rows row given calls.suggestedSize calls.currentTable sizeReply tableReply reply errorNumber LeavesAll Leaves kept carry lengthsOf world legalSize
   read-good (ReadCall.suggestedSize growing) =
       read (λ a. kept w (sizeReply (w .state) a) []) _ _ (refl, refl) (λ h. Good.answered refl refl)
@@ -399,12 +393,3 @@ module _ (w : World) where
       (λ h.
       let sound = sound-facts (w .state) (current w) (other w) (w .entries) h in
       Good.answered (look-number _ _ (legal-pos largestExponent _ (sound .old-legal)) (sound .old-fits)) refl)
-
--- the ten calls
-pub good : (w : World) (c : Call) → Good w c (rows w c) (perform w c)
-good w (Call.init capacity size) = init-good w capacity size
-good w (Call.on key c) = keyed w key c
-good w (Call.resize size) = resized-good w size
-good w Call.rehashStep = step-good w
-good w (Call.scan cursor lent) = scan-good w cursor lent
-good w (Call.read c) = read-good w c

@@ -3,7 +3,7 @@
 use Prim.Native.Nat.{ℕ, zero, suc, _+_, _*_, _<_, _≤_}
 use mathlib.Core.Path.{_≡_, refl, sym, ap, subst, _∙_}
 use mathlib.Core.Logic.{_≢_, _⊎_, inl, inr}
-use mathlib.Core.Bool.{Bool, true, false, not, cond}
+use mathlib.Core.Bool.{Bool, true, false, _&&_, not, cond}
 use mathlib.Core.List.{List, [], _∷_}
 use native.Mathlib.Omega.{arith}
 use lib.ListN.{length}
@@ -16,26 +16,15 @@ use Rattle.model.specs.Limits.{emptyVisits}
 use Rattle.model.specs.Calls.{acceptable}
 use Rattle.model.specs.Walk.{Tables}
 use Rattle.model.specs.Sequences.{ReadCall, Call, PlainMap, keysOf, mapDoes}
-use Rattle.model.proofs.Tests.{true-not-false, told}
-use Rattle.refinement.specs.Demand3.{Lengths, Ideal, ideal, among, begun, startNumber, startAnswer, keyAnswer, resizeAnswer, afterStep, stepAnswer, groupPairs, scanAnswer, readAnswer, predict}
+use Rattle.model.proofs.Tests.{told}
+use Rattle.refinement.specs.Worlds.{takesStep}
+use Rattle.refinement.specs.Demand3.{Lengths, Ideal, ideal, among, begun, startNumber, startAnswer, keyAnswer, resizeAnswer, afterStep, stepAnswer, stepsFirst, onAnswer, groupPairs, scanAnswer, readAnswer, predict}
 use Rattle.refinement.specs.RehashesEnd.{isStep}
 use Rattle.invariant.proofs.Lists.{of-keep}
-use Rattle.refinement.proofs.IdealSteps.{either, any-step}
+use Rattle.refinement.proofs.IdealSteps.{either, one-not-two, any-step, any-first, one-stays}
 use Rattle.refinement.proofs.PlainMaps.{tells-among}
 use Rattle.refinement.proofs.MovedKeys.{lowestOf, lowest-reached, lowest-below}
 use Rattle.refinement.proofs.CalledBuckets.{stepsLeft, in-table, rest-sub, rest-behind, moving-less, passing-less, fewer-less}
-
-one-not-two : {size old new : ℕ} → Tables.one size ≡ Tables.two old new → ⊥
-one-not-two e = let z : _≡_ {A = ℕ} 0 1 = cc in omega arith
-
-pub step-or-not : (c : Call) → (c ≡ Call.rehashStep) ⊎ (isStep c ≡ false)
-unfolding isStep
-step-or-not Call.rehashStep = inl refl
-step-or-not (Call.init capacity size) = inr refl
-step-or-not (Call.on key c) = inr refl
-step-or-not (Call.resize size) = inr refl
-step-or-not (Call.scan cursor lent) = inr refl
-step-or-not (Call.read c) = inr refl
 
 -- ---- a rehash begins
 
@@ -64,13 +53,18 @@ module _ (l : Lengths) (i : Ideal) (size old new : ℕ) (resting : i .tables ≡
   step-begins (Tables.two a b) e = absurd (one-not-two (sym e))
 
   pub begins : (c : Call) → Begins (predict l i c)
-  unfolding predict keyAnswer startAnswer begun scanAnswer readAnswer reply ideal
+  unfolding predict onAnswer keyAnswer startAnswer begun scanAnswer readAnswer reply ideal
   begins (Call.init capacity n) = by (startNumber l capacity n)
     where
       by : (m : ℕ) → Begins (startAnswer i capacity n m)
       by zero e = absurd (one-not-two e)
       by (suc m) e = still-one e
-  begins (Call.on key c) = λ e. absurd (one-not-two (sym resting ∙ e))
+  begins (Call.on key c) =
+      λ e.
+      absurd
+      (any-first i (λ (j : Ideal). j .tables ≡ Tables.two old new → ⊥) c (mapDoes (i .plain) key c .number)
+      (λ f. one-not-two (sym resting ∙ ap (λ (j : Ideal). j .tables) (sym (one-stays i size resting)) ∙ f))
+      (λ f. one-not-two (sym resting ∙ f)) e)
   begins (Call.resize n) = resize-begins n (i .tables)
   begins Call.rehashStep = step-begins (i .tables) resting
   begins (Call.scan cursor lent) =
@@ -171,7 +165,7 @@ module _ (i : Ideal) (size new a b : ℕ) (pos : 0 < size) where
           (λ g. passing-less size keys pos some-left (i .index) (behind f)) (λ k h. h)
           (inl (refl, omega (arith, behind f k (inl refl), in-table size pos k), behind f))
 
--- any other call leaves the tables and the next bucket, and brings no key to the old table
+-- Any other call leaves the tables and the next bucket, and brings no key to the old table.
 pub record Kept (i j : Ideal) : Type 0 where
   pub tables : j .tables ≡ i .tables
   pub turned : j .turned ≡ i .turned
@@ -180,67 +174,81 @@ pub record Kept (i j : Ideal) : Type 0 where
   pub held : ((k : ℕ) → In k (i .unmoved) → In k (keysOf (i .plain .pairs))) → (k : ℕ) → In k (j .unmoved)
       → In k (keysOf (j .plain .pairs))
 
-module _ (l : Lengths) (i : Ideal) (size new : ℕ) (moving : i .tables ≡ Tables.two size new) where
+same : (i : Ideal) → Kept i i
+same i = record { tables = refl; turned = refl; index = refl; only = λ k h. h; held = λ f. f }
+
+key-keeps : (i : Ideal) (r : Reply PlainMap) → Kept i (keyAnswer i r .state)
+unfolding keyAnswer reply ideal
+key-keeps i r =
+    let keys = keysOf (r .state .pairs) in
+    record {
+      tables = refl;
+      turned = refl;
+      index = refl;
+      only = λ k h. of-keep (λ j. among j keys) k (i .unmoved) h .0;
+      held = λ g k h. told (tells-among k keys) (of-keep (λ j. among j keys) k (i .unmoved) h .1);
+    }
+
+-- So a call takes a step, and leaves what that leaves; or it takes none.
+pub data Passes (i : Ideal) (c : Call) (j : Ideal) : Type 0 where
+  stepped : Kept (stepAnswer i (i .tables) (i .unmoved) .state) j → Passes i c j
+  stayed : isStep c ≡ false → Kept i j → Passes i c j
+
+module _ (l : Lengths) (i : Ideal) (size new : ℕ) (moving : i .tables ≡ Tables.two size new) (a b : ℕ) where
   -- (or else it starts anew)
-  abbrev Keeps : Reply Ideal → Type 0
-  Keeps r = (a b : ℕ) → r .state .tables ≡ Tables.two a b → Kept i (r .state)
+  abbrev Goes-on : Call → Reply Ideal → Type 0
+  Goes-on c r = r .state .tables ≡ Tables.two a b → Passes i c (r .state)
 
-  same : (a b : ℕ) → i .tables ≡ Tables.two a b → Kept i i
-  same a b e = record { tables = refl; turned = refl; index = refl; only = λ k h. h; held = λ f. f }
+  resize-passes : (n : ℕ) (t : Tables) → t ≡ Tables.two size new → Goes-on (Call.resize n) (resizeAnswer l i n t)
+  unfolding resizeAnswer reply isStep
+  resize-passes n (Tables.one a) e = absurd (one-not-two e)
+  resize-passes n (Tables.two a b) e = λ f. Passes.stayed refl (same i)
 
-  resize-keeps : (n : ℕ) (t : Tables) → t ≡ Tables.two size new → Keeps (resizeAnswer l i n t)
-  unfolding resizeAnswer reply
-  resize-keeps n (Tables.one a) e = absurd (one-not-two e)
-  resize-keeps n (Tables.two a b) e = same
-
-  keeps : (c : Call) → isStep c ≡ false → Keeps (predict l i c)
-  unfolding predict keyAnswer startAnswer begun scanAnswer readAnswer reply ideal isStep
-  keeps (Call.init capacity n) f = by (startNumber l capacity n)
+  pub passes : (c : Call) → Goes-on c (predict l i c)
+  unfolding predict onAnswer stepsFirst startAnswer begun scanAnswer readAnswer reply ideal isStep
+  passes (Call.init capacity n) = by (startNumber l capacity n)
     where
-      by : (m : ℕ) → Keeps (startAnswer i capacity n m)
-      by zero a b e = absurd (one-not-two e)
-      by (suc m) a b e = same a b e
-  keeps (Call.on key c) f =
-      let keys = keysOf (mapDoes (i .plain) key c .state .pairs) in
-      λ a b e.
-      record {
-        tables = refl;
-        turned = refl;
-        index = refl;
-        only = λ k h. of-keep (λ j. among j keys) k (i .unmoved) h .0;
-        held = λ g k h. told (tells-among k keys) (of-keep (λ j. among j keys) k (i .unmoved) h .1);
-      }
-  keeps (Call.resize n) f = resize-keeps n (i .tables) moving
-  keeps Call.rehashStep f = absurd (true-not-false f)
-  keeps (Call.scan cursor lent) f =
-      either Keeps (leb (length (groupPairs i cursor) * 2) (length lent)) _ _ same same
-  keeps (Call.read (ReadCall.suggestedSize growing)) f = same
-  keeps (Call.read ReadCall.currentTable) f = same
+      by : (m : ℕ) → Goes-on (Call.init capacity n) (startAnswer i capacity n m)
+      by zero e = absurd (one-not-two e)
+      by (suc m) e = Passes.stayed refl (same i)
+  passes (Call.on key c) = λ e. by (takesStep c && eqb (mapDoes (i .plain) key c .number) 0)
+    where
+      by : (t : Bool)
+          → Passes i (Call.on key c)
+          (keyAnswer (cond t (stepAnswer i (i .tables) (i .unmoved) .state) i) (mapDoes (i .plain) key c) .state)
+      by true = Passes.stepped (key-keeps _ (mapDoes (i .plain) key c))
+      by false = Passes.stayed refl (key-keeps i (mapDoes (i .plain) key c))
+  passes (Call.resize n) = resize-passes n (i .tables) moving
+  passes Call.rehashStep = λ e. Passes.stepped (same _)
+  passes (Call.scan cursor lent) =
+      either (Goes-on (Call.scan cursor lent)) (leb (length (groupPairs i cursor) * 2) (length lent)) _ _
+      (λ e. Passes.stayed refl (same i)) (λ e. Passes.stayed refl (same i))
+  passes (Call.read (ReadCall.suggestedSize growing)) = λ e. Passes.stayed refl (same i)
+  passes (Call.read ReadCall.currentTable) = λ e. Passes.stayed refl (same i)
 
   -- the current buffer stays the same, with a step too
-  pub still-turned : (c : Call) (a b : ℕ) → predict l i c .state .tables ≡ Tables.two a b → predict l i c .state .turned ≡ i .turned
-  unfolding predict reply afterStep ideal
-  still-turned c a b = by (step-or-not c)
+  pub still-turned : (c : Call) → predict l i c .state .tables ≡ Tables.two a b → predict l i c .state .turned ≡ i .turned
+  unfolding reply afterStep ideal
+  still-turned c e = by (passes c e)
     where
       done : (old n count : ℕ) (ks : List ℕ) (next : ℕ) → afterStep i old n count ks next .state .tables ≡ Tables.two a b
           → afterStep i old n count ks next .state .turned ≡ i .turned
       done old n count [] next e = absurd (one-not-two e)
       done old n count (k ∷ ks) next e = refl
 
-      by : (c ≡ Call.rehashStep) ⊎ (isStep c ≡ false) → predict l i c .state .tables ≡ Tables.two a b
-          → predict l i c .state .turned ≡ i .turned
-      by (inl s) =
-          subst (λ (c : Call). predict l i c .state .tables ≡ Tables.two a b → predict l i c .state .turned ≡ i .turned) (sym s)
-          (any-step i (λ r. r .state .tables ≡ Tables.two a b → r .state .turned ≡ i .turned) (i .tables) (i .unmoved) (λ e. refl)
-          (λ old n is. done old n))
-      by (inr f) = λ e. keeps c f a b e .turned
+      by : Passes i c (predict l i c .state) → predict l i c .state .turned ≡ i .turned
+      by (Passes.stepped k) =
+          k .turned
+          ∙ any-step i (λ r. r .state .tables ≡ Tables.two a b → r .state .turned ≡ i .turned) (i .tables) (i .unmoved)
+          (λ n f e. refl) (λ old n f. done old n) (sym (k .tables) ∙ e)
+      by (Passes.stayed f k) = k .turned
 
--- While it is under way: a step, and any other call.
-module _ (l : Lengths) (i : Ideal) (size : ℕ) (d : During size i) (pos : 0 < size) (a b : ℕ) where
-  pub goes-step : predict l i Call.rehashStep .state .tables ≡ Tables.two a b
-      → During size (predict l i Call.rehashStep .state) × Goes size i (i .unmoved) (predict l i Call.rehashStep .state)
-  unfolding predict
-  goes-step e =
+-- While it is under way: a step, and what leaves it.
+module _ (size : ℕ) (i : Ideal) (d : During size i) where
+  pub goes-step : 0 < size → (a b : ℕ) → stepAnswer i (i .tables) (i .unmoved) .state .tables ≡ Tables.two a b
+      → During size (stepAnswer i (i .tables) (i .unmoved) .state)
+      × Goes size i (i .unmoved) (stepAnswer i (i .tables) (i .unmoved) .state)
+  goes-step pos a b e =
       let g =
       subst
       (λ (t : Tables).
@@ -255,17 +263,14 @@ module _ (l : Lengths) (i : Ideal) (size : ℕ) (d : During size i) (pos : 0 < s
         g,
       )
 
-  pub goes-other : (c : Call) → isStep c ≡ false → predict l i c .state .tables ≡ Tables.two a b
-      → During size (predict l i c .state) × Kept i (predict l i c .state) × (left size (predict l i c .state) ≤ left size i)
-  goes-other c f e =
-      let k = keeps l i size (d .new) (d .tables) c f a b e in (
-        record {
-          new = d .new;
-          tables = k .tables ∙ d .tables;
-          above = λ j h. omega (arith, k .index, d .above j (k .only j h));
-          held = k .held (d .held);
-        },
-        k,
-        subst (λ (n : ℕ). stepsLeft size (predict l i c .state .unmoved) n ≤ left size i) (sym (k .index))
-            (fewer-less size (i .unmoved) (predict l i c .state .unmoved) (k .only) (i .index) (d .above)),
-      )
+  pub goes-kept : (j : Ideal) → Kept i j → During size j × (left size j ≤ left size i)
+  goes-kept j k = (
+    record {
+      new = d .new;
+      tables = k .tables ∙ d .tables;
+      above = λ n h. omega (arith, k .index, d .above n (k .only n h));
+      held = k .held (d .held);
+    },
+    subst (λ (n : ℕ). stepsLeft size (j .unmoved) n ≤ left size i) (sym (k .index))
+        (fewer-less size (i .unmoved) (j .unmoved) (k .only) (i .index) (d .above)),
+  )

@@ -1,15 +1,18 @@
--- The ideal's step: refused, or so many keys moved and the rest unmoved.
+-- The ideal's step: refused, or so many keys moved and the rest unmoved. And the step that a call takes first, or none.
 -- Assumes nothing.
 use Prim.Native.Nat.{ℕ, _+_, _≤_}
-use mathlib.Core.Path.{_≡_, refl}
-use mathlib.Core.Bool.{Bool, true, false, cond}
+use mathlib.Core.Path.{_≡_, refl, sym, ap, _∙_}
+use mathlib.Core.Bool.{Bool, true, false, _&&_, cond}
 use mathlib.Core.List.{List, [], _∷_}
-use lib.Dec.{ltb}
+use native.Mathlib.Omega.{arith}
+use lib.Dec.{ltb, eqb}
 use Rattle.model.specs.Keys.{bucketOf}
 use Rattle.model.specs.Limits.{emptyVisits}
 use Rattle.model.specs.Answers.{Reply, reply}
 use Rattle.model.specs.Walk.{Tables}
-use Rattle.refinement.specs.Demand3.{Ideal, lowest, afterStep, stepAnswer}
+use Rattle.model.specs.Sequences.{KeyCall}
+use Rattle.refinement.specs.Worlds.{takesStep}
+use Rattle.refinement.specs.Demand3.{Ideal, ideal, lowest, afterStep, stepAnswer, stepsFirst}
 
 -- what holds of both answers of a test holds of the one given
 pub either : {A : Type 0} (P : A → Type 0) (t : Bool) (x y : A) → P x → P y → P (cond t x y)
@@ -19,14 +22,54 @@ either P false x y p q = q
 pub one-at-most : (t : Bool) (m n : ℕ) → m ≤ 1 → n ≤ 1 → cond t m n ≤ 1
 one-at-most = either (λ (k : ℕ). k ≤ 1)
 
+pub one-not-two : {size old new : ℕ} → Tables.one size ≡ Tables.two old new → ⊥
+one-not-two e = let z : _≡_ {A = ℕ} 0 1 = cc in omega arith
+
 module _ (i : Ideal) (P : Reply Ideal → Type 0) where
   -- what holds of a refused step, and of every other, holds of the ideal's
-  pub any-step : (tables : Tables) (unmoved : List ℕ) → P (reply 8 (0 ∷ 0 ∷ []) i)
+  pub any-step : (tables : Tables) (unmoved : List ℕ) → ((size : ℕ) → tables ≡ Tables.one size → P (reply 8 (0 ∷ 0 ∷ []) i))
       → ((old new : ℕ) → tables ≡ Tables.two old new → (count : ℕ) (ks : List ℕ) (next : ℕ) → P (afterStep i old new count ks next))
       → P (stepAnswer i tables unmoved)
   unfolding stepAnswer
-  any-step (Tables.one size) unmoved refused done = refused
+  any-step (Tables.one size) unmoved refused done = refused size refl
   any-step (Tables.two old new) [] refused done = done old new refl 0 [] (i .index)
   any-step (Tables.two old new) (k ∷ ks) refused done =
       either P (ltb (lowest old (bucketOf k old) ks) (i .index + emptyVisits)) _ _ (done old new refl _ _ _)
       (done old new refl _ _ _)
+
+module _ (i : Ideal) where
+  abbrev stepped : Ideal
+  stepped = stepAnswer i (i .tables) (i .unmoved) .state
+
+  -- what holds with a step and without holds of the ideal that a call finds
+  pub any-first : (P : Ideal → Type 0) (c : KeyCall) (number : ℕ) → P (stepAnswer i (i .tables) (i .unmoved) .state) → P i
+      → P (stepsFirst i c number)
+  unfolding stepsFirst
+  any-first P c number = either P (takesStep c && eqb number 0) stepped i
+
+  -- with two tables a step is answered, ..
+  pub two-answered : (old new : ℕ) → i .tables ≡ Tables.two old new → stepAnswer i (i .tables) (i .unmoved) .number ≡ 0
+  unfolding afterStep reply
+  two-answered old new e =
+      any-step i (λ (r : Reply Ideal). r .number ≡ 0) (i .tables) (i .unmoved)
+      (λ size f. absurd (one-not-two (sym f ∙ e))) (λ old new f. done old new)
+    where
+      done : (old new count : ℕ) (ks : List ℕ) (next : ℕ) → afterStep i old new count ks next .number ≡ 0
+      done old new count [] next = refl
+      done old new count (k ∷ ks) next = refl
+
+  -- .. with one it is refused, ..
+  pub one-stays : (size : ℕ) → i .tables ≡ Tables.one size → stepAnswer i (i .tables) (i .unmoved) .state ≡ i
+  unfolding stepAnswer reply
+  one-stays size e = ap (λ (t : Tables). stepAnswer i t (i .unmoved) .state) e
+
+  -- .. and it leaves the pairs
+  pub same-pairs : stepAnswer i (i .tables) (i .unmoved) .state .plain ≡ i .plain
+  unfolding afterStep reply ideal
+  same-pairs =
+      any-step i (λ (r : Reply Ideal). r .state .plain ≡ i .plain) (i .tables) (i .unmoved) (λ size e. refl)
+      (λ old new e. done old new)
+    where
+      done : (old new count : ℕ) (ks : List ℕ) (next : ℕ) → afterStep i old new count ks next .state .plain ≡ i .plain
+      done old new count [] next = refl
+      done old new count (k ∷ ks) next = refl

@@ -1,5 +1,5 @@
--- Find, update, add and delete on a store that agrees with the ideal: each answers as the plain map does, and the store agrees
--- with the map after it. The step of the induction for them follows, and demand 2's first half.
+-- Find, update, add and delete alone, with no step, on a store that agrees with the ideal: each answers as the plain map does,
+-- and the store agrees with the map after it.
 -- Assumes nothing.
 use Prim.Native.Nat.{ℕ, suc, _+_, _-_}
 use mathlib.Core.Path.{_≡_, refl, sym, ap, subst, _∙_}
@@ -40,9 +40,10 @@ use Rattle.invariant.proofs.Update.{Changed, updated-store}
 use Rattle.invariant.proofs.Lookups.{NotHeld}
 use Rattle.invariant.proofs.CallAnswers.{find-held, update-held, add-held, delete-held, find-absent, update-absent, delete-absent, add-full, add-free}
 use Rattle.refinement.proofs.Orientation.{soundAt, reads-sound, left-reply, left-world}
-use Rattle.refinement.proofs.Refusals.{refused-keeps, find-keeps}
+use Rattle.refinement.proofs.HiddenSteps.{alone}
+use Rattle.refinement.proofs.Refusals.{alone-keeps, find-keeps}
 use Rattle.refinement.proofs.PlainMaps.{pair, value-key, key-value, value-new, value-not-new, distinct-new, value-changed, value-not-changed, keys-changed, length-changed, value-taken, value-not-taken, length-taken, distinct-taken, tells-among}
-use Rattle.refinement.proofs.Agreement.{Agrees, Steps, leaves, Says, agrees-undamaged, agrees-holds, holds-agrees, after-agrees, kept-agrees}
+use Rattle.refinement.proofs.Agreement.{Agrees, Comes, Says, after-agrees, kept-agrees}
 
 not-new : (b c : ℕ) → Place.bucket Table.Old b ≡ Place.bucket Table.New c → ⊥
 not-new b c e = let z : _≡_ {A = ℕ} 0 1 = cc in omega arith
@@ -125,45 +126,49 @@ module _ (w : World) (i : Ideal) (a : Agrees w i) where
 
   module _ (key : ℕ) (c : KeyCall) where
     -- A call that leaves the world, and whose map answers so.
-    module _ (n : ℕ) (vs : List ℕ) (is : mapDoes (i .plain) key c ≡ reply n vs (i .plain)) where
-      stays : carry w (perform w (Call.on key c)) ≡ w → perform w (Call.on key c) .reply .number ≡ n
-          → perform w (Call.on key c) .reply .values ≡ vs → Steps w (Call.on key c) (keyAnswer i (mapDoes (i .plain) key c))
-      unfolding keyAnswer reply ideal
-      stays world number values =
-          subst (λ (r : Reply PlainMap). Steps w (Call.on key c) (keyAnswer i r)) (sym is)
-          (subst (λ (ks : List ℕ). Steps w (Call.on key c) (reply n vs (ideal (i .plain) (i .tables) (i .turned) ks (i .index))))
-          (sym all-still) (leaves w i a (Call.on key c) n vs world number (λ f. values)))
+    pub stays : (o : Outcome) (n : ℕ) (vs : List ℕ) → mapDoes (i .plain) key c ≡ reply n vs (i .plain) → carry w o ≡ w
+        → o .reply .number ≡ n → o .reply .values ≡ vs → Comes w o (keyAnswer i (mapDoes (i .plain) key c))
+    unfolding keyAnswer reply ideal
+    stays o n vs is world number values =
+        subst (λ (r : Reply PlainMap). Comes w o (keyAnswer i r)) (sym is)
+        (record {
+          number = number;
+          values = values;
+          agrees =
+              subst (λ (ks : List ℕ). Agrees (carry w o) (ideal (i .plain) (i .tables) (i .turned) ks (i .index))) (sym all-still)
+              (subst (λ (v : World). Agrees v i) (sym world) a);
+        })
 
     -- A writing call, refused and answered.
     module _ {A : Type 0} (replies : A → Reply State) (refusal : A) (call : List ℕ → List ℕ → After A)
-        (is-call : perform w (Call.on key c)
+        (is-call : alone w key c
         ≡ left replies (writing s (w .first) (w .second) (w .entries) refusal call)) where
       refused : (answer : A) (n : ℕ) → mapDoes (i .plain) key c ≡ reply (suc n) [] (i .plain)
           → replies answer .number ≡ suc n → replies answer .values ≡ []
           → call (current w) (other w) ≡ After.after answer (current w) (other w) (w .entries)
-          → Steps w (Call.on key c) (keyAnswer i (mapDoes (i .plain) key c))
+          → Comes w (alone w key c) (keyAnswer i (mapDoes (i .plain) key c))
       refused answer n is number values e =
           let replied =
           ap (λ (o : Outcome). o .reply) is-call
           ∙ left-reply w replies refusal call sound answer (current w) (other w) (w .entries) e in
           let zero-not = ap (λ (r : Reply State). r .number) replied ∙ number in
-          stays (suc n) [] is (refused-keeps w (Call.on key c) (λ z. omega (arith, zero-not))) zero-not (ap (λ (r : Reply State). r .values) replied ∙ values)
+          stays (alone w key c) (suc n) [] is (alone-keeps w key c (λ z. omega (arith, zero-not))) zero-not (ap (λ (r : Reply State). r .values) replied ∙ values)
 
       answered : (answer : State → A) (keys : ℕ) (places : Place → ℕ → ℕ → Type 0)
           (l : StoreAfter s answer (call (current w) (other w)) keys (s .«rehash_index») places) (qs : List Pair)
           → mapDoes (i .plain) key c ≡ reply 0 [] (withPairs (i .plain) qs)
           → replies (answer (l .state)) .number ≡ 0 → replies (answer (l .state)) .values ≡ []
           → replies (answer (l .state)) .state ≡ l .state → Pairs qs keys places
-          → Steps w (Call.on key c) (keyAnswer i (mapDoes (i .plain) key c))
+          → Comes w (alone w key c) (keyAnswer i (mapDoes (i .plain) key c))
       unfolding keyAnswer reply withPairs
       answered answer keys places l qs is number values state p =
           let replied =
           ap (λ (o : Outcome). o .reply) is-call
           ∙ left-reply w replies refusal call sound (answer (l .state)) (l .current) (l .other) (l .entries) (l .is) in
-          subst (λ (r : Reply PlainMap). Steps w (Call.on key c) (keyAnswer i r)) (sym is)
+          subst (λ (r : Reply PlainMap). Comes w (alone w key c) (keyAnswer i r)) (sym is)
           (record {
             number = ap (λ (r : Reply State). r .number) replied ∙ number;
-            values = λ f. ap (λ (r : Reply State). r .values) replied ∙ values;
+            values = ap (λ (r : Reply State). r .values) replied ∙ values;
             agrees =
                 subst (λ (v : World). Agrees v (with-pairs qs))
                 (sym
@@ -196,8 +201,8 @@ module _ (w : World) (i : Ideal) (a : Agrees w i) where
 
     -- Find.
 
-    keyed-find : Steps w (Call.on key KeyCall.find) (keyAnswer i (mapDoes (i .plain) key KeyCall.find))
-    unfolding perform given kept calls.find findReply reply errorNumber mapAnswer
+    keyed-find : Comes w (alone w key KeyCall.find) (keyAnswer i (mapDoes (i .plain) key KeyCall.find))
+    unfolding alone perform given kept calls.find findReply reply errorNumber mapAnswer
     keyed-find = pick (valueFor key ps) refl
       where
         read : FindAnswer → Type 0
@@ -205,9 +210,9 @@ module _ (w : World) (i : Ideal) (a : Agrees w i) where
 
         stays-by : (r : FindAnswer) (n : ℕ) (vs : List ℕ) → mapDoes (i .plain) key KeyCall.find ≡ reply n vs (i .plain)
             → findReply s r .number ≡ n → findReply s r .values ≡ vs → read r
-            → Steps w (Call.on key KeyCall.find) (keyAnswer i (mapDoes (i .plain) key KeyCall.find))
+            → Comes w (alone w key KeyCall.find) (keyAnswer i (mapDoes (i .plain) key KeyCall.find))
         stays-by r n vs is number values e =
-            stays key KeyCall.find n vs is (find-keeps w key)
+            stays key KeyCall.find (alone w key KeyCall.find) n vs is (find-keeps w key)
             (ap (λ (x : FindAnswer). findReply s x .number) e ∙ number)
             (ap (λ (x : FindAnswer). findReply s x .values) e ∙ values)
 
@@ -215,7 +220,7 @@ module _ (w : World) (i : Ideal) (a : Agrees w i) where
         body current other = found (w .entries) (lookup s current other (w .entries) key)
 
         pick : (o : Option ℕ) → valueFor key ps ≡ o
-            → Steps w (Call.on key KeyCall.find) (keyAnswer i (mapDoes (i .plain) key KeyCall.find))
+            → Comes w (alone w key KeyCall.find) (keyAnswer i (mapDoes (i .plain) key KeyCall.find))
         pick none e =
             stays-by (FindAnswer.Refused Error.Absent) 3 (0 ∷ []) (does KeyCall.find none e) refl refl
             (reads-sound w (FindAnswer.Refused Error.BadState) body sound ∙ find-absent (a .shape) key (not-held e))
@@ -274,9 +279,9 @@ module _ (w : World) (i : Ideal) (a : Agrees w i) where
               (value, inl (f, refl, u, subst (λ (j : ℕ). Was (Place.bucket Table.Old b) j u) f h))
           after b k u h (no d) = (u, inr (h, d))
 
-      keyed-update : Steps w (Call.on key (KeyCall.update value))
+      keyed-update : Comes w (alone w key (KeyCall.update value))
           (keyAnswer i (mapDoes (i .plain) key (KeyCall.update value)))
-      unfolding perform given calls.update updateReply reply errorNumber mapAnswer
+      unfolding alone perform given calls.update updateReply reply errorNumber mapAnswer
       keyed-update = pick (valueFor key ps) refl
         where
           c : KeyCall
@@ -288,7 +293,7 @@ module _ (w : World) (i : Ideal) (a : Agrees w i) where
           bad : UpdateAnswer
           bad = UpdateAnswer.Refused Error.BadState
 
-          pick : (o : Option ℕ) → valueFor key ps ≡ o → Steps w (Call.on key c) (keyAnswer i (mapDoes (i .plain) key c))
+          pick : (o : Option ℕ) → valueFor key ps ≡ o → Comes w (alone w key c) (keyAnswer i (mapDoes (i .plain) key c))
           pick none e =
               refused key c (updateReply s) bad call refl (UpdateAnswer.Refused Error.Absent) 2 (does c none e) refl refl
               (update-absent (a .shape) key (not-held e) value)
@@ -355,8 +360,8 @@ module _ (w : World) (i : Ideal) (a : Agrees w i) where
               absurd (not-new b _ (p ∙ ap (λ (r : Bool). keyPlace s key (target r)) rehashing))
           before rehashing b k v (inr h) = (v, h)
 
-      keyed-add : Steps w (Call.on key (KeyCall.add value)) (keyAnswer i (mapDoes (i .plain) key (KeyCall.add value)))
-      unfolding perform given calls.add addReply reply errorNumber mapAnswer keysHeld
+      keyed-add : Comes w (alone w key (KeyCall.add value)) (keyAnswer i (mapDoes (i .plain) key (KeyCall.add value)))
+      unfolding alone given calls.addAlone addReply reply errorNumber mapAnswer keysHeld
       keyed-add = pick (valueFor key ps) refl
         where
           c : KeyCall
@@ -376,7 +381,7 @@ module _ (w : World) (i : Ideal) (a : Agrees w i) where
               ∙ ap (λ (b : Bool). cond b (reply 5 [] (i .plain)) (reply 0 [] (withPairs (i .plain) (pair key value ∷ ps)))) f
 
           room : valueFor key ps ≡ none → (t : Bool) → eqb (length ps) (i .plain .capacity) ≡ t
-              → Steps w (Call.on key c) (keyAnswer i (mapDoes (i .plain) key c))
+              → Comes w (alone w key c) (keyAnswer i (mapDoes (i .plain) key c))
           room e true f =
               let reached = eqb-true (length ps) (i .plain .capacity) f in
               refused key c (addReply s) bad call refl (AddAnswer.Refused Error.Full) 4 (full true f e) refl refl
@@ -393,7 +398,7 @@ module _ (w : World) (i : Ideal) (a : Agrees w i) where
               answered key c (addReply s) bad call refl AddAnswer.Added (keysHeld s + 1) Joined l (pair key value ∷ ps)
               (full false f e) refl refl refl (add-pairs e)
 
-          pick : (o : Option ℕ) → valueFor key ps ≡ o → Steps w (Call.on key c) (keyAnswer i (mapDoes (i .plain) key c))
+          pick : (o : Option ℕ) → valueFor key ps ≡ o → Comes w (alone w key c) (keyAnswer i (mapDoes (i .plain) key c))
           pick none e = room e (eqb (length ps) (i .plain .capacity)) refl
           pick (some held) e =
               let h = a .in-store key held e in
@@ -434,8 +439,8 @@ module _ (w : World) (i : Ideal) (a : Agrees w i) where
             let h = a .in-store k v (sym (value-not-taken key k ps d) ∙ f) in
             (h .place, h .live, h .bucket, (h .held, d))
 
-    keyed-delete : Steps w (Call.on key KeyCall.delete) (keyAnswer i (mapDoes (i .plain) key KeyCall.delete))
-    unfolding perform given calls.delete deleteReply reply errorNumber mapAnswer
+    keyed-delete : Comes w (alone w key KeyCall.delete) (keyAnswer i (mapDoes (i .plain) key KeyCall.delete))
+    unfolding alone given calls.deleteAlone deleteReply reply errorNumber mapAnswer
     keyed-delete = pick (valueFor key ps) refl
       where
         call : List ℕ → List ℕ → After DeleteAnswer
@@ -445,7 +450,7 @@ module _ (w : World) (i : Ideal) (a : Agrees w i) where
         bad = DeleteAnswer.Refused Error.BadState
 
         pick : (o : Option ℕ) → valueFor key ps ≡ o
-            → Steps w (Call.on key KeyCall.delete) (keyAnswer i (mapDoes (i .plain) key KeyCall.delete))
+            → Comes w (alone w key KeyCall.delete) (keyAnswer i (mapDoes (i .plain) key KeyCall.delete))
         pick none e =
             refused key KeyCall.delete (deleteReply s) bad call refl (DeleteAnswer.Refused Error.Absent) 2
             (does KeyCall.delete none e) refl refl (delete-absent (a .shape) key (not-held e))
@@ -461,32 +466,8 @@ module _ (w : World) (i : Ideal) (a : Agrees w i) where
             answered key KeyCall.delete (deleteReply s) bad call refl DeleteAnswer.Deleted (keysHeld s - 1) Left l
             (without key ps) (does KeyCall.delete (some held) e) refl refl refl (delete-pairs held e)
 
-  -- the step of the induction for the four calls
-  keyed-steps : (key : ℕ) (c : KeyCall) → Steps w (Call.on key c) (keyAnswer i (mapDoes (i .plain) key c))
+  pub keyed-steps : (key : ℕ) (c : KeyCall) → Comes w (alone w key c) (keyAnswer i (mapDoes (i .plain) key c))
   keyed-steps key KeyCall.find = keyed-find key
   keyed-steps key (KeyCall.update value) = keyed-update key value
   keyed-steps key (KeyCall.add value) = keyed-add key value
   keyed-steps key KeyCall.delete = keyed-delete key
-
-  pub on-steps : (l : Lengths) (key : ℕ) (c : KeyCall) → Steps w (Call.on key c) (predict l i (Call.on key c))
-  unfolding predict
-  on-steps l key c = keyed-steps key c
-
--- demand 2, its first half: on any undamaged store they answer as the map
-pub as-the-map : (w : World) (m : PlainMap) → UndamagedAt w → Holds w m → (key : ℕ) (c : KeyCall)
-    → AnswersAs perform w (Call.on key c) (mapDoes m key c)
-unfolding UndamagedAt keyAnswer reply ideal
-as-the-map w m undamaged holds key c =
-    let (i, is, a) = holds-agrees w (undamaged-shape undamaged) m holds in
-    subst (λ (n : PlainMap). AnswersAs perform w (Call.on key c) (mapDoes n key c)) is (of-ideal i a)
-  where
-    of-ideal : (i : Ideal) → Agrees w i → AnswersAs perform w (Call.on key c) (mapDoes (i .plain) key c)
-    of-ideal i a =
-        let there = keyed-steps w i a key c in
-        let then = keyAnswer i (mapDoes (i .plain) key c) .state in
-        record {
-          number = there .number;
-          values = there .values (λ f. let z : _≡_ {A = ℕ} 0 1 = cc in omega arith);
-          undamaged = agrees-undamaged (carry w (perform w (Call.on key c))) then (there .agrees);
-          holds = agrees-holds (carry w (perform w (Call.on key c))) then (there .agrees);
-        }

@@ -5,7 +5,8 @@ use mathlib.Core.List.{List}
 use Rattle.model.specs.Sequences.{World, world, Call, Outcome, kept, perform, carry}
 use Rattle.refinement.specs.Demand1.{Row}
 use Rattle.refinement.specs.Demand3.{lengthsOf}
-use Rattle.refinement.proofs.Demand1Calls.{Good, good}
+use Rattle.refinement.proofs.Demand1Calls.{Good}
+use Rattle.refinement.proofs.Demand1Steps.{good}
 use Rattle.refinement.proofs.Refusals.{leaves-kept}
 
 good-lengths : {w : World} {c : Call} {rs : List Row} {o : Outcome} → Good w c rs o → lengthsOf (carry w o) ≡ lengthsOf w

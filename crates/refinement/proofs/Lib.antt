@@ -1,12 +1,14 @@
 -- From the definitions of model to the statements of specs/.
 
--- from the calls' buffers to the world
+-- from the calls' buffers to the world; a call that takes a step first
 pub mod Orientation
+pub mod HiddenSteps
 -- demand 1, and from it: what a refusal keeps, and that lengths stay
 pub mod Demand1Tests
 pub mod Demand1Chains
 pub mod Demand1Reads
 pub mod Demand1Calls
+pub mod Demand1Steps
 pub mod Demand1
 pub mod Refusals
 pub mod Lengths
@@ -18,6 +20,7 @@ pub mod KeyedSteps
 pub mod TableSteps
 pub mod MovedKeys
 pub mod RehashSteps
+pub mod SteppedKeys
 -- the walk call, and walks
 pub mod LiveTables
 pub mod GroupPlaces

@@ -16,11 +16,11 @@ use Rattle.model.specs.Memory.{Place, sizeOf}
 use Rattle.model.specs.Answers.{Reply, reply}
 use Rattle.model.specs.Calls.{oldNew, longEnough, acceptable}
 use Rattle.model.specs.Walk.{Tables, tablesBy, tablesOf}
-use Rattle.model.specs.Sequences.{Call, ReadCall}
+use Rattle.model.specs.Sequences.{Call, ReadCall, mapDoes}
 use Rattle.model.proofs.Soundness.{Sound}
-use Rattle.refinement.specs.Demand3.{Lengths, Ideal, ideal, begun, startNumber, startAnswer, keyAnswer, resizeAnswer, afterStep, groupPairs, scanAnswer, readAnswer, predict}
+use Rattle.refinement.specs.Demand3.{Lengths, Ideal, ideal, begun, startNumber, startAnswer, keyAnswer, resizeAnswer, afterStep, stepAnswer, onAnswer, groupPairs, scanAnswer, readAnswer, predict}
 use Rattle.invariant.proofs.Resize.{allowed}
-use Rattle.refinement.proofs.IdealSteps.{any-step}
+use Rattle.refinement.proofs.IdealSteps.{any-step, any-first}
 
 -- legal sizes, which differ
 unfoldable pub Legal : Tables → Type 0
@@ -96,14 +96,19 @@ module _ (l : Lengths) (i : Ideal) (legal : Legal (i .tables)) where
   after-step old new h count [] next = h .1
   after-step old new h count (k ∷ ks) next = h
 
-  pub predict-legal : (c : Call) → Legal (predict l i c .state .tables)
-  unfolding predict keyAnswer scanAnswer readAnswer reply ideal
-  predict-legal (Call.init capacity size) = after-start capacity size (startNumber l capacity size) refl
-  predict-legal (Call.on key c) = legal
-  predict-legal (Call.resize size) = after-resize size (i .tables) legal
-  predict-legal Call.rehashStep =
-      any-step i (λ r. Legal (r .state .tables)) (i .tables) (i .unmoved) legal
+  step-legal : Legal (stepAnswer i (i .tables) (i .unmoved) .state .tables)
+  unfolding reply
+  step-legal =
+      any-step i (λ r. Legal (r .state .tables)) (i .tables) (i .unmoved) (λ size e. legal)
       (λ old new e. after-step old new (subst Legal e legal))
+
+  pub predict-legal : (c : Call) → Legal (predict l i c .state .tables)
+  unfolding predict onAnswer keyAnswer scanAnswer readAnswer reply ideal
+  predict-legal (Call.init capacity size) = after-start capacity size (startNumber l capacity size) refl
+  predict-legal (Call.on key c) =
+      any-first i (λ (j : Ideal). Legal (j .tables)) c (mapDoes (i .plain) key c .number) step-legal legal
+  predict-legal (Call.resize size) = after-resize size (i .tables) legal
+  predict-legal Call.rehashStep = step-legal
   predict-legal (Call.scan cursor lent) =
       legal-either (leb (length (groupPairs i cursor) * 2) (length lent)) _ _ (λ t. legal) legal
   predict-legal (Call.read (ReadCall.suggestedSize growing)) = legal

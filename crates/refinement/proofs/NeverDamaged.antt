@@ -17,7 +17,7 @@ use Rattle.model.specs.Walk.{Tables}
 use Rattle.model.specs.Sequences.{World, KeyCall, ReadCall, Call, Outcome, carry, run, Event, events, PlainMap, valueFor, mapAnswer, mapDoes}
 use Rattle.refinement.specs.Worlds.{UndamagedAt}
 use Rattle.refinement.specs.Demand1.{SoundChain}
-use Rattle.refinement.specs.Demand3.{Lengths, lengthsOf, Ideal, begun, startNumber, startAnswer, keyAnswer, resizeAnswer, afterStep, groupPairs, scanAnswer, readAnswer, predict, Answered, Demand3}
+use Rattle.refinement.specs.Demand3.{Lengths, lengthsOf, Ideal, begun, startNumber, startAnswer, keyAnswer, onAnswer, resizeAnswer, afterStep, groupPairs, scanAnswer, readAnswer, predict, Answered, Demand3}
 use Rattle.refinement.proofs.IdealSteps.{either, any-step}
 use Rattle.refinement.proofs.Demand1Chains.{AtPlace, place-read, place-sound}
 
@@ -67,13 +67,14 @@ module _ (l : Lengths) (i : Ideal) where
   done-other old new count (k ∷ ks) next = other 0 refl
 
   predicted-other : (c : Call) → Other (predict l i c)
-  unfolding predict keyAnswer mapDoes scanAnswer readAnswer startNumber reply
+  unfolding predict onAnswer keyAnswer mapDoes scanAnswer readAnswer startNumber reply
   predicted-other (Call.init capacity size) =
       start-other capacity size _
       (limits-other (legalCapacity capacity && legalSize size) (longEnough capacity size (l .first) (l .entries)))
   predicted-other (Call.on key c) = map-other (i .plain) key c (valueFor key (i .plain .pairs))
   predicted-other (Call.resize size) = resize-other size (i .tables)
-  predicted-other Call.rehashStep = any-step i Other (i .tables) (i .unmoved) (other 8 refl) (λ old new e. done-other old new)
+  predicted-other Call.rehashStep = any-step i Other (i .tables) (i .unmoved) (λ size e. other 8 refl)
+      (λ old new e. done-other old new)
   predicted-other (Call.scan cursor lent) =
       either Other (leb (length (groupPairs i cursor) * 2) (length lent)) _ _ (other 0 refl) (other 9 refl)
   predicted-other (Call.read (ReadCall.suggestedSize growing)) = other 0 refl

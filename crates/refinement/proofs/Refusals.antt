@@ -14,6 +14,8 @@ use Rattle.model.specs.Walk.{AfterScan}
 use Rattle.model.specs.Walk as walk
 use Rattle.model.specs.Sequences.{World, world, KeyCall, ReadCall, Call, Outcome, kept, keptScan, given, perform, carriedState, carry}
 use Rattle.refinement.specs.Demand1.{Leaves, LeavesAll}
+use Rattle.refinement.proofs.HiddenSteps.{alone}
+use Rattle.refinement.proofs.Demand1Calls.{leaves, alone-good}
 use Rattle.refinement.proofs.Demand1.{demand1}
 
 -- the buffers stay, and the state if the call is answered
@@ -39,11 +41,17 @@ leaves-kept w (Call.read ReadCall.currentTable) o l = (_, _, l)
 
 module _ (w : World) where
   -- where the number is not 0, the world is as before
-  pub refused-keeps : (c : Call) → ¬ (perform w c .reply .number ≡ 0) → carry w (perform w c) ≡ w
+  left-keeps : (c : Call) (o : Outcome) → LeavesAll w c o → ¬ (o .reply .number ≡ 0) → carry w o ≡ w
   unfolding kept
-  refused-keeps c n =
-      let (r, lent, is) = leaves-kept w c (perform w c) (demand1 .refusals w c n) in
+  left-keeps c o l n =
+      let (r, lent, is) = leaves-kept w c o l in
       ap (carry w) is ∙ kept-carried w r lent (λ e. absurd (n (ap (λ (o : Outcome). o .reply .number) is ∙ e)))
+
+  pub refused-keeps : (c : Call) → ¬ (perform w c .reply .number ≡ 0) → carry w (perform w c) ≡ w
+  refused-keeps c n = left-keeps c (perform w c) (demand1 .refusals w c n) n
+
+  pub alone-keeps : (key : ℕ) (c : KeyCall) → ¬ (alone w key c .reply .number ≡ 0) → carry w (alone w key c) ≡ w
+  alone-keeps key c n = left-keeps (Call.on key c) (alone w key c) (leaves (alone-good w key c) n) n
 
   -- find, a walk call, the suggested size and a look leave it whatever they answer
 

@@ -32,7 +32,7 @@ use Rattle.invariant.proofs.Sums.{sum-atmost, sum-few}
 use Rattle.refinement.proofs.IdealSteps.{one-at-most}
 use Rattle.refinement.proofs.PlainMaps.{key-value, tells-among}
 use Rattle.refinement.proofs.CalledBuckets.{calledFor, bucketsCalled, in-table, called-by, some-steps, steps-at-first, steps-fit}
-use Rattle.refinement.proofs.IdealCalls.{JustBegun, begins, During, left, Onward, Goes, step-or-not, still-turned, goes-step, goes-other}
+use Rattle.refinement.proofs.IdealCalls.{JustBegun, begins, During, left, Onward, Passes, passes, still-turned, goes-step, goes-kept}
 use Rattle.refinement.proofs.Demand3.{demand3}
 
 -- the head of a chain is on it
@@ -215,7 +215,7 @@ module _ (does : World → Call → Outcome) (l : Lengths) (size : ℕ) (pos : 0
   goes : (w : World) (i : Ideal) → Along does l w i → During size i → (c : Call) → carry w (does w c) .state .rehashing ≡ true
       → OneCall size w i c (does w c) (predict l i c .state)
   unfolding run replay
-  goes w i along d c u = by (step-or-not c)
+  goes w i along d c u = by (passes l i size (d .new) (d .tables) _ _ c tables)
     where
       w′ : World
       w′ = carry w (does w c)
@@ -229,22 +229,18 @@ module _ (does : World → Call → Outcome) (l : Lengths) (size : ℕ) (pos : 0
       tables : i′ .tables ≡ Tables.two (w′ .state .«old_size») (w′ .state .«new_size»)
       tables = moving-tables l w′ i′ then u
 
-      StepGoes : Call → Type 0
-      StepGoes e =
-          predict l i e .state .tables ≡ Tables.two (w′ .state .«old_size») (w′ .state .«new_size»)
-          → During size (predict l i e .state) × Goes size i (i .unmoved) (predict l i e .state)
-
-      by : (c ≡ Call.rehashStep) ⊎ (isStep c ≡ false) → OneCall size w i c (does w c) i′
-      by (inl e) =
-          let (on, g) = subst StepGoes (sym e) (goes-step l i size d pos _ _) tables in
+      by : Passes i c i′ → OneCall size w i c (does w c) i′
+      by (Passes.stepped kept) =
+          let (at-step, g) = goes-step size i d pos _ _ (sym (kept .tables) ∙ tables) in
+          let (on, less) = goes-kept size _ at-step i′ kept in
           record {
             during = on;
             less = omega (arith, g .less, one-at-most (answeredStep w c (does w c)) 1 0 (omega arith) (omega arith));
-            only = g .only;
-            onward = λ t. g .onward;
+            only = λ k h. g .only k (kept .only k h);
+            onward = λ t. subst (λ (n : ℕ). Onward size (i .unmoved) (i .index) n) (sym (kept .index)) (g .onward);
           }
-      by (inr f) =
-          let (on, kept, less) = goes-other l i size d pos _ _ c f tables in
+      by (Passes.stayed f kept) =
+          let (on, less) = goes-kept size i d i′ kept in
           let none = no-step w c (does w c) f (then .matches .index ∙ kept .index ∙ sym (along [] .matches .index)) in
           record {
             during = on;
@@ -342,7 +338,7 @@ module _ (does : World → Call → Outcome) (l : Lengths) where
           by : (t : Bool) → v .state .rehashing ≡ t → v .state .rehashing ≡ false
           by false r = r
           by true r =
-              let still = still-turned l j _ _ (moving-tables l v j (along before) r) first _ _ (then e) in
+              let still = still-turned l j _ _ (moving-tables l v j (along before) r) _ _ first (then e) in
               let last = ap (λ (k : Ideal). k .turned) (replay-last before i first) in
               absurd (not-before (r, along before .matches .turned ∙ sym (at .matches .turned ∙ last ∙ still)))
 

@@ -15,7 +15,7 @@ use Rattle.model.specs.Calls.{acceptable}
 use Rattle.model.specs.Walk.{Tables}
 use Rattle.model.specs.Sequences.{World, KeyCall, ReadCall, Call, Outcome, carry, run, Event, event, events, keysOf, valueFor, withPairs, mapAnswer, mapDoes}
 use Rattle.cursor.specs.Next.{next}
-use Rattle.refinement.specs.Demand3.{Lengths, lengthsOf, Ideal, ideal, begun, startNumber, startAnswer, keyAnswer, resizeAnswer, afterStep, groupPairs, scanAnswer, readAnswer, predict, replay, Answered, Demand3}
+use Rattle.refinement.specs.Demand3.{Lengths, lengthsOf, Ideal, ideal, begun, startNumber, startAnswer, keyAnswer, onAnswer, resizeAnswer, afterStep, groupPairs, scanAnswer, readAnswer, predict, replay, Answered, Demand3}
 use Rattle.refinement.proofs.IdealSteps.{either, any-step}
 use Rattle.refinement.proofs.PlainMaps.{length-changed, length-taken}
 
@@ -45,12 +45,12 @@ abbrev Counted : Ideal → Call → Reply Ideal → Type 0
 Counted i c r = pairs (r .state) ≡ cond (eqb (r .number) 0) (keysAfter c (pairs i)) (pairs i)
 
 module _ (i : Ideal) where
-  keyed : (key : ℕ) (c : KeyCall) → Counted i (Call.on key c) (keyAnswer i (mapDoes (i .plain) key c))
-  unfolding keyAnswer mapDoes mapAnswer withPairs reply ideal keysAfter
+  keyed : (key : ℕ) (c : KeyCall) → Counted i (Call.on key c) (onAnswer i c (mapDoes (i .plain) key c))
+  unfolding onAnswer keyAnswer mapDoes mapAnswer withPairs reply ideal keysAfter
   keyed key c = by c (valueFor key (i .plain .pairs)) refl
     where
       by : (c : KeyCall) (o : Option ℕ) → valueFor key (i .plain .pairs) ≡ o
-          → Counted i (Call.on key c) (keyAnswer i (mapAnswer (i .plain) key c o))
+          → Counted i (Call.on key c) (onAnswer i c (mapAnswer (i .plain) key c o))
       by KeyCall.find none e = refl
       by KeyCall.find (some held) e = refl
       by (KeyCall.update value) none e = refl
@@ -60,7 +60,7 @@ module _ (i : Ideal) where
         where
           room : (t : Bool)
               → Counted i (Call.on key (KeyCall.add value))
-              (keyAnswer i
+              (onAnswer i (KeyCall.add value)
               (cond t (reply 5 [] (i .plain)) (reply 0 [] (withPairs (i .plain) (record { key = key; value = value } ∷ i .plain .pairs)))))
           room true = refl
           room false = omega arith
@@ -82,7 +82,8 @@ module _ (i : Ideal) where
           either (Counted i (Call.resize size)) (acceptable old (cond (i .turned) (l .first) (l .second)) size)
           (reply 0 [] (ideal (i .plain) (Tables.two old size) (i .turned) (keysOf (i .plain .pairs)) 0)) (reply 6 [] i) refl refl
       by (Tables.two old new) = refl
-  counted l Call.rehashStep = any-step i (Counted i Call.rehashStep) (i .tables) (i .unmoved) refl (λ old new e. done old new)
+  counted l Call.rehashStep = any-step i (Counted i Call.rehashStep) (i .tables) (i .unmoved) (λ size e. refl)
+      (λ old new e. done old new)
     where
       done : (old new count : ℕ) (ks : List ℕ) (next : ℕ) → Counted i Call.rehashStep (afterStep i old new count ks next)
       done old new count [] next = refl

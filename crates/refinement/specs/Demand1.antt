@@ -1,8 +1,9 @@
 -- Demand 1: the table of answers (SPECIFICATION, "Answers"), for any meaning of the ten calls, any state and any lent memory.
--- The table goes by conditions, and they are said here in its words; how model defines the calls plays no part in them.
+-- The table goes by conditions, and they are said here in its words. How model defines the calls plays no part in them, but
+-- that add and delete during a rehash go by the world after a step, which is the step of model.
 use Prim.Native.Nat.{ℕ, zero, suc, _*_, _≤_, _<_, _+_}
 use mathlib.Core.Path.{_≡_}
-use mathlib.Core.Bool.{Bool, true, false}
+use mathlib.Core.Bool.{Bool, true, false, _&&_}
 use mathlib.Core.List.{List, [], _∷_, map}
 use mathlib.Core.Logic.{_⊎_}
 use lib.ListN.{length}
@@ -14,8 +15,8 @@ use Rattle.model.specs.Memory.{linkOf, keyOf, keysHeld, Place, keyPlace, headAt
 use Rattle.model.specs.Answers.{reply}
 use Rattle.model.specs.Calls.{sound, noState}
 use Rattle.model.specs.Walk.{tablesOf, groupPlaces}
-use Rattle.model.specs.Sequences.{World, KeyCall, ReadCall, Call, Outcome, kept}
-use Rattle.refinement.specs.Worlds.{current, other}
+use Rattle.model.specs.Sequences.{World, KeyCall, ReadCall, Call, Outcome, kept, perform, carry}
+use Rattle.refinement.specs.Worlds.{current, other, takesStep}
 
 -- By the state's flag, current is the bucket buffer of the old table (or the only one), other the other one.
 unfoldable pub BadState : World → Type 0
@@ -135,12 +136,24 @@ keyRows w key KeyCall.find = row 3 (¬ KeyHeld w key) ∷ []
 keyRows w key (KeyCall.update value) = row 3 (¬ KeyHeld w key) ∷ []
 keyRows w key KeyCall.delete = row 3 (¬ KeyHeld w key) ∷ []
 
+-- the key's chains come first
+unfoldable pub aloneRows : World → ℕ → KeyCall → List Row
+aloneRows w key c = row 2 (Damaged w (keyPlaces w key)) ∷ keyRows w key c
+
+unfoldable pub stepWorld : World → World
+stepWorld w = carry w (perform w Call.rehashStep)
+
+-- where a step comes first, it can refuse, and all else is asked of the world that it leaves
+unfoldable pub onRows : World → ℕ → KeyCall → Bool → List Row
+onRows w key c false = aloneRows w key c
+onRows w key c true = row 2 (StepDamaged w) ∷ aloneRows (stepWorld w) key c
+
 unfoldable pub rows : World → Call → List Row
 rows w (Call.init capacity size) =
     row 6 (¬ ((legalCapacity capacity ≡ true) × (legalSize size ≡ true)))
     ∷ row 1 ((length (w .first) < size) ⊎ (length (w .entries) < capacity * 3))
     ∷ []
-rows w (Call.on key c) = row 1 (BadState w) ∷ row 2 (Damaged w (keyPlaces w key)) ∷ keyRows w key c
+rows w (Call.on key c) = row 1 (BadState w) ∷ onRows w key c (takesStep c && w .state .rehashing)
 rows w (Call.resize size) =
     row 1 (BadState w)
     ∷ row 7 (w .state .rehashing ≡ true)

@@ -16,8 +16,8 @@ use Rattle.model.specs.Memory.{Place}
 use Rattle.model.specs.Answers.{Reply, reply}
 use Rattle.model.specs.Calls.{longEnough, acceptable, suggested, oldNew}
 use Rattle.model.specs.Walk.{Tables, tablesOf, smallerOf, groupPlaces}
-use Rattle.model.specs.Sequences.{World, ReadCall, Call, Outcome, carry, run, Event, events, Pair, PlainMap, keysOf, mapDoes}
-use Rattle.refinement.specs.Worlds.{current, UndamagedAt, Held, Holds}
+use Rattle.model.specs.Sequences.{World, KeyCall, ReadCall, Call, Outcome, carry, run, Event, events, Pair, PlainMap, keysOf, mapDoes}
+use Rattle.refinement.specs.Worlds.{current, UndamagedAt, Held, Holds, takesStep}
 use Rattle.refinement.specs.Demand2.{nextCursor, HandsOut}
 
 -- The lengths of the lent buffers.
@@ -75,7 +75,7 @@ unfoldable pub startAnswer : Ideal → ℕ → ℕ → ℕ → Reply Ideal
 startAnswer i capacity size zero = reply 0 [] (begun capacity size)
 startAnswer i capacity size (suc number) = reply (suc number) [] i
 
--- Find, change, add and delete answer as the map does. A key is added to the new table, if there is one.
+-- Find, change, add and delete answer as the map does. A key is added to the new table, if there is one then.
 unfoldable pub keyAnswer : Ideal → Reply PlainMap → Reply Ideal
 keyAnswer i r =
     reply (r .number) (r .values)
@@ -113,6 +113,13 @@ stepAnswer i (Tables.two old new) (k ∷ ks) =
     (afterStep i old new (length (keep moves (k ∷ ks))) (keep (λ j. not (moves j)) (k ∷ ks)) (suc b))
     (afterStep i old new 0 (k ∷ ks) (i .index + emptyVisits))
 
+-- Add and delete, where they are answered 0, take a step first; with one table that changes nothing.
+unfoldable pub stepsFirst : Ideal → KeyCall → ℕ → Ideal
+stepsFirst i c number = cond (takesStep c && eqb number 0) (stepAnswer i (i .tables) (i .unmoved) .state) i
+
+unfoldable pub onAnswer : Ideal → KeyCall → Reply PlainMap → Reply Ideal
+onAnswer i c r = keyAnswer (stepsFirst i c (r .number)) r
+
 -- A walk call's pairs are those whose bucket, in the table that has the key, is one of the group's.
 
 unfoldable pub isBucket : Table → ℕ → Place → Bool
@@ -141,7 +148,7 @@ readAnswer i ReadCall.currentTable = reply 0 [] i
 
 unfoldable pub predict : Lengths → Ideal → Call → Reply Ideal
 predict l i (Call.init capacity size) = startAnswer i capacity size (startNumber l capacity size)
-predict l i (Call.on key c) = keyAnswer i (mapDoes (i .plain) key c)
+predict l i (Call.on key c) = onAnswer i c (mapDoes (i .plain) key c)
 predict l i (Call.resize size) = resizeAnswer l i size (i .tables)
 predict l i Call.rehashStep = stepAnswer i (i .tables) (i .unmoved)
 predict l i (Call.scan cursor lent) = scanAnswer i cursor (length (groupPairs i cursor)) (length lent)

@@ -24,7 +24,7 @@ UnderWay does began w [] = Ongoing began w
 UnderWay does began w (c ∷ cs) = Ongoing began w × UnderWay does began (carry w (does w c)) cs
 
 -- Its answered steps, while it is under way: the calls answered 0 that are step calls, or after which the next bucket is
--- another. One of the second kind takes a step inside another call; today there is none.
+-- another. Those of the second kind took a step inside: an add, or a delete.
 
 unfoldable pub isStep : Call → Bool
 isStep Call.rehashStep = true

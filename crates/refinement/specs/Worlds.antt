@@ -1,6 +1,8 @@
--- A store at one moment: its live tables by the state's flag, whether it is undamaged, and the pairs that it holds.
+-- A store at one moment: its live tables by the state's flag, whether it is undamaged, and the pairs that it holds; and
+-- which calls take a step first.
 use Prim.Native.Nat.{ℕ, _<_}
 use mathlib.Core.Path.{_≡_}
+use mathlib.Core.Bool.{Bool, true, false}
 use mathlib.Core.List.{List}
 use mathlib.Core.Option.{some}
 use lib.ListN.{length}
@@ -8,7 +10,7 @@ use Rattle.cursor.specs.Member.{In, Distinct}
 use Rattle.model.specs.declared.Table.{Table}
 use Rattle.model.specs.Memory.{Place, sizeOf, keysHeld, entriesAt, Undamaged, keyOf, valueOf}
 use Rattle.model.specs.Calls.{oriented}
-use Rattle.model.specs.Sequences.{World, PlainMap, keysOf, valueFor}
+use Rattle.model.specs.Sequences.{World, KeyCall, PlainMap, keysOf, valueFor}
 
 -- the bucket buffer of the old table, or the only one, and the other
 unfoldable pub current : World → List ℕ
@@ -37,3 +39,10 @@ pub record Holds (w : World) (m : PlainMap) : Type 0 where
   pub distinct : Distinct (keysOf (m .pairs))
   pub in-map : (key value : ℕ) → Held w key value → valueFor key (m .pairs) ≡ some value
   pub in-store : (key value : ℕ) → valueFor key (m .pairs) ≡ some value → Held w key value
+
+-- if a rehash is under way, these calls take a step of it first
+unfoldable pub takesStep : KeyCall → Bool
+takesStep KeyCall.find = false
+takesStep (KeyCall.update value) = false
+takesStep (KeyCall.add value) = true
+takesStep KeyCall.delete = true

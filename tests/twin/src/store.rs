@@ -44,6 +44,7 @@ pub fn is_legal_size(size: u32) -> bool {
 }
 
 /// One hash table. The front of a bucket's queue is the head of its chain.
+#[derive(Clone)]
 struct Table {
     buckets: Vec<VecDeque<Entry>>,
     held: usize,
@@ -109,6 +110,7 @@ impl Table {
 }
 
 /// A move under way: the table that is filled, and the old table's next bucket.
+#[derive(Clone)]
 struct Rehash {
     target: Table,
     next: usize,
@@ -133,6 +135,7 @@ pub enum Aim {
     Shrink,
 }
 
+#[derive(Clone)]
 pub struct Store {
     capacity: u32,
     /// The only table, or during a move the old one.
@@ -166,6 +169,15 @@ impl Store {
         self.rehash.is_some()
     }
 
+    /// The keys that the move under way has yet to move, in the order of their
+    /// buckets. With no move there are none.
+    pub fn unmoved(&self) -> impl Iterator<Item = u32> + '_ {
+        let old = self.rehash.as_ref().map(|_| &self.table);
+        old.into_iter()
+            .flat_map(|table| table.buckets.iter().flatten())
+            .map(|entry| entry.key)
+    }
+
     pub fn find(&self, key: u32) -> Result<u32, Refusal> {
         self.table
             .find(key)
@@ -185,6 +197,31 @@ impl Store {
     }
 
     pub fn add(&mut self, key: u32, value: u32) -> Result<(), Refusal> {
+        self.ride_along(|store| store.add_alone(key, value))
+    }
+
+    pub fn delete(&mut self, key: u32) -> Result<(), Refusal> {
+        self.ride_along(|store| store.delete_alone(key))
+    }
+
+    /// A call that carries a move on. While one is under way the call takes a step
+    /// first, and is answered as on the store that the step leaves. If either of
+    /// the two is refused, neither has happened.
+    fn ride_along(
+        &mut self,
+        call: impl FnOnce(&mut Store) -> Result<(), Refusal>,
+    ) -> Result<(), Refusal> {
+        if !self.is_moving() {
+            return call(self);
+        }
+        let mut copy = self.clone();
+        copy.step()?;
+        call(&mut copy)?;
+        *self = copy;
+        Ok(())
+    }
+
+    fn add_alone(&mut self, key: u32, value: u32) -> Result<(), Refusal> {
         if self.find(key).is_ok() {
             return Err(Refusal::Present);
         }
@@ -201,7 +238,7 @@ impl Store {
         Ok(())
     }
 
-    pub fn delete(&mut self, key: u32) -> Result<(), Refusal> {
+    fn delete_alone(&mut self, key: u32) -> Result<(), Refusal> {
         self.table
             .remove(key)
             .or_else(|| self.rehash.as_mut()?.target.remove(key))
@@ -388,20 +425,26 @@ mod tests {
 
     #[test]
     fn two_table_groups_hand_out_in_order() {
-        let mut store = store(16, 4, [32, 34]);
+        let mut store = store(16, 4, [0, 4, 8, 12, 1, 2, 35]);
         store.resize(16).unwrap();
-        for key in [0, 8, 4, 12, 1, 2] {
+        expect_steps(&mut store, &[(4, true)]);
+        let scan = store.scan(0);
+        assert_eq!((scan.next, keys(&scan)), (2, vec![0, 8, 4, 12]));
+        let scan = store.scan(8);
+        assert_eq!((scan.next, keys(&scan)), (2, vec![8, 4, 12]));
+        // Their steps leave key 35 alone in the old table.
+        for key in [7, 3] {
             store.add(key, 0).unwrap();
         }
-        let scan = store.scan(0);
-        assert_eq!((scan.next, keys(&scan)), (2, vec![32, 0, 8, 4, 12]));
-        let scan = store.scan(8);
-        assert_eq!((scan.next, keys(&scan)), (2, vec![32, 8, 4, 12]));
+        let scan = store.scan(3);
+        assert_eq!((scan.next, keys(&scan)), (0, vec![35, 3, 7]));
+        let scan = store.scan(11);
+        assert_eq!((scan.next, keys(&scan)), (0, vec![35, 7]));
     }
 
     #[test]
     fn the_smaller_table_comes_first_when_shrinking_too() {
-        let mut store = store(16, 8, [2, 6, 3]);
+        let mut store = store(16, 8, [0, 2, 6, 3]);
         store.resize(4).unwrap();
         store.add(10, 0).unwrap();
         let scan = store.scan(2);
@@ -419,7 +462,7 @@ mod tests {
 
     #[test]
     fn adds_during_a_move_go_to_the_new_table() {
-        let mut store = store(8, 4, [0, 1]);
+        let mut store = store(8, 4, [0, 1, 2]);
         store.resize(8).unwrap();
         expect_steps(&mut store, &[(1, true)]);
         store.add(4, 40).unwrap();
@@ -428,14 +471,99 @@ mod tests {
         assert_eq!(store.step(), Err(Refusal::NotMoving));
     }
 
+    /// The deletes themselves move the keys 0 and 1.
     #[test]
     fn a_move_ends_when_the_old_keys_are_deleted() {
-        let mut store = store(8, 4, [0, 1]);
+        let mut store = store(8, 4, [0, 1, 2, 3]);
         store.resize(2).unwrap();
-        store.delete(0).unwrap();
-        store.delete(1).unwrap();
+        store.delete(3).unwrap();
+        store.delete(2).unwrap();
+        assert_eq!(store.unmoved().count(), 0);
         expect_steps(&mut store, &[(0, false)]);
-        assert_eq!(store.size(), 2);
+        assert_eq!((store.size(), store.held()), (2, 2));
+    }
+
+    /// A store that is moved to one bucket, where a walk call hands out everything:
+    /// the new table's chain, and then the old table's buckets 0, 2, 1 and 3.
+    fn moving_to_one(capacity: u32, keys: impl IntoIterator<Item = u32>) -> Store {
+        let mut store = store(capacity, 4, keys);
+        store.resize(1).unwrap();
+        store
+    }
+
+    /// The order of the new table's chain shows that the step came first.
+    #[test]
+    fn adds_and_deletes_take_a_step_first() {
+        let mut store = moving_to_one(8, [0, 4, 1, 2]);
+        assert_eq!(keys(&store.scan(0)), [4, 0, 2, 1]);
+        store.add(5, 50).unwrap();
+        assert_eq!(keys(&store.scan(0)), [5, 0, 4, 2, 1]);
+        store.delete(0).unwrap();
+        assert_eq!(keys(&store.scan(0)), [1, 5, 4, 2]);
+        // This one's step ends the move.
+        store.add(6, 60).unwrap();
+        assert_eq!(keys(&store.scan(0)), [6, 2, 1, 5, 4]);
+        assert_eq!(store.step(), Err(Refusal::NotMoving));
+    }
+
+    /// Also where the step would end the move: the last bucket's, and in the end
+    /// one that finds no keys in the old table.
+    #[test]
+    fn a_refused_call_takes_its_step_back() {
+        let mut store = moving_to_one(3, [1, 2, 3]);
+        for unmoved in [3, 2, 1] {
+            let before = store.scan(0);
+            assert_eq!(store.add(1, 0), Err(Refusal::Present));
+            assert_eq!(store.add(4, 0), Err(Refusal::Full));
+            assert_eq!(store.delete(4), Err(Refusal::Absent));
+            assert_eq!(store.scan(0), before);
+            assert_eq!(store.unmoved().count(), unmoved);
+            expect_steps(&mut store, &[(1, unmoved > 1)]);
+        }
+        let mut empty = moving_to_one(1, []);
+        assert_eq!(empty.delete(0), Err(Refusal::Absent));
+        expect_steps(&mut empty, &[(0, false)]);
+    }
+
+    #[test]
+    fn no_other_call_takes_a_step() {
+        let mut store = moving_to_one(8, [1, 2]);
+        assert_eq!(store.find(2), Ok(20));
+        assert_eq!(store.find(3), Err(Refusal::Absent));
+        assert_eq!(store.update(2, 21), Ok(()));
+        assert_eq!(store.update(3, 0), Err(Refusal::Absent));
+        assert_eq!(store.resize(8), Err(Refusal::Moving));
+        assert_eq!(keys(&store.scan(0)), [2, 1]);
+        assert_eq!(store.suggested_size(Aim::Grow), 4);
+        expect_steps(&mut store, &[(1, true), (1, false)]);
+    }
+
+    /// Of adds alone and of deletes alone, each of which passes ten empty buckets
+    /// or moves a key.
+    #[test]
+    fn a_move_needs_no_step_of_its_own() {
+        let sparse = || {
+            let mut store = store(16, 64, [0, 1, 35]);
+            store.resize(128).unwrap();
+            store
+        };
+        let mut adding = sparse();
+        for key in 2..7 {
+            assert!(adding.is_moving());
+            adding.add(key, 0).unwrap();
+        }
+        assert_eq!(adding.unmoved().count(), 1);
+        adding.add(7, 0).unwrap();
+        assert_eq!((adding.size(), adding.held()), (128, 9));
+
+        let mut deleting = sparse();
+        deleting.delete(1).unwrap();
+        assert_eq!(deleting.unmoved().collect::<Vec<_>>(), [35]);
+        deleting.delete(35).unwrap();
+        assert_eq!(deleting.unmoved().count(), 0);
+        assert!(deleting.is_moving());
+        deleting.delete(0).unwrap();
+        assert_eq!((deleting.size(), deleting.held()), (128, 0));
     }
 
     #[test]
@@ -455,18 +583,17 @@ mod tests {
         }
     }
 
-    /// Deletes thin the old table out once its move has begun.
+    /// Deletes thin the old table out once its move has begun. The first one's step
+    /// moves key 1, the second one's passes the bucket of key 5.
     #[test]
     fn buckets_that_were_emptied_are_passed_like_others() {
-        let mut store = store(8, 32, [0, 1, 5, 11, 25]);
+        let mut store = store(8, 32, [0, 1, 5, 12, 25]);
         store.resize(64).unwrap();
         expect_steps(&mut store, &[(1, true)]);
-        store.delete(1).unwrap();
         store.delete(5).unwrap();
-        expect_steps(&mut store, &[(0, true)]);
-        store.delete(11).unwrap();
+        store.delete(12).unwrap();
         expect_steps(&mut store, &[(0, true), (1, false)]);
-        assert_eq!((store.size(), store.held()), (64, 2));
+        assert_eq!((store.size(), store.held()), (64, 3));
     }
 
     /// From the last bucket of the largest table, and from no bucket at all.

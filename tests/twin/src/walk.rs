@@ -69,7 +69,8 @@ struct Held {
 struct Progress {
     /// The old table's buckets before this one are empty.
     next: u32,
-    /// How many steps were answered since the move began, and how many may be.
+    /// How many steps were answered since the move began, those inside other calls
+    /// too, and how many may be.
     steps: u32,
     most: u32,
 }
@@ -121,8 +122,12 @@ pub struct Tally {
     pub late: usize,
     /// Moves.
     pub moves: usize,
+    /// Those of them that an add or a delete ended.
+    pub ridden: usize,
     /// Steps that only passed empty buckets, of moves that a start broke off too.
     pub passing: usize,
+    /// Steps that came with an add or a delete, of such moves too.
+    pub riding: usize,
 }
 
 impl AddAssign for Tally {
@@ -133,7 +138,9 @@ impl AddAssign for Tally {
         self.repeated += other.repeated;
         self.late += other.late;
         self.moves += other.moves;
+        self.ridden += other.ridden;
         self.passing += other.passing;
+        self.riding += other.riding;
     }
 }
 
@@ -179,10 +186,7 @@ impl Witness {
                 }
                 None => expect(reply, ABSENT, &[]),
             },
-            Command::Delete { key } => match self.held.remove(&place(key)) {
-                Some(_) => expect(reply, DONE, &[]),
-                None => expect(reply, ABSENT, &[]),
-            },
+            Command::Delete { key } => self.delete(live, key, reply),
             Command::Find { key } => match self.held.get(&place(key)) {
                 Some(held) => expect(reply, DONE, &[held.value]),
                 None => expect(reply, ABSENT, &[]),
@@ -213,10 +217,35 @@ impl Witness {
         if self.held.len() as u64 == u64::from(self.capacity) {
             return expect(reply, FULL, &[]);
         }
-        let in_new = live.new.is_some();
+        // Behind its step there may be one table only.
+        let in_new = self.ride(live)?;
         self.held.insert(place(key), Held { key, value, in_new });
         self.added.push(place(key));
         expect(reply, DONE, &[])
+    }
+
+    fn delete(&mut self, live: Live, key: u32, reply: &Reply) -> Result<(), String> {
+        if !self.held.contains_key(&place(key)) {
+            return expect(reply, ABSENT, &[]);
+        }
+        self.ride(live)?;
+        self.held.remove(&place(key));
+        expect(reply, DONE, &[])
+    }
+
+    /// The step that an add or a delete takes first during a move, unless it is
+    /// refused: whether a move is under way behind it. The call's answer does not
+    /// tell of the step, but the step is one of the move's answered ones: behind it
+    /// the next bucket is another, or the move is over.
+    fn ride(&mut self, live: Live) -> Result<bool, String> {
+        let Some(new) = live.new else {
+            return Ok(false);
+        };
+        let (_, moving) = self.advance(live.old, new);
+        self.progress.count(moving)?;
+        self.tally.riding += 1;
+        self.tally.ridden += usize::from(!moving);
+        Ok(moving)
     }
 
     fn resize(&mut self, live: Live, size: u32, reply: &Reply) -> Result<(), String> {
@@ -235,22 +264,27 @@ impl Witness {
         expect(reply, DONE, &[])
     }
 
-    /// A step moves the keys of the lowest bucket that a key still in the old
-    /// table calls for, or only comes nearer to it if it is too far off. With
-    /// none left there, before the step or behind it, the new table is the only
-    /// one.
     fn step(&mut self, live: Live, reply: &Reply) -> Result<(), String> {
         let Some(new) = live.new else {
             return expect(reply, NOT_MOVING, &[]);
         };
         let goes_on = matches!(told(reply), (DONE, [_, 1]));
         self.progress.count(goes_on)?;
+        let (moved, moving) = self.advance(live.old, new);
+        expect(reply, DONE, &[moved, u32::from(moving)])
+    }
+
+    /// A step moves the keys of the lowest bucket that a key still in the old
+    /// table calls for, or only comes nearer to it if it is too far off. With
+    /// none left there, before the step or behind it, the new table is the only
+    /// one. Told are the number of keys moved, and whether the move goes on.
+    fn advance(&mut self, old: u32, new: u32) -> (u32, bool) {
         let left = self.held.values().filter(|held| !held.in_new);
         let mut moved = 0;
-        if let Some(lowest) = left.map(|held| held.key % live.old).min() {
+        if let Some(lowest) = left.map(|held| held.key % old).min() {
             if lowest - self.progress.next < EMPTY_VISITS {
                 for held in self.held.values_mut() {
-                    if !held.in_new && held.key % live.old == lowest {
+                    if !held.in_new && held.key % old == lowest {
                         held.in_new = true;
                         moved += 1;
                     }
@@ -270,7 +304,7 @@ impl Witness {
             });
             self.tally.moves += 1;
         }
-        expect(reply, DONE, &[moved, u32::from(moving)])
+        (moved, moving)
     }
 
     fn scan(&mut self, live: Live, cursor: u32, reply: &Reply) -> Result<(), String> {
@@ -632,6 +666,14 @@ mod tests {
         let script = "N 8 32\nA 20 20\nR 4\nS\nS\nN 8 32\nA 19 19\nR 4\nS\nS\n";
         let tally = witness(script).tally();
         assert_eq!((tally.moves, tally.passing), (1, 3));
+        assert_eq!((tally.ridden, tally.riding), (0, 0));
+        // An add's step passes empty buckets, a step moves key 12, and a delete's
+        // moves key 14 and ends the move. None comes with a refused call, nor with
+        // one behind the end.
+        let script = "N 3 16\nA 12 0\nA 14 0\nR 4\nA 1 0\nA 2 0\nD 3\nS\nD 1\nA 1 0\nD 1\n";
+        let tally = witness(script).tally();
+        assert_eq!((tally.moves, tally.passing), (1, 1));
+        assert_eq!((tally.ridden, tally.riding), (1, 2));
     }
 
     #[test]
@@ -743,8 +785,8 @@ mod tests {
         // More than one, and one that was added during a move.
         let more = "N 8 4\nA 0 7\nC 0\nA 3 30\nA 2 20\n";
         expect_broken(more, &rest, "without keys [2, 3]");
-        let moving = "N 8 4\nA 0 7\nR 8\nC 0\nA 3 30\n";
-        expect_broken(moving, &rest, "without keys [3]");
+        let moving = "N 8 4\nA 0 7\nA 1 10\nR 8\nC 0\nA 3 30\n";
+        expect_broken(moving, &rest, "without keys [1, 3]");
         // Deleted and added again between two calls, or with a call between.
         let renewed = "N 8 4\nA 0 7\nA 3 30\nC 0\nD 3\nA 3 31\n";
         expect_broken(renewed, &rest, "without keys [3]");
@@ -828,27 +870,32 @@ mod tests {
         );
     }
 
-    /// The groups of two tables, here of 4 and 16 buckets, both ways round.
+    /// The groups of two tables, here of 8 and 32 buckets, both ways round. The
+    /// adds during the move take a step each, and these move keys of the lower
+    /// buckets. Behind them 71 and 38 are in the smaller table, and 9 and the four
+    /// keys of the other adds in the larger one.
     #[test]
     fn keys_out_of_a_group_are_noticed() {
-        let adds = "A 0 3\nA 4 4\nA 8 5\nA 12 6\nA 1 7\n";
-        let growing = format!("N 16 4\nA 32 1\nA 33 2\nR 16\n{adds}C 8\n");
-        let shrinking = format!("N 16 16\n{adds}R 4\nA 32 1\nA 33 2\nC 8\n");
+        let small = "A 71 1\nA 38 2\n";
+        let large = "A 7 6\nA 15 7\nA 23 8\nA 31 9\n";
+        let low = "A 0 3\nA 9 4\nA 2 5\nA 3 5\n";
+        let growing = format!("N 16 8\n{small}{low}R 32\n{large}C 23\n");
+        let shrinking = format!("N 16 32\n{large}{low}R 8\n{small}C 23\n");
         for script in [growing, shrinking] {
             expect_noticed(
                 &script,
-                &[2, 4, 32, 1, 8, 5, 4, 4, 12, 6],
+                &[0, 4, 71, 1, 23, 8, 15, 7, 31, 9],
                 &[
-                    // The larger table's buckets counted upwards: 8 and 12.
-                    (&[2, 3, 32, 1, 8, 5, 12, 6], "key 4 is missing"),
+                    // The larger table's buckets counted upwards: 23 and 31.
+                    (&[0, 3, 71, 1, 23, 8, 31, 9], "key 15 is missing"),
                     // A bucket that was passed, and others than the cursor's.
-                    (&[2, 5, 32, 1, 0, 3, 8, 5, 4, 4, 12, 6], "key 0 is not"),
-                    (&[2, 5, 32, 1, 8, 5, 4, 4, 12, 6, 1, 7], "key 1 is not"),
-                    (&[2, 5, 32, 1, 33, 2, 8, 5, 4, 4, 12, 6], "key 33 is not"),
+                    (&[0, 5, 71, 1, 7, 6, 23, 8, 15, 7, 31, 9], "key 7 is not"),
+                    (&[0, 5, 71, 1, 9, 4, 23, 8, 15, 7, 31, 9], "key 9 is not"),
+                    (&[0, 5, 38, 2, 71, 1, 23, 8, 15, 7, 31, 9], "key 38 is not"),
                     // The smaller table's bucket left out, or behind the others.
-                    (&[2, 3, 8, 5, 4, 4, 12, 6], "key 32 is missing"),
-                    (&[2, 4, 8, 5, 4, 4, 12, 6, 32, 1], "another order"),
-                    (&[2, 4, 32, 1, 4, 4, 8, 5, 12, 6], "another order"),
+                    (&[0, 3, 23, 8, 15, 7, 31, 9], "key 71 is missing"),
+                    (&[0, 4, 23, 8, 15, 7, 31, 9, 71, 1], "another order"),
+                    (&[0, 4, 71, 1, 15, 7, 23, 8, 31, 9], "another order"),
                 ],
             );
         }
@@ -868,7 +915,7 @@ mod tests {
         let ended = "N 8 4\nA 0 10\nC 0\nC 2\n";
         expect_noticed(ended, &[1, 0], &[(&[0, 0], due)]);
         // Taken from the larger size.
-        let two = "N 8 4\nA 2 20\nR 8\nA 6 60\nC 2\n";
+        let two = "N 8 4\nA 0 10\nA 2 20\nR 8\nA 6 60\nC 2\n";
         expect_noticed(
             two,
             &[1, 2, 2, 20, 6, 60],
@@ -884,7 +931,7 @@ mod tests {
 
     #[test]
     fn wrong_steps_are_noticed() {
-        let script = "N 8 4\nA 1 10\nA 5 50\nA 3 30\nR 8\nA 9 90\nS\n";
+        let script = "N 8 4\nA 0 0\nA 1 10\nA 5 50\nA 3 30\nR 8\nA 9 90\nS\n";
         let due = "0 [2, 1] is to be answered";
         expect_noticed(
             script,
@@ -898,7 +945,7 @@ mod tests {
         );
         // The last keys of the old table, moved and deleted. Other keys are in
         // the new one.
-        let ending = "N 8 16\nA 1 10\nR 8\nA 2 20\nS\n";
+        let ending = "N 8 16\nA 0 0\nA 1 10\nR 8\nA 2 20\nS\n";
         let due = "0 [1, 0] is to be answered";
         expect_noticed(
             ending,
@@ -910,7 +957,7 @@ mod tests {
                 (&[2, 0], due),
             ],
         );
-        let deleted = "N 8 16\nA 1 10\nR 8\nA 2 20\nD 1\nS\n";
+        let deleted = "N 8 16\nA 0 0\nA 1 10\nR 8\nD 1\nS\n";
         let due = "0 [0, 0] is to be answered";
         expect_noticed(deleted, &[0, 0], &[(&[0, 1], due), (&[1, 0], due)]);
         // Nine empty buckets before a filled one, ten, and after these none.
@@ -944,16 +991,18 @@ mod tests {
             &[1, 0],
             &[(&[1, 1], "8 steps or more, with 7 as its bound")],
         );
-        // The filled buckets are those that the move began with.
+        // The filled buckets are those that the move began with, and the steps of
+        // adds and deletes count too: both keys of bucket 1, key 2, and none.
         expect_noticed(
-            "N 8 8\nA 1 10\nA 2 20\nA 9 90\nR 1\nA 3 30\nD 1\nD 9\nS\n",
-            &[1, 0],
-            &[(&[1, 1], "0 [1, 0] is to be answered")],
-        );
-        expect_noticed(
-            "N 8 8\nA 1 10\nA 2 20\nA 9 90\nR 1\nS\nA 3 30\nD 2\nS\n",
+            "N 8 8\nA 1 10\nA 2 20\nA 9 90\nA 4 40\nR 1\nA 3 30\nD 4\nS\n",
             &[0, 0],
-            &[(&[0, 1], "3 steps or more, with 2 as its bound")],
+            &[(&[0, 1], "4 steps or more, with 3 as its bound")],
+        );
+        // A refused one's does not: the move goes on with its second step of two.
+        expect_noticed(
+            "N 4 16\nA 15 0\nR 1\nA 1 0\nA 1 0\nD 2\nS\n",
+            &[1, 0],
+            &[(&[1, 1], "3 steps or more, with 2 as its bound")],
         );
         // Another move has its own, behind an end and behind a start.
         expect_noticed(
@@ -966,6 +1015,33 @@ mod tests {
             &[1, 0],
             &[(&[1, 1], "2 steps or more, with 1 as its bound")],
         );
+    }
+
+    /// What a script would be answered if its adds and deletes took no step, or a
+    /// refused one did, or another call.
+    #[test]
+    fn steps_that_ride_along_wrongly_are_noticed() {
+        // One key in bucket 0, two in bucket 1, three in bucket 2 and one in bucket 3.
+        let begin = "N 8 4\nA 0 0\nA 1 0\nA 5 0\nA 2 0\nA 6 0\nA 10 0\nA 3 0\nR 8\n";
+        for (lines, moved, wrong) in [
+            ("A 4 0\n", 2, 1),
+            ("D 2\n", 2, 1),
+            ("D 0\nD 1\n", 3, 1),
+            ("A 4 0\nA 9 0\n", 2, 3),
+            ("A 3 0\n", 1, 2),
+            ("D 4\n", 1, 2),
+            ("F 0\nV 0 0\nC 0\n", 1, 2),
+        ] {
+            let due = format!("0 [{moved}, 1] is to be answered");
+            let script = format!("{begin}{lines}S\n");
+            expect_noticed(&script, &[moved, 1], &[(&[wrong, 1], &due)]);
+        }
+        // Behind the end that an add's step has made, and before one that a refused
+        // delete's has not.
+        let ended = "N 2 2\nA 1 0\nR 4\nA 3 0\nC 1\n";
+        expect_noticed(ended, &[3, 1, 1, 0], &[(&[0, 2, 1, 0, 3, 0], "key 3 is not")]);
+        let moving = "N 2 2\nA 1 0\nR 4\nD 3\nC 1\n";
+        expect_noticed(moving, &[0, 1, 1, 0], &[(&[3, 1, 1, 0], "after cursor 1")]);
     }
 
     #[test]

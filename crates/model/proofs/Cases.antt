@@ -17,7 +17,7 @@ use Rattle.model.specs.Answers.{Reply}
 use Rattle.model.specs.Memory.{chainAt}
 use Rattle.model.specs.Calls.{suggested}
 use Rattle.model.specs.Sequences.{World, Call, perform}
-use Rattle.model.specs.Cases.{Row, Gives, Walks, EachAnswers, StepsTo, Holds, AllHold, fresh, bucketZero, resting, moving, inBoth, sparse, readers, cases}
+use Rattle.model.specs.Cases.{Row, Gives, Walks, EachAnswers, StepsTo, Holds, AllHold, fresh, bucketZero, resting, moving, inBoth, sparse, rehashing, runningInto, linkedOn, counting, freeInBucket, steppers, readers, cases}
 use Rattle.model.proofs.Computing.{computing}
 use Rattle.model.proofs.Tests.{Tells, told, tells-true, tells-same, tells-and, tells-eq, tells-le}
 use Rattle.model.proofs.Suggested.{growing-capped}
@@ -136,7 +136,7 @@ all-true (row ∷ rows) h =
     (row-true row (each .0), all-true rows (each .1))
 
 computed : testAll cases ≡ true
-unfolding computing testAll test gives walks answering stepping reading same cases fresh bucketZero resting moving inBoth sparse readers
+unfolding computing testAll test gives walks answering stepping reading same cases fresh bucketZero resting moving inBoth sparse rehashing runningInto linkedOn counting freeInBucket steppers readers
 computed = refl
 
 pub cases-hold : AllHold cases

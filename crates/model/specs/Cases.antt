@@ -2,7 +2,7 @@
 use Prim.Native.Nat.{ℕ, _<_}
 use mathlib.Core.Path.{_≡_}
 use mathlib.Core.Bool.{Bool, true, false}
-use mathlib.Core.List.{List, [], _∷_}
+use mathlib.Core.List.{List, [], _∷_, _++_}
 use mathlib.Core.Option.{some}
 use lib.ListN.{replicate, set}
 use Rattle.cursor.specs.Group.{Group, oneTable, twoTables}
@@ -85,6 +85,34 @@ sparse b next =
     world (stateOf false (oldNew 16 2) (oldNew 1 0) true next 0 1) (set (replicate 16 0) b 1) (replicate 2 0)
     (0 ∷ b ∷ 10 ∷ [])
 
+-- Stores of five entries during a rehash from size 2 to 4, the first buffer current: the keys that the state counts in each
+-- table, the first free entry, the buckets of each table, the first entries.
+unfoldable pub rehashing : (old new free : ℕ) → List ℕ → List ℕ → List ℕ → World
+rehashing old new free buckets others entries =
+    world (stateOf false (oldNew 2 4) (oldNew old new) true 0 free 5) buckets others (entries ++ replicate 12 0)
+
+-- keys 0 and 4 on the chain of the old table's bucket 0, and key 8 on that of the new one's, linked on to that entry
+unfoldable pub runningInto : ℕ → World
+runningInto link =
+    rehashing 2 2 4 (1 ∷ 0 ∷ []) (3 ∷ 0 ∷ 0 ∷ 0 ∷ []) (2 ∷ 0 ∷ 10 ∷ 0 ∷ 4 ∷ 20 ∷ link ∷ 8 ∷ 30 ∷ [])
+
+-- keys 0 and 1 in the old table, and key 0's entry linked on to that one
+unfoldable pub linkedOn : ℕ → World
+linkedOn link = rehashing 2 0 3 (1 ∷ 2 ∷ []) (replicate 4 0) (link ∷ 0 ∷ 10 ∷ 0 ∷ 1 ∷ 20 ∷ [])
+
+-- keys 0, 1 and 3 in the old table, where the state counts so many
+unfoldable pub counting : ℕ → World
+counting keys = rehashing keys 0 4 (1 ∷ 2 ∷ []) (replicate 4 0) (0 ∷ 0 ∷ 10 ∷ 3 ∷ 1 ∷ 20 ∷ 0 ∷ 3 ∷ 30 ∷ [])
+
+-- key 0 in the old table, in the entry that is said to be the first free one too; the new table's bucket 0 begins with that
+-- number
+unfoldable pub freeInBucket : ℕ → World
+freeInBucket head = rehashing 1 0 1 (1 ∷ 0 ∷ []) (head ∷ 0 ∷ 0 ∷ 0 ∷ []) (0 ∷ 0 ∷ 10 ∷ [])
+
+-- the calls that take a step first: a key deleted, and another one added
+unfoldable pub steppers : ℕ → ℕ → List Call
+steppers key new = Call.on key KeyCall.delete ∷ Call.on new (KeyCall.add 30) ∷ []
+
 -- one of each call that reads a bucket's chain, but for a step: on a key, on another one to be added, and a walk call
 unfoldable pub readers : ℕ → ℕ → List Call
 readers key new =
@@ -120,6 +148,18 @@ cases =
     ∷ Row.answers (inBoth 4) (readers 4 8) 0
     ∷ Row.answers (inBoth 6) (readers 4 8) 2
     ∷ Row.answers (inBoth 6) (Call.rehashStep ∷ Call.on 2 KeyCall.find ∷ []) 0
+    ∷ Row.answers (runningInto 0) (steppers 8 12) 0
+    ∷ Row.answers (runningInto 2) (steppers 8 12) 2
+    ∷ Row.answers (runningInto 2) (Call.rehashStep ∷ Call.on 8 KeyCall.find ∷ []) 0
+    ∷ Row.answers (linkedOn 0) (steppers 1 3) 0
+    ∷ Row.answers (linkedOn 1) (steppers 1 3) 2
+    ∷ Row.answers (linkedOn 1) (Call.on 1 KeyCall.find ∷ []) 0
+    ∷ Row.answers (counting 3) (steppers 1 5) 0
+    ∷ Row.answers (counting 2) (steppers 1 5) 2
+    ∷ Row.answers (counting 2) (Call.rehashStep ∷ Call.on 1 KeyCall.find ∷ []) 0
+    ∷ Row.answers (freeInBucket 0) (Call.on 1 (KeyCall.add 30) ∷ []) 0
+    ∷ Row.answers (freeInBucket 9) (Call.on 1 (KeyCall.add 30) ∷ []) 2
+    ∷ Row.answers (freeInBucket 9) (Call.rehashStep ∷ []) 0
     ∷ Row.steps (moving 2 4) (2 ∷ 0 ∷ []) 0
     ∷ Row.steps (sparse 9 0) (1 ∷ 0 ∷ []) 0
     ∷ Row.steps (sparse 10 0) (0 ∷ 1 ∷ []) 10

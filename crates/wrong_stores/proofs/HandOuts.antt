@@ -30,12 +30,12 @@ unfoldable nexts : Unit {0}
 unfolding handing wrong.answeringNext wrong.overAgain
 nexts = tt
 
--- A bucket of the larger table twice: key 0 is added to bucket 0 of the new table, of size 2.
+-- A bucket of the larger table twice: key 0 is in bucket 0 of the old table, of size 2, and the new one has size 1.
 
 twice-walk : ExactlyOnce handsLargerTwice → HandOuts (visited 0 1 (0 ∷ []) (0 ∷ 0 ∷ []) ∷ []) true
 unfolding handing handsLargerTwice wrong.inRehash wrong.byGroup wrong.headTwice
 twice-walk d =
-    walk-at d 1 refl (Call.resize 2 ∷ add 0 10 ∷ Call.scan 0 room ∷ []) (other (other (last room refl refl refl)))
+    walk-at d 2 refl (add 0 10 ∷ Call.resize 1 ∷ Call.scan 0 room ∷ []) (other (other (last room refl refl refl)))
 
 -- `at-most-once`, within a call
 pub handsLargerTwice-excluded : ExactlyOnce handsLargerTwice → ⊥

@@ -13,7 +13,7 @@ use native.Mathlib.Omega.{arith}
 use Rattle.model.specs.declared.Table.{Table}
 use Rattle.model.specs.Limits.{largestCapacity}
 use Rattle.model.specs.Memory.{Place, linkOf, keyOf, inBucket}
-use Rattle.model.specs.Calls.{recounted, oldNew}
+use Rattle.model.specs.Calls.{stateOf, oldNew}
 use Rattle.model.specs.Sequences.{World, world, Call, Outcome, perform, run}
 use Rattle.refinement.specs.Demand1.{Demand1, nth, Chain, SoundChain, places, TooMany, GroupDamaged}
 use Rattle.refinement.specs.Demand3.{Demand3}
@@ -106,11 +106,12 @@ overlooksDamage-excluded d =
 
 -- .. and so is a group with more entries than the store holds keys: before short, and whatever the capacity.
 
--- keys 0 and 1 in the new table's two buckets, but the state counts one
+-- keys 0 and 1 in the new table's two buckets, but the state counts one; the old table, of one bucket, is empty
 miscounted : World
 miscounted =
-    let w = run perform (started perform 1) (Call.resize 2 ∷ add 0 10 ∷ add 1 11 ∷ []) in
-    world (recounted (w .state) (w .state .«free_head») (oldNew 0 1)) (w .first) (w .second) (w .entries)
+    let w = run perform (started perform 2) (add 0 10 ∷ add 1 11 ∷ []) in
+    world (stateOf true (oldNew 1 2) (oldNew 0 1) true 0 (w .state .«free_head») (w .state .capacity)) (w .first) (w .second)
+    (w .entries)
 
 -- a chain of one entry
 alone : (b head : ℕ) → 0 < head → head ≤ 3 → inBucket 2 b (keyOf (miscounted .entries) head) ≡ true

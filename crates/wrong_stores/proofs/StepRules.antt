@@ -23,7 +23,7 @@ use Rattle.wrong_stores.specs.StepRules as wrong
 use Rattle.wrong_stores.specs.StepRules.{passesEleven, passesNine, passesOne, passesFilled, passesToEnd, endsLate, neverDone, endsAtOnce}
 use Rattle.wrong_stores.specs.Rehashes as rehashes
 use Rattle.wrong_stores.specs.Rehashes.{stepsAhead}
-use Rattle.wrong_stores.proofs.Start.{computing, started, add, at, rehash-at, differ, neither, must-step-damaged, no-look}
+use Rattle.wrong_stores.proofs.Start.{computing, started, find, add, at, rehash-at, differ, neither, must-step-damaged, no-look}
 
 -- Demand 3, `answers`, `values`. One key in a table of 16, and a rehash to 8: the tenth bucket is in reach, the eleventh not.
 
@@ -117,7 +117,7 @@ endsLate-excluded-by-size d =
 pub neverDone-excluded-by-size : RehashesEnd neverDone → ⊥
 unfolding ending
 neverDone-excluded-by-size d =
-    let h = rehash-at d 2 refl [] (Call.resize 4) refl (Call.rehashStep ∷ add 0 10 ∷ Call.resize 8 ∷ Call.rehashStep ∷ [])
+    let h = rehash-at d 2 refl [] (Call.resize 4) refl (Call.rehashStep ∷ find 0 ∷ Call.resize 8 ∷ Call.rehashStep ∷ [])
     .within-size ((refl, refl), ((refl, refl), ((refl, refl), ((refl, refl), (refl, refl))))) in
     omega arith
 

@@ -5,6 +5,7 @@ pub mod KeyCalls
 pub mod Walks
 pub mod Rehashes
 pub mod StepRules
+pub mod HiddenSteps
 pub mod ReadCalls
 pub mod Refusals
 pub mod Strays

@@ -27,6 +27,7 @@ pub fn all() -> Vec<Case> {
     cases.extend(walks());
     cases.extend(states());
     cases.extend(moves());
+    cases.extend(rides());
     cases.extend(outside_the_limits());
     cases.extend(bad_and_odd_lines());
     cases.extend(whole_scripts());
@@ -143,12 +144,14 @@ fn specified() -> Vec<Case> {
             "sizes 4 and 8, cursor 2, growing",
             &[
                 ("N 8 4", "0"),
+                ("A 0 10", "0"),
+                ("A 1 11", "0"),
                 ("A 2 20", "0"),
                 ("A 3 30", "0"),
                 ("R 8", "0"),
+                // The steps of these two move keys 0 and 1.
                 ("A 6 60", "0"),
                 ("A 10 100", "0"),
-                ("A 4 40", "0"),
                 ("C 2", "0 1 3 2 20 10 100 6 60"),
             ],
         ),
@@ -156,28 +159,48 @@ fn specified() -> Vec<Case> {
             "sizes 4 and 8, cursor 2, shrinking",
             &[
                 ("N 8 8", "0"),
+                ("A 0 10", "0"),
                 ("A 2 20", "0"),
                 ("A 6 60", "0"),
                 ("A 3 30", "0"),
                 ("R 4", "0"),
+                // Its step moves key 0.
                 ("A 10 100", "0"),
                 ("C 2", "0 1 3 10 100 2 20 6 60"),
             ],
         ),
+        // Bucket 0 is the first to move: by the time that the new table has a key,
+        // the old one's bucket 0 is empty.
         dialogue(
             "sizes 4 and 16, cursors 0 and 8",
             &[
                 ("N 16 4", "0"),
-                ("A 32 1", "0"),
-                ("A 33 2", "0"),
-                ("R 16", "0"),
                 ("A 0 3", "0"),
                 ("A 4 4", "0"),
                 ("A 8 5", "0"),
                 ("A 12 6", "0"),
                 ("A 1 7", "0"),
-                ("C 0", "0 2 5 32 1 0 3 8 5 4 4 12 6"),
-                ("C 8", "0 2 4 32 1 8 5 4 4 12 6"),
+                ("R 16", "0"),
+                ("S", "0 4 1"),
+                ("C 0", "0 2 4 0 3 8 5 4 4 12 6"),
+                ("C 8", "0 2 3 8 5 4 4 12 6"),
+            ],
+        ),
+        dialogue(
+            "sizes 16 and 4, cursors 2 and 10",
+            &[
+                ("N 16 16", "0"),
+                ("A 0 2", "0"),
+                ("A 2 3", "0"),
+                ("A 6 4", "0"),
+                ("A 10 5", "0"),
+                ("A 14 6", "0"),
+                ("A 1 7", "0"),
+                ("R 4", "0"),
+                // Its step moves key 0.
+                ("A 18 1", "0"),
+                ("C 2", "0 1 5 18 1 2 3 10 5 6 4 14 6"),
+                ("C 10", "0 1 4 18 1 10 5 6 4 14 6"),
             ],
         ),
         dialogue(
@@ -407,9 +430,12 @@ fn states() -> Vec<Case> {
             &[
                 ("N 8 4", "0"),
                 ("A 0 1", "0"),
+                ("A 1 6", "0"),
+                ("A 2 7", "0"),
                 ("A 3 2", "0"),
                 ("R 8", "0"),
                 ("S", "0 1 1"),
+                // The steps of these two move keys 1 and 2.
                 ("A 4 3", "0"),
                 ("A 8 4", "0"),
                 ("A 3 5", "4"),
@@ -423,36 +449,43 @@ fn states() -> Vec<Case> {
         dialogue(
             "change, find and delete reach both tables",
             &[
-                ("N 8 2", "0"),
-                ("A 1 10", "0"),
+                ("N 8 4", "0"),
+                ("A 0 10", "0"),
+                ("A 1 11", "0"),
                 ("A 2 20", "0"),
-                ("R 4", "0"),
                 ("A 3 30", "0"),
-                ("V 1 11", "0"),
+                ("R 8", "0"),
+                // Its step moves key 0.
+                ("A 7 70", "0"),
                 ("V 3 33", "0"),
+                ("V 7 77", "0"),
                 ("V 5 55", "3"),
-                ("F 1", "0 11"),
                 ("F 3", "0 33"),
+                ("F 7", "0 77"),
                 ("F 5", "3"),
-                ("D 1", "0"),
-                ("D 1", "3"),
+                // From the new table behind a step that moves key 1, and from the
+                // old one behind a step that moves key 2.
+                ("D 7", "0"),
+                ("D 7", "3"),
                 ("D 3", "0"),
-                ("S", "0 1 0"),
-                ("C 2", "0 1 1 2 20"),
+                ("S", "0 0 0"),
+                ("C 2", "0 6 1 2 20"),
             ],
         ),
         dialogue(
             "a move ends once its old keys are deleted",
             &[
                 ("N 4 4", "0"),
+                ("A 0 5", "0"),
                 ("A 1 10", "0"),
                 ("A 2 20", "0"),
-                ("R 1", "0"),
                 ("A 3 30", "0"),
+                ("R 1", "0"),
+                // Their steps move keys 0 and 1.
+                ("D 3", "0"),
                 ("D 2", "0"),
-                ("D 1", "0"),
                 ("S", "0 0 0"),
-                ("C 9", "0 0 1 3 30"),
+                ("C 9", "0 0 2 1 10 0 5"),
             ],
         ),
         dialogue(
@@ -480,18 +513,21 @@ fn states() -> Vec<Case> {
         dialogue(
             "full counts the keys of both tables",
             &[
-                ("N 3 2", "0"),
+                ("N 4 4", "0"),
                 ("A 1 1", "0"),
                 ("A 2 2", "0"),
-                ("R 4", "0"),
                 ("A 3 3", "0"),
-                ("A 4 4", "5"),
-                ("A 1 4", "4"),
-                ("A 3 4", "4"),
+                ("R 8", "0"),
+                // Its step moves key 1.
+                ("A 4 4", "0"),
+                ("A 5 5", "5"),
+                ("A 1 5", "4"),
+                ("A 3 5", "4"),
+                ("A 4 5", "4"),
                 ("S", "0 1 1"),
-                ("A 4 4", "5"),
+                ("A 5 5", "5"),
                 ("S", "0 1 0"),
-                ("A 4 4", "5"),
+                ("A 5 5", "5"),
             ],
         ),
         dialogue(
@@ -595,9 +631,8 @@ fn moves() -> Vec<Case> {
                 ("A 20 3", "0"),
                 ("A 31 4", "0"),
                 ("R 64", "0"),
+                // Its step moves key 5, and that of the next passes bucket 9.
                 ("D 9", "0"),
-                ("S", "0 1 1"),
-                ("S", "0 0 1"),
                 ("D 20", "0"),
                 ("S", "0 0 1"),
                 ("S", "0 1 0"),
@@ -607,19 +642,20 @@ fn moves() -> Vec<Case> {
         dialogue(
             "keys added in buckets that were passed, and in those ahead",
             &[
-                ("N 4 32", "0"),
-                ("A 25 1", "0"),
-                ("R 64", "0"),
+                ("N 4 64", "0"),
+                ("A 55 1", "0"),
+                ("R 128", "0"),
                 ("S", "0 0 1"),
+                // Their steps pass the buckets from 10 to 39.
                 ("A 3 2", "0"),
-                ("A 12 3", "0"),
-                ("A 57 4", "0"),
+                ("A 42 3", "0"),
+                ("A 119 4", "0"),
                 ("S", "0 0 1"),
-                ("C 25", "0 5 2 25 1 57 4"),
+                ("C 55", "0 15 2 55 1 119 4"),
                 ("S", "0 1 0"),
                 ("S", "8"),
                 ("F 3", "0 2"),
-                ("C 25", "0 57 1 25 1"),
+                ("C 55", "0 119 1 55 1"),
             ],
         ),
         dialogue(
@@ -635,8 +671,8 @@ fn moves() -> Vec<Case> {
                 ("S", "0 0 0"),
                 ("S", "8"),
                 ("R 2", "0"),
+                // Its step is the one.
                 ("A 4001 2", "0"),
-                ("S", "0 0 0"),
                 ("S", "8"),
                 ("C 1", "0 0 1 4001 2"),
             ],
@@ -655,11 +691,11 @@ fn moves() -> Vec<Case> {
                 ("C 4", "0 2 0"),
                 ("S", "0 0 1"),
                 ("C 2", "0 1 1 2 20"),
+                // Its step moves key 13.
                 ("A 6 60", "0"),
                 ("C 1", "0 3 1 13 130"),
-                ("S", "0 1 1"),
-                ("C 3", "0 0 1 15 150"),
                 ("S", "0 1 0"),
+                ("C 3", "0 0 1 15 150"),
                 ("S", "8"),
             ],
         ),
@@ -795,7 +831,7 @@ fn moves_of_the_largest_tables() -> Case {
 /// and so do each ten of the empty buckets between it and the key before.
 fn evenly_spread(distance: u32) -> Case {
     let keys: Vec<u32> = (0..4096).step_by(distance as usize).collect();
-    let adds: String = keys.iter().map(|key| format!("A {key} 1\n")).collect();
+    let adds = adds(keys.iter().copied());
     let passing = (distance as usize - 1) / 10;
     let between = "S\n".repeat(passing + 1).repeat(keys.len() - 1);
     let script = format!("N 4096 4096\n{adds}R 1\nS\n{between}S\nC 0\n");
@@ -810,6 +846,381 @@ fn evenly_spread(distance: u32) -> Case {
         script,
         answer,
     )
+}
+
+/// Adds and deletes in the middle of a move take a step first, unless they are
+/// refused. Many of these moves are to one bucket. There a walk call at cursor 0
+/// hands out everything: the new table's chain, and then the old table's buckets,
+/// of four in the order 0, 2, 1, 3.
+fn rides() -> Vec<Case> {
+    let mut cases = vec![
+        dialogue(
+            "an add in the middle of a move moves a bucket first",
+            &[
+                ("N 8 4", "0"),
+                ("A 0 10", "0"),
+                ("A 4 14", "0"),
+                ("A 1 11", "0"),
+                ("A 2 12", "0"),
+                ("A 3 13", "0"),
+                ("R 1", "0"),
+                ("C 0", "0 0 5 4 14 0 10 2 12 1 11 3 13"),
+                ("A 5 15", "0"),
+                ("C 0", "0 0 6 5 15 0 10 4 14 2 12 1 11 3 13"),
+                ("S", "0 1 1"),
+                ("C 0", "0 0 6 1 11 5 15 0 10 4 14 2 12 3 13"),
+                ("A 6 16", "0"),
+                ("C 0", "0 0 7 6 16 2 12 1 11 5 15 0 10 4 14 3 13"),
+            ],
+        ),
+        dialogue(
+            "a delete in the middle of a move moves a bucket first",
+            &[
+                ("N 8 4", "0"),
+                ("A 0 10", "0"),
+                ("A 4 14", "0"),
+                ("A 1 11", "0"),
+                ("A 2 12", "0"),
+                ("A 3 13", "0"),
+                ("R 1", "0"),
+                // From the old table, and then from the new one.
+                ("D 2", "0"),
+                ("C 0", "0 0 4 0 10 4 14 1 11 3 13"),
+                ("D 4", "0"),
+                ("C 0", "0 0 3 1 11 0 10 3 13"),
+                ("S", "0 1 0"),
+                ("C 0", "0 0 3 3 13 1 11 0 10"),
+            ],
+        ),
+        dialogue(
+            "a step's numbers show what came before it",
+            &[
+                ("N 8 4", "0"),
+                ("A 0 1", "0"),
+                ("A 1 2", "0"),
+                ("A 5 3", "0"),
+                ("A 2 4", "0"),
+                ("A 6 5", "0"),
+                ("A 10 6", "0"),
+                ("A 3 7", "0"),
+                ("R 8", "0"),
+                ("A 4 8", "0"),
+                ("S", "0 2 1"),
+                ("D 4", "0"),
+                ("S", "0 1 0"),
+                ("S", "8"),
+            ],
+        ),
+        dialogue(
+            "a delete of a key that its own step moves",
+            &[
+                ("N 4 2", "0"),
+                ("A 0 1", "0"),
+                ("A 2 2", "0"),
+                ("A 4 3", "0"),
+                ("A 1 4", "0"),
+                ("R 1", "0"),
+                ("C 0", "0 0 4 4 3 2 2 0 1 1 4"),
+                ("D 2", "0"),
+                ("C 0", "0 0 3 0 1 4 3 1 4"),
+                ("S", "0 1 0"),
+            ],
+        ),
+        dialogue(
+            "a refused add or delete moves nothing",
+            &[
+                ("N 4 4", "0"),
+                ("A 0 10", "0"),
+                ("A 4 14", "0"),
+                ("A 1 11", "0"),
+                ("A 2 12", "0"),
+                ("R 1", "0"),
+                ("C 0", "0 0 4 4 14 0 10 2 12 1 11"),
+                ("A 1 99", "4"),
+                ("C 0", "0 0 4 4 14 0 10 2 12 1 11"),
+                ("A 7 70", "5"),
+                ("C 0", "0 0 4 4 14 0 10 2 12 1 11"),
+                ("D 7", "3"),
+                ("C 0", "0 0 4 4 14 0 10 2 12 1 11"),
+                ("D 1", "0"),
+                ("C 0", "0 0 3 0 10 4 14 2 12"),
+                // Held in the old table, and in the new one.
+                ("A 2 99", "4"),
+                ("A 4 99", "4"),
+                ("C 0", "0 0 3 0 10 4 14 2 12"),
+                ("D 1", "3"),
+                ("C 0", "0 0 3 0 10 4 14 2 12"),
+                ("A 8 18", "0"),
+                ("C 0", "0 0 4 8 18 2 12 0 10 4 14"),
+                ("A 9 19", "5"),
+                ("S", "8"),
+            ],
+        ),
+        dialogue(
+            "a refused add or delete does not end a move",
+            &[
+                ("N 1 4", "0"),
+                ("A 1 10", "0"),
+                ("R 8", "0"),
+                ("A 1 11", "4"),
+                ("R 2", "7"),
+                ("A 2 20", "5"),
+                ("R 2", "7"),
+                ("D 2", "3"),
+                ("R 2", "7"),
+                ("C 1", "0 3 1 1 10"),
+                ("S", "0 1 0"),
+                ("C 1", "0 5 1 1 10"),
+                ("D 1", "0"),
+                // The same with no keys.
+                ("R 4", "0"),
+                ("D 1", "3"),
+                ("R 2", "7"),
+                ("S", "0 0 0"),
+                ("S", "8"),
+            ],
+        ),
+        dialogue(
+            "a refused add or delete passes no buckets",
+            &[
+                ("N 2 64", "0"),
+                ("A 25 1", "0"),
+                ("R 4", "0"),
+                ("A 1 2", "0"),
+                ("A 1 3", "4"),
+                ("A 5 5", "5"),
+                ("D 9", "3"),
+                ("S", "0 0 1"),
+                ("A 25 3", "4"),
+                ("S", "0 1 0"),
+                ("C 1", "0 3 2 25 1 1 2"),
+            ],
+        ),
+        dialogue(
+            "find, change and walk calls take no step, nor do other refused lines",
+            &[
+                ("N 8 4", "0"),
+                ("A 0 10", "0"),
+                ("A 4 14", "0"),
+                ("A 1 11", "0"),
+                ("A 2 12", "0"),
+                ("R 1", "0"),
+                ("F 0", "0 10"),
+                ("F 7", "3"),
+                ("V 4 15", "0"),
+                ("V 7 70", "3"),
+                ("R 2", "7"),
+                ("N 0 4", "6"),
+                ("A 5", "10"),
+                ("C 3", "0 0 0"),
+                ("C 0", "0 0 4 4 15 0 10 2 12 1 11"),
+                ("S", "0 2 1"),
+                ("F 4", "0 15"),
+                ("V 1 16", "0"),
+                ("C 0", "0 0 4 0 10 4 15 2 12 1 16"),
+                ("S", "0 1 1"),
+                ("S", "0 1 0"),
+                ("C 0", "0 0 4 2 12 1 16 0 10 4 15"),
+            ],
+        ),
+        dialogue(
+            "a move ended by adds alone",
+            &[
+                ("N 8 4", "0"),
+                ("A 0 10", "0"),
+                ("A 1 11", "0"),
+                ("A 2 12", "0"),
+                ("R 8", "0"),
+                ("A 4 14", "0"),
+                ("A 5 15", "0"),
+                ("R 16", "7"),
+                ("A 6 16", "0"),
+                ("S", "8"),
+                ("R 8", "6"),
+                ("C 2", "0 6 1 2 12"),
+                ("C 6", "0 1 1 6 16"),
+            ],
+        ),
+        dialogue(
+            "a move ended by deletes alone",
+            &[
+                ("N 8 4", "0"),
+                ("A 0 10", "0"),
+                ("A 1 11", "0"),
+                ("A 2 12", "0"),
+                ("R 8", "0"),
+                ("D 0", "0"),
+                ("D 1", "0"),
+                ("R 16", "7"),
+                ("D 2", "0"),
+                ("S", "8"),
+                ("R 8", "6"),
+                ("C 2", "0 0 0"),
+            ],
+        ),
+        dialogue(
+            "a delete behind a step ends the move",
+            &[
+                ("N 8 4", "0"),
+                ("A 1 10", "0"),
+                ("A 2 20", "0"),
+                ("R 8", "0"),
+                ("S", "0 1 1"),
+                ("D 1", "0"),
+                ("S", "8"),
+                ("F 1", "3"),
+                ("C 2", "0 6 1 2 20"),
+            ],
+        ),
+        dialogue(
+            "an add that ends the move goes into the only table then",
+            &[
+                ("N 4 4", "0"),
+                ("A 3 30", "0"),
+                ("R 8", "0"),
+                ("A 7 70", "0"),
+                ("S", "8"),
+                ("C 3", "0 7 1 3 30"),
+                ("C 7", "0 0 1 7 70"),
+                // The next move takes both along, and begins at bucket 0.
+                ("R 2", "0"),
+                ("A 1 10", "0"),
+                ("A 5 50", "0"),
+                ("S", "8"),
+                ("C 1", "0 0 4 5 50 7 70 1 10 3 30"),
+            ],
+        ),
+        dialogue(
+            "the old table's last key deleted in the middle: the next add ends the move",
+            &[
+                ("N 2 4", "0"),
+                ("A 0 10", "0"),
+                ("A 3 13", "0"),
+                ("R 8", "0"),
+                ("A 7 17", "5"),
+                ("D 3", "0"),
+                ("R 2", "7"),
+                ("C 0", "0 2 1 0 10"),
+                ("A 0 11", "4"),
+                ("R 2", "7"),
+                ("A 7 17", "0"),
+                ("S", "8"),
+                ("C 0", "0 4 1 0 10"),
+                ("C 7", "0 0 1 7 17"),
+            ],
+        ),
+        dialogue(
+            "the old table's last key deleted in the middle: the next delete ends the move",
+            &[
+                ("N 2 4", "0"),
+                ("A 0 10", "0"),
+                ("A 3 13", "0"),
+                ("R 8", "0"),
+                ("D 3", "0"),
+                ("D 3", "3"),
+                ("R 2", "7"),
+                ("D 0", "0"),
+                ("S", "8"),
+                ("C 4", "0 0 0"),
+            ],
+        ),
+        behind_adds_and_deletes(39, &[]),
+        behind_adds_and_deletes(40, &["0 1 0"]),
+        behind_adds_and_deletes(49, &["0 1 0"]),
+        behind_adds_and_deletes(50, &["0 0 1", "0 1 0"]),
+        dialogue(
+            "a walk goes on while adds and deletes carry the move",
+            &[
+                ("N 8 4", "0"),
+                ("A 0 10", "0"),
+                ("A 1 11", "0"),
+                ("A 2 12", "0"),
+                ("A 3 13", "0"),
+                ("C 0", "0 2 1 0 10"),
+                ("R 8", "0"),
+                ("A 4 14", "0"),
+                ("C 2", "0 1 1 2 12"),
+                ("D 4", "0"),
+                ("C 1", "0 3 1 1 11"),
+                ("A 7 17", "0"),
+                ("C 3", "0 0 2 3 13 7 17"),
+                ("D 0", "0"),
+                ("S", "8"),
+            ],
+        ),
+        due_at_seven(
+            "grown from 8 to 16 by adds behind the seventh call: no key comes twice",
+            &[
+                ("R 16", "0"),
+                ("A 0 5", "0"),
+                ("A 1 6", "0"),
+                ("C 7", "0 15 1 7 70"),
+                ("C 15", "0 0 1 15 150"),
+            ],
+        ),
+        dialogue(
+            "shrunk from 4 to 2 by an add: a key comes twice",
+            &[
+                ("N 4 4", "0"),
+                ("A 0 7", "0"),
+                ("C 0", "0 2 1 0 7"),
+                ("R 2", "0"),
+                ("A 1 8", "0"),
+                ("C 2", "0 1 1 0 7"),
+                ("C 1", "0 0 1 1 8"),
+            ],
+        ),
+        largest_move_by_adds(),
+    ];
+    cases.extend([1, 2, 64, 1024].map(moved_by_as_many_adds));
+    cases
+}
+
+/// A key with so many empty buckets before its own: two adds and two deletes, and
+/// then what the steps answer.
+fn behind_adds_and_deletes(empty: u32, steps: &[&str]) -> Case {
+    let add = format!("A {empty} 7");
+    let find = format!("F {empty}");
+    let mut lines = vec![("N 2 64", "0"), (&add, "0"), ("R 128", "0")];
+    lines.extend([("A 1 2", "0"), ("D 1", "0"), ("A 2 3", "0"), ("D 2", "0")]);
+    lines.extend(steps.iter().map(|&answer| ("S", answer)));
+    lines.extend([("S", "8"), (&find, "0 7")]);
+    let name = format!("adds and deletes before a key behind {empty} empty buckets");
+    dialogue(&name, &lines)
+}
+
+/// The only key is in the last of 4,096 buckets. 409 adds come up to bucket 4,090,
+/// and the next one moves the key and ends the move.
+fn largest_move_by_adds() -> Case {
+    let adds = adds(1..=410);
+    let script = format!("N 4096 4096\nA 4095 7\nR 1\n{adds}S\nC 0\n");
+
+    let done = "0\n".repeat(3 + 410);
+    let passing: String = (1..=409).rev().map(|key| format!(" {key} 1")).collect();
+    let answer = format!("{done}8\n0 0 411 410 1 4095 7{passing}\n");
+    computed("a move from 4,096 buckets by adds alone", script, answer)
+}
+
+/// A key in each of so many buckets, and as many adds that move them to a table
+/// of twice the size. The last but one leaves the move under way.
+fn moved_by_as_many_adds(size: u32) -> Case {
+    let doubled = 2 * size;
+    let last = doubled - 1;
+    let held = adds(0..size);
+    let added = adds(size..last);
+    let end = format!("R 1\nA {last} 1\nS\nC {last}\n");
+    let script = format!("N 4096 {size}\n{held}R {doubled}\n{added}{end}");
+
+    let done = "0\n".repeat(doubled as usize + 1);
+    let answer = format!("{done}7\n0\n8\n0 0 1 {last} 1\n");
+    let name = format!("{size} buckets moved by as many adds");
+    computed(&name, script, answer)
+}
+
+/// Adds keys, each with the value 1.
+fn adds(keys: impl IntoIterator<Item = u32>) -> String {
+    let lines = keys.into_iter().map(|key| format!("A {key} 1\n"));
+    lines.collect()
 }
 
 /// Lines with a capacity or a size that the program refuses, be it legal for the
@@ -845,12 +1256,14 @@ fn refused_start(line: &str) -> Case {
         &[
             (line, "6"),
             ("F 1", "1"),
-            ("N 3 4", "0"),
+            ("N 4 4", "0"),
             ("A 1 10", "0"),
             ("A 2 20", "0"),
+            ("A 3 30", "0"),
             (line, "6"),
             ("F 1", "0 10"),
             ("R 8", "0"),
+            // Its step moves key 1.
             ("A 5 50", "0"),
             (line, "6"),
             ("C 1", "0 3 2 1 10 5 50"),
@@ -860,7 +1273,7 @@ fn refused_start(line: &str) -> Case {
             (line, "6"),
             ("S", "8"),
             ("C 1", "0 5 1 1 10"),
-            ("A 3 30", "5"),
+            ("A 4 40", "5"),
         ],
     )
 }

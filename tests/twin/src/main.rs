@@ -118,6 +118,10 @@ impl Plan {
             "twin: {} moves ended within their steps, {} steps only passed empty buckets",
             sum.moves, sum.passing
         );
+        println!(
+            "twin: {} steps came with an add or a delete, {} of them ended a move",
+            sum.riding, sum.ridden
+        );
         println!("twin: {scripts} scripts agree, seed {}", self.seed);
         Ok(())
     }

@@ -4,7 +4,7 @@
 //! walk has to be handed the cursors that its calls are answered.
 
 use crate::program::{Command, Program, MAX_SCRIPT, ROOM};
-use crate::store::{Aim, MAX_SIZE};
+use crate::store::{Aim, Store, MAX_SIZE};
 
 /// The splitmix64 generator: small, quick, and good enough for scripts.
 pub struct Random(u64);
@@ -63,43 +63,52 @@ enum Action {
     /// A cursor that came from no walk.
     Forge,
     Wrong,
+    /// An add or a delete in the middle of a move.
+    Ride,
 }
 
-const ACTIONS: [Action; 10] = {
+const ACTIONS: [Action; 11] = {
     use Action::*;
     [
-        Start, Add, Update, Delete, Find, Resize, Step, Walk, Forge, Wrong,
+        Start, Add, Update, Delete, Find, Resize, Step, Walk, Forge, Wrong, Ride,
     ]
 };
 
 /// How often each action comes up in a stretch of a script, in their order.
-type Mood = [u32; 10];
+type Mood = [u32; 11];
 
-const MOODS: [Mood; 5] = [
+const MOODS: [Mood; 6] = [
     // Fill.
-    [1, 200, 6, 6, 6, 6, 12, 12, 2, 6],
+    [1, 200, 6, 6, 6, 6, 12, 12, 2, 6, 6],
     // Drain.
-    [1, 12, 6, 160, 6, 6, 12, 12, 2, 6],
+    [1, 12, 6, 160, 6, 6, 12, 12, 2, 6, 6],
     // Walk through resizes.
-    [1, 20, 4, 16, 2, 30, 50, 120, 6, 4],
+    [1, 20, 4, 16, 2, 30, 50, 120, 6, 4, 20],
     // Look things up.
-    [1, 20, 60, 20, 60, 10, 20, 10, 20, 6],
+    [1, 20, 60, 20, 60, 10, 20, 10, 20, 6, 10],
     // Anything, wrong lines above all.
-    [8, 20, 10, 10, 10, 20, 20, 20, 20, 60],
+    [8, 20, 10, 10, 10, 20, 20, 20, 20, 60, 20],
+    // Carry moves on.
+    [1, 6, 6, 6, 6, 6, 12, 20, 2, 6, 100],
 ];
 
 /// Those of a script whose tables are sparse.
-const SPARSE_MOODS: [Mood; 3] = [
+const SPARSE_MOODS: [Mood; 4] = [
     // Step on.
-    [1, 8, 2, 4, 2, 16, 400, 16, 2, 8],
+    [1, 8, 2, 4, 2, 16, 400, 16, 2, 8, 8],
     // Do anything between two steps.
-    [1, 40, 10, 20, 10, 20, 120, 40, 10, 30],
+    [1, 40, 10, 20, 10, 20, 120, 40, 10, 30, 20],
     // Walk on with the steps.
-    [0, 8, 2, 8, 2, 16, 100, 100, 2, 4],
+    [0, 8, 2, 8, 2, 16, 100, 100, 2, 4, 8],
+    // Carry moves on.
+    [0, 4, 4, 4, 4, 4, 20, 10, 2, 4, 200],
 ];
 
 /// The least size of a table that few keys leave sparse.
 const LARGE: u32 = 64;
+
+/// The largest table that is walked from end to end behind a refused call.
+const SMALL: u32 = 16;
 
 /// Capacities and sizes that the program has no room for. Some are legal for the
 /// library: a program that forgot its own limit would be found out by them.
@@ -276,11 +285,14 @@ impl Generator {
     }
 
     fn act(&mut self, action: Action) {
-        if let Action::Walk = action {
-            return self.walk();
+        match action {
+            Action::Walk => self.walk(),
+            Action::Ride => self.ride(),
+            _ => {
+                let line = self.line(action);
+                self.push(&line);
+            }
         }
-        let line = self.line(action);
-        self.push(&line);
     }
 
     /// Appends a line, if it still fits, and runs it on the model.
@@ -310,6 +322,65 @@ impl Generator {
         }
     }
 
+    /// An add or a delete in the middle of a move; with none a resize comes first.
+    /// Such a call would have taken a step, so all is looked at behind a refused one.
+    fn ride(&mut self) {
+        if !self.program.store().is_some_and(Store::is_moving) {
+            self.act(Action::Resize);
+        }
+        let line = match self.random.below(8) {
+            0 => format!("A {} 1", self.key_that_is(true)),
+            1 => format!("D {}", self.key_that_is(false)),
+            2 => format!("D {}", self.last_to_move()),
+            3 | 4 => format!("D {}", self.key_that_is(true)),
+            _ => format!("A {} {}", self.key_that_is(false), self.value()),
+        };
+        if self.push(line.as_bytes()).is_none() {
+            self.look_round();
+        }
+    }
+
+    /// A key that is held, or one that is not, if a few draws come to one.
+    fn key_that_is(&mut self, held: bool) -> u32 {
+        let mut key = self.key();
+        for _ in 0..10 {
+            let found = self.program.store().map(|store| store.find(key).is_ok());
+            if found == Some(held) {
+                break;
+            }
+            key = self.key();
+        }
+        key
+    }
+
+    /// The key that the move under way would come to last. Deleted again and again,
+    /// it leaves a move that has not come to its end without a key to move.
+    fn last_to_move(&mut self) -> u32 {
+        let store = self.program.store();
+        let last = store.and_then(|store| store.unmoved().last());
+        last.unwrap_or_else(|| self.key())
+    }
+
+    /// A whole walk, or in a larger table the call that hands out the bucket that
+    /// a step would move next.
+    fn look_round(&mut self) {
+        let Some(store) = self.program.store() else {
+            return;
+        };
+        let (mut cursor, calls) = if store.size() <= SMALL {
+            (0, SMALL)
+        } else {
+            (store.unmoved().next().unwrap_or(0), 1)
+        };
+        for _ in 0..calls {
+            let line = format!("C {cursor}");
+            cursor = self.push(line.as_bytes()).map_or(0, |results| results[0]);
+            if cursor == 0 {
+                break;
+            }
+        }
+    }
+
     /// Most walks should reach their end, or their promise is never tested.
     fn finish_walks(&mut self) {
         for _ in 0..200 {
@@ -319,14 +390,15 @@ impl Generator {
             if self.random.one_in(4) {
                 let action = self
                     .random
-                    .pick(&[Action::Step, Action::Step, Action::Resize]);
+                    .pick(&[Action::Step, Action::Ride, Action::Resize]);
                 self.act(action);
             }
             self.walk();
         }
     }
 
-    /// A line of its own for an action; a walk's line comes from its cursor.
+    /// A line of its own for an action; a walk's line comes from its cursor, and
+    /// that of a ride from the keys held.
     fn line(&mut self, action: Action) -> Vec<u8> {
         let (letter, numbers) = match action {
             Action::Start => ("N", vec![self.capacity(), self.start_size()]),
@@ -336,8 +408,9 @@ impl Generator {
             Action::Find => ("F", vec![self.key()]),
             Action::Resize => ("R", vec![self.new_size()]),
             Action::Step => ("S", vec![]),
-            Action::Walk | Action::Forge => ("C", vec![self.forged_cursor()]),
+            Action::Forge => ("C", vec![self.forged_cursor()]),
             Action::Wrong => return self.wrong_line(),
+            Action::Walk | Action::Ride => unreachable!("written by `act`"),
         };
         let mut line = letter.to_string();
         for number in numbers {
@@ -494,7 +567,7 @@ impl Generator {
 mod tests {
     use super::*;
     use crate::program::{lines, replies};
-    use crate::store::{is_legal_capacity, is_legal_size, Store};
+    use crate::store::{is_legal_capacity, is_legal_size, Refusal, Step};
     use crate::walk::{Tally, Witness};
     use std::collections::BTreeMap;
 
@@ -549,20 +622,23 @@ mod tests {
         let mut seen: BTreeMap<String, usize> = BTreeMap::new();
         for script in thousand_scripts() {
             let mut passed = false;
-            for (line, exchange) in lines(&script).zip(replies(&script)) {
-                let letter = exchange.command.map_or('?', |_| line[0].into());
-                let answer = match &exchange.reply {
+            let mut program = Program::default();
+            for line in lines(&script) {
+                let command = Command::parse(line);
+                let letter = command.map_or('?', |_| line[0].into());
+                let reply = command.map_or(Err(Refusal::BadLine), |command| program.run(command));
+                let answer = match reply {
                     Ok(step) if letter == 'S' => format!("{} {}", step[0].min(1), step[1]),
                     Ok(_) => "done".to_string(),
-                    Err(refusal) => (*refusal as u32).to_string(),
+                    Err(refusal) => (refusal as u32).to_string(),
                 };
                 let what = format!("{letter} {answer}");
+                let moving = program.store().is_some_and(Store::is_moving);
                 let begins = what == "S 0 1";
-                let ends = ["S 0 0", "S 1 0", "N done"].contains(&what.as_str());
                 if passed {
                     *seen.entry(what).or_default() += 1;
                 }
-                passed = begins || passed && !ends;
+                passed = moving && (begins || passed);
             }
         }
         let all = [
@@ -571,6 +647,62 @@ mod tests {
         ];
         assert!(seen.keys().eq(all.iter()), "{seen:?}");
         assert!(seen.values().all(|&count| count > 10), "{seen:?}");
+    }
+
+    /// What a step of the move under way would answer, before an add or a delete.
+    fn step_of(store: &Store, command: Command) -> Option<Step> {
+        let rides = matches!(command, Command::Add { .. } | Command::Delete { .. });
+        (rides && store.is_moving()).then(|| store.clone().step().unwrap())
+    }
+
+    /// Adds and deletes have to come up in the middle of moves that grow the table
+    /// and of those that shrink it, and be answered and refused, each where a step
+    /// moves a bucket, where it only passes empty ones, and where it ends the move
+    /// with the last keys or with none left. Only a full store always has one left:
+    /// a delete would have made room, and an add behind it have ended the move.
+    #[test]
+    fn scripts_ride_along_in_every_way() {
+        let mut seen: BTreeMap<String, usize> = BTreeMap::new();
+        let mut emptied = 0;
+        for script in thousand_scripts() {
+            let mut program = Program::default();
+            let mut way = "";
+            for line in lines(&script) {
+                let Some(command) = Command::parse(line) else {
+                    continue;
+                };
+                let step = program.store().and_then(|store| step_of(store, command));
+                let number = program
+                    .run(command)
+                    .map_or_else(|refusal| refusal as u32, |_| 0);
+                let Some(store) = program.store() else {
+                    continue;
+                };
+                if let (Command::Resize { size }, 0) = (command, number) {
+                    way = if size > store.size() { "up" } else { "down" };
+                }
+                let Some(Step { moved, moving }) = step else {
+                    continue;
+                };
+                let letter = char::from(line[0]);
+                let (moved, moving) = (moved.min(1), u32::from(moving));
+                let what = format!("{way} {letter} {number}, {moved} {moving}");
+                *seen.entry(what).or_default() += 1;
+                let left = store.is_moving() && store.unmoved().next().is_none();
+                emptied += usize::from(letter == 'D' && number == 0 && left);
+            }
+        }
+        let mut all = Vec::new();
+        for way in ["down", "up"] {
+            for call in ["A 0", "A 4", "A 5", "D 0", "D 3"] {
+                let steps = ["0 0", "0 1", "1 0", "1 1"];
+                let possible = steps.iter().skip(usize::from(call == "A 5"));
+                all.extend(possible.map(|step| format!("{way} {call}, {step}")));
+            }
+        }
+        assert!(seen.keys().eq(all.iter()), "{seen:?}");
+        assert!(seen.values().all(|&count| count > 20), "{seen:?}");
+        assert!(emptied > 200, "{emptied}");
     }
 
     /// Whether the program's own limit is all that speaks against the line.

@@ -1039,7 +1039,11 @@ mod tests {
         // Behind the end that an add's step has made, and before one that a refused
         // delete's has not.
         let ended = "N 2 2\nA 1 0\nR 4\nA 3 0\nC 1\n";
-        expect_noticed(ended, &[3, 1, 1, 0], &[(&[0, 2, 1, 0, 3, 0], "key 3 is not")]);
+        expect_noticed(
+            ended,
+            &[3, 1, 1, 0],
+            &[(&[0, 2, 1, 0, 3, 0], "key 3 is not")],
+        );
         let moving = "N 2 2\nA 1 0\nR 4\nD 3\nC 1\n";
         expect_noticed(moving, &[0, 1, 1, 0], &[(&[3, 1, 1, 0], "after cursor 1")]);
     }

@@ -1,0 +1,134 @@
+-- The stores of specs/HiddenSteps are excluded: by demand 3, by demand 1, and by how soon a rehash ends. And ours ends one by an
+-- add and a delete.
+-- Assumes nothing.
+use Prim.Native.Nat.{ℕ, zero, suc, _≤_}
+use mathlib.Core.Path.{_≡_, refl, sym}
+use mathlib.Core.Logic.{inl, inr}
+use mathlib.Core.List.{List, [], _∷_}
+use mathlib.Core.Bool.{false}
+use lib.ListN.{getD}
+use borrow.Author.Tests.{eqb-false}
+use native.Mathlib.Omega.{arith}
+use Rattle.model.specs.declared.Table.{Table}
+use Rattle.model.specs.Memory.{Place}
+use Rattle.model.specs.Cases.{rehashing, counting}
+use Rattle.model.specs.Sequences.{World, Call, Outcome, perform, run}
+use Rattle.refinement.specs.Demand1.{Demand1, SoundChain, Damaged, keyPlaces, stepWorld}
+use Rattle.refinement.specs.Demand3.{Demand3}
+use Rattle.refinement.specs.RehashesEnd.{UnderWay, answeredSteps, RehashesEnd}
+use Rattle.wrong_stores.specs.Rehashes as rehashes
+use Rattle.wrong_stores.specs.HiddenSteps as wrong
+use Rattle.wrong_stores.specs.HiddenSteps.{addsUnmoved, deletesUnmoved, addsAfterTwo, addsPassingOne, addStepStays, deleteStepStays, findsStepping, updatesStepping, walksStepping, looksBefore}
+use Rattle.wrong_stores.proofs.Start.{computing, started, room, find, update, add, delete, at, rehash-at, apart, neither, no-look}
+
+unfoldable stepping : Unit {0}
+unfolding computing rehashes.goingOn wrong.addAlone wrong.deleteAlone wrong.stepped wrong.alsoSteps addsUnmoved deletesUnmoved addsAfterTwo addsPassingOne addStepStays deleteStepStays findsStepping updatesStepping walksStepping looksBefore
+stepping = tt
+
+-- Demand 3, `answers`, `number`. Key 0 is the only one, and a rehash from size 2 to 4 is begun: a call, and then a step, ..
+
+abbrev thenStep : Call → List Call
+thenStep c = add 0 10 ∷ Call.resize 4 ∷ c ∷ Call.rehashStep ∷ []
+
+-- .. which is refused, since an add or a delete has moved key 0, and that ended the rehash; ..
+pub addsUnmoved-excluded : Demand3 addsUnmoved → ⊥
+unfolding stepping
+addsUnmoved-excluded d = eqb-false 0 8 refl (at d 2 refl (thenStep (add 1 11)) .answers .1 .1 .1 .0 .number)
+
+pub deletesUnmoved-excluded : Demand3 deletesUnmoved → ⊥
+unfolding stepping
+deletesUnmoved-excluded d = eqb-false 0 8 refl (at d 2 refl (thenStep (delete 0)) .answers .1 .1 .1 .0 .number)
+
+-- .. and is answered, since no other call has
+pub findsStepping-excluded : Demand3 findsStepping → ⊥
+unfolding stepping
+findsStepping-excluded d = eqb-false 8 0 refl (at d 2 refl (thenStep (find 0)) .answers .1 .1 .1 .0 .number)
+
+pub updatesStepping-excluded : Demand3 updatesStepping → ⊥
+unfolding stepping
+updatesStepping-excluded d = eqb-false 8 0 refl (at d 2 refl (thenStep (update 0 20)) .answers .1 .1 .1 .0 .number)
+
+pub walksStepping-excluded : Demand3 walksStepping → ⊥
+unfolding stepping
+walksStepping-excluded d = eqb-false 8 0 refl (at d 2 refl (thenStep (Call.scan 0 room)) .answers .1 .1 .1 .0 .number)
+
+-- With keys 0 and 1 an add leaves one of them in the old table, and a step is answered.
+pub addsAfterTwo-excluded : Demand3 addsAfterTwo → ⊥
+unfolding stepping
+addsAfterTwo-excluded d = eqb-false 8 0 refl (at d 2 refl (add 1 11 ∷ thenStep (add 2 12)) .answers .1 .1 .1 .1 .0 .number)
+
+-- After an add that is refused, key 0 is still found; ..
+pub addStepStays-excluded : Demand3 (addStepStays 4) → ⊥
+unfolding stepping
+addStepStays-excluded d =
+    eqb-false 2 0 refl (at d 2 refl (add 0 10 ∷ Call.resize 4 ∷ add 0 11 ∷ find 0 ∷ []) .answers .1 .1 .1 .0 .number)
+
+-- .. and so after a delete
+pub deleteStepStays-excluded : Demand3 (deleteStepStays 3) → ⊥
+unfolding stepping
+deleteStepStays-excluded d =
+    eqb-false 2 0 refl (at d 2 refl (add 0 10 ∷ Call.resize 4 ∷ delete 1 ∷ find 0 ∷ []) .answers .1 .1 .1 .0 .number)
+
+-- Demand 1, `refusals`: the first bucket is as it was, whatever the number, ..
+
+abbrev firstBucket : Outcome → ℕ
+firstBucket o = getD (o .first) 0 0
+
+-- key 0, and those keys, in a rehash from size 2 to 4
+begun : List Call → World
+begun calls = run perform (started perform 2) (add 0 10 ∷ calls)
+
+pub addStepStays-excluded-by-refusals : (Demand1 (addStepStays 4) → ⊥) × (Demand1 (addStepStays 5) → ⊥) × (Demand1 (addStepStays 2) → ⊥)
+unfolding stepping begun rehashing counting
+addStepStays-excluded-by-refusals = (
+  λ d. apart firstBucket _ _ refl (d .refusals (begun (Call.resize 4 ∷ [])) (add 0 11) (eqb-false 4 0 refl)),
+  λ d.
+      apart firstBucket _ _ refl
+      (d .refusals (begun (add 2 12 ∷ add 3 13 ∷ Call.resize 4 ∷ [])) (add 1 11) (eqb-false 5 0 refl)),
+  λ d. apart firstBucket _ _ refl (d .refusals (counting 2) (add 5 11) (eqb-false 2 0 refl)),
+)
+
+pub deleteStepStays-excluded-by-refusals : (Demand1 (deleteStepStays 3) → ⊥) × (Demand1 (deleteStepStays 2) → ⊥)
+unfolding stepping begun rehashing counting
+deleteStepStays-excluded-by-refusals = (
+  λ d. apart firstBucket _ _ refl (d .refusals (begun (Call.resize 4 ∷ [])) (delete 1) (eqb-false 3 0 refl)),
+  λ d. apart firstBucket _ _ refl (d .refusals (counting 2) (delete 1) (eqb-false 2 0 refl)),
+)
+
+-- .. and `numbers`: after the step one key is left in the old table, as the state counts, but two are on the chain of bucket 1
+chain-long : Damaged (stepWorld (counting 2)) (keyPlaces (stepWorld (counting 2)) 5)
+unfolding computing rehashing counting
+chain-long = (Place.bucket Table.Old 1, inl refl, too-long)
+  where
+    too-long : SoundChain (stepWorld (counting 2)) (Place.bucket Table.Old 1) → ⊥
+    too-long (zero, fits, c) = eqb-false 2 0 refl (c .end)
+    too-long (suc zero, fits, c) = eqb-false 3 0 refl (c .end)
+    too-long (suc (suc count), fits, c) = omega arith
+
+pub looksBefore-excluded : Demand1 looksBefore → ⊥
+unfolding stepping rehashing counting
+looksBefore-excluded d =
+    neither (λ h. eqb-false 0 1 refl (h .1))
+    (λ h.
+    neither (λ i. eqb-false 0 2 refl (i .1)) (λ i. neither (λ j. eqb-false 0 2 refl (j .1)) (λ j. j .0 chain-long) (i .1))
+    (h .1))
+    (d .numbers (counting 2) (add 5 11))
+
+-- How soon a rehash ends, `within-filled`: one filled bucket of 16, the last, and two adds: the steps inside them count.
+pub addsPassingOne-excluded : RehashesEnd addsPassingOne → ⊥
+unfolding stepping
+addsPassingOne-excluded d =
+    let h = rehash-at d 16 refl (add 15 10 ∷ []) (Call.resize 8) refl (add 1 11 ∷ add 2 12 ∷ []) .within-filled
+    ((refl, refl), ((refl, refl), (refl, refl))) in
+    omega arith
+
+-- Ours: of two filled buckets an add moves one, and a delete the other, which ends the rehash.
+
+abbrev twoFilled : World
+twoFilled = run perform (started perform 2) (add 0 10 ∷ add 1 11 ∷ Call.resize 4 ∷ [])
+
+pub ends-inside : UnderWay perform twoFilled twoFilled (add 2 12 ∷ [])
+    × (answeredSteps perform twoFilled (add 2 12 ∷ []) ≡ 1)
+    × (run perform twoFilled (add 2 12 ∷ delete 2 ∷ []) .state .rehashing ≡ false)
+unfolding computing
+ends-inside = (((refl, refl), (refl, refl)), refl, refl)

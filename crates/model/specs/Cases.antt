@@ -91,7 +91,8 @@ unfoldable pub rehashing : (old new free : ℕ) → List ℕ → List ℕ → Li
 rehashing old new free buckets others entries =
     world (stateOf false (oldNew 2 4) (oldNew old new) true 0 free 5) buckets others (entries ++ replicate 12 0)
 
--- keys 0 and 4 on the chain of the old table's bucket 0, and key 8 on that of the new one's, linked on to that entry
+-- keys 0 and 4 on the chain of the old table's bucket 0, and key 8 on that of the new one's, linked on to that entry; the
+-- state counts two keys in each table
 unfoldable pub runningInto : ℕ → World
 runningInto link =
     rehashing 2 2 4 (1 ∷ 0 ∷ []) (3 ∷ 0 ∷ 0 ∷ 0 ∷ []) (2 ∷ 0 ∷ 10 ∷ 0 ∷ 4 ∷ 20 ∷ link ∷ 8 ∷ 30 ∷ [])

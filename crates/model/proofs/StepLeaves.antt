@@ -1,7 +1,7 @@
 -- What a rehash step leaves, whatever the memory: refused, all that was there; answered, buffers of the same lengths, and a
 -- sound state with the same keys, capacity and free head.
 -- Assumes nothing.
-use Prim.Native.Nat.{ℕ, suc, _+_, _-_, _≤_, _<_}
+use Prim.Native.Nat.{ℕ, suc, _-_, _≤_, _<_}
 use mathlib.Core.Path.{_≡_, refl, sym, ap, subst, _∙_}
 use mathlib.Core.Bool.{Bool, true, false, not, cond}
 use mathlib.Core.List.{List, [], _∷_}
@@ -17,7 +17,7 @@ use Rattle.model.specs.declared.Ahead.{Ahead}
 use Rattle.model.specs.declared.StepAnswer.{StepAnswer}
 use Rattle.model.specs.Keys.{bucketOf}
 use Rattle.model.specs.Limits.{emptyVisits}
-use Rattle.model.specs.Memory.{keyOf, sizeOf, usedOf, keysHeld, Place, budgetAt, belongs, headAt, chainAt}
+use Rattle.model.specs.Memory.{keyOf, sizeOf, usedOf, keysHeld, Place, budgetAt, chainAt}
 use Rattle.model.specs.Calls.{After, sound, oriented, checked, back, writing, stateOf, oldNew, retabled, Chains, push, ahead, moved, advanced, finished, settled, stepDone, movedChain, movedFrom, aheadOf, stepped, rehashStep}
 use Rattle.model.proofs.Fields.{length-setLink}
 use Rattle.model.proofs.Linked.{read-sound}

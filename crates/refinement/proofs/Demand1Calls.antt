@@ -2,7 +2,7 @@
 -- is refused all that was there, and where it is answered the lengths of the buffers.
 -- Assumes nothing.
 use Prim.Native.Nat.{ℕ, zero, suc, _+_, _*_, _<_, _≤_}
-use mathlib.Core.Path.{_≡_, refl, sym, subst, _∙_}
+use mathlib.Core.Path.{_≡_, refl, sym, subst}
 use mathlib.Core.Bool.{Bool, true, false, cond, and-assoc}
 use mathlib.Core.List.{List, [], _∷_}
 use mathlib.Core.Logic.{_⊎_, inl, inr}
@@ -22,10 +22,9 @@ use Rattle.model.specs.declared.ResizeAnswer.{ResizeAnswer}
 use Rattle.model.specs.declared.StepAnswer.{StepAnswer}
 use Rattle.model.specs.declared.ScanAnswer.{ScanAnswer}
 use Rattle.model.specs.Answers.{Reply, reply, errorNumber, initReply, findReply, updateReply, addReply, deleteReply, resizeReply, stepReply, sizeReply, tableReply, scanReply}
-use Rattle.model.specs.Keys.{bucketOf}
 use Rattle.model.specs.Limits.{largestExponent, legalCapacity, legalSize, emptyVisits}
-use Rattle.model.specs.Memory.{linkOf, keyOf, bucketsOf, keysHeld, Place, chainAt}
-use Rattle.model.specs.Calls.{After, oriented, reading, writing, changed, lookup, held, found, updated, push, pushed, target, takeable, added, unlinkBucket, unlinkEntry, removed, deleted, Chains, moved, longEnough, acceptable, resized, stepDone, movedChain, movedFrom, stepped}
+use Rattle.model.specs.Memory.{linkOf, bucketsOf, keysHeld, Place, chainAt}
+use Rattle.model.specs.Calls.{After, oriented, reading, writing, changed, lookup, held, found, updated, push, pushed, target, takeable, added, unlinkBucket, unlinkEntry, removed, deleted, longEnough, acceptable, resized, stepDone, movedChain, movedFrom, stepped}
 use Rattle.model.specs.Calls as calls
 use Rattle.model.specs.Walk.{AfterScan, tablesOf, group, chainsAt, atMost, scanned}
 use Rattle.model.specs.Walk as walk

@@ -24,15 +24,13 @@ use Rattle.model.specs.Answers.{Reply, reply, errorNumber, findReply, updateRep
 use Rattle.model.specs.Memory.{Place, Live, sizeOf, keysHeld, keyPlace, valueOf}
 use Rattle.model.specs.Calls.{After, writing, lookup, found, updated, added, deleted, target}
 use Rattle.model.specs.Calls as calls
-use Rattle.model.specs.Sequences.{Outcome, World, KeyCall, Call, kept, left, given, perform, carry, Pair, PlainMap, keysOf, valueFor, withValue, without, withPairs, mapAnswer, mapDoes}
+use Rattle.model.specs.Sequences.{Outcome, World, KeyCall, kept, left, given, perform, carry, Pair, PlainMap, keysOf, valueFor, withValue, without, withPairs, mapAnswer, mapDoes}
 use Rattle.model.proofs.Tests.{told, tested}
-use Rattle.refinement.specs.Worlds.{current, other, UndamagedAt, Holds}
-use Rattle.refinement.specs.Demand2.{AnswersAs}
-use Rattle.refinement.specs.Demand3.{Lengths, Ideal, ideal, among, keyAnswer, predict}
+use Rattle.refinement.specs.Worlds.{current, other}
+use Rattle.refinement.specs.Demand3.{Ideal, ideal, among, keyAnswer}
 use Rattle.invariant.proofs.Lists.{in-keep, of-keep, distinct-keep, keep-all}
 use Rattle.invariant.proofs.Shape.{IsBucket, shape-sound}
 use Rattle.invariant.proofs.Places.{key-bucket, key-live}
-use Rattle.invariant.proofs.FromUndamaged.{undamaged-shape}
 use Rattle.invariant.proofs.StoreAfter.{HeldIn, StoreAfter}
 use Rattle.invariant.proofs.Add.{target-live, added-store}
 use Rattle.invariant.proofs.Delete.{deleted-store}

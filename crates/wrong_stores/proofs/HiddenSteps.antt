@@ -1,9 +1,9 @@
 -- The stores of specs/HiddenSteps are excluded: by demand 3, by demand 1, and by how soon a rehash ends. And ours ends one by an
 -- add and a delete.
 -- Assumes nothing.
-use Prim.Native.Nat.{ℕ, zero, suc, _≤_}
-use mathlib.Core.Path.{_≡_, refl, sym}
-use mathlib.Core.Logic.{inl, inr}
+use Prim.Native.Nat.{ℕ, zero, suc}
+use mathlib.Core.Path.{_≡_, refl}
+use mathlib.Core.Logic.{inl}
 use mathlib.Core.List.{List, [], _∷_}
 use mathlib.Core.Bool.{false}
 use lib.ListN.{getD}
@@ -19,7 +19,7 @@ use Rattle.refinement.specs.RehashesEnd.{UnderWay, answeredSteps, RehashesEnd}
 use Rattle.wrong_stores.specs.Rehashes as rehashes
 use Rattle.wrong_stores.specs.HiddenSteps as wrong
 use Rattle.wrong_stores.specs.HiddenSteps.{addsUnmoved, deletesUnmoved, addsAfterTwo, addsPassingOne, addStepStays, deleteStepStays, findsStepping, updatesStepping, walksStepping, looksBefore}
-use Rattle.wrong_stores.proofs.Start.{computing, started, room, find, update, add, delete, at, rehash-at, apart, neither, no-look}
+use Rattle.wrong_stores.proofs.Start.{computing, started, room, find, update, add, delete, at, rehash-at, apart, neither}
 
 unfoldable stepping : Unit {0}
 unfolding computing rehashes.goingOn wrong.addAlone wrong.deleteAlone wrong.stepped wrong.alsoSteps addsUnmoved deletesUnmoved addsAfterTwo addsPassingOne addStepStays deleteStepStays findsStepping updatesStepping walksStepping looksBefore

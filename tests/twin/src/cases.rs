@@ -27,7 +27,7 @@ pub fn all() -> Vec<Case> {
     cases.extend(walks());
     cases.extend(states());
     cases.extend(moves());
-    cases.extend(rides());
+    cases.extend(inner_steps());
     cases.extend(outside_the_limits());
     cases.extend(bad_and_odd_lines());
     cases.extend(whole_scripts());
@@ -324,6 +324,32 @@ fn walks() -> Vec<Case> {
                 ("C 1", "0 3 1 1 11"),
                 ("A 7 70", "0"),
                 ("C 3", "0 0 1 7 70"),
+            ],
+        ),
+        // The steps of its add and of its delete move buckets 1 and 3.
+        dialogue(
+            "the tour",
+            &[
+                ("N 8 4", "0"),
+                ("A 8 40", "0"),
+                ("A 2 10", "0"),
+                ("A 1 31", "0"),
+                ("A 5 12", "0"),
+                ("A 65537 7", "0"),
+                ("A 65543 25", "0"),
+                ("C 0", "0 2 1 8 40"),
+                ("R 8", "0"),
+                ("S", "0 1 1"),
+                ("C 2", "0 1 1 2 10"),
+                ("A 65541 3", "0"),
+                ("C 1", "0 3 4 1 31 65537 7 65541 3 5 12"),
+                ("S", "0 1 1"),
+                ("F 5", "0 12"),
+                ("D 1", "0"),
+                ("F 1", "3"),
+                ("S", "8"),
+                ("C 3", "0 7 0"),
+                ("C 7", "0 0 1 65543 25"),
             ],
         ),
     ]
@@ -852,7 +878,7 @@ fn evenly_spread(distance: u32) -> Case {
 /// refused. Many of these moves are to one bucket. There a walk call at cursor 0
 /// hands out everything: the new table's chain, and then the old table's buckets,
 /// of four in the order 0, 2, 1, 3.
-fn rides() -> Vec<Case> {
+fn inner_steps() -> Vec<Case> {
     let mut cases = vec![
         dialogue(
             "an add in the middle of a move moves a bucket first",
@@ -1576,6 +1602,18 @@ mod tests {
         let last = cases.last().unwrap();
         assert_eq!(last.script.len(), LONGEST);
         assert!(last.script.ends_with(b"\n"));
+    }
+
+    /// Their answers are shown elsewhere, so they are to be those worked out here.
+    #[test]
+    fn the_samples_are_cases() {
+        let printed = include_bytes!("../../../samples/printed.txt");
+        let tour = include_bytes!("../../../samples/tour.txt");
+        for (name, sample) in [("the printed script", &printed[..]), ("the tour", tour)] {
+            let cases = all();
+            let case = cases.iter().find(|case| case.name == name).unwrap();
+            assert!(case.script == sample, "{name}");
+        }
     }
 
     #[test]

@@ -119,8 +119,8 @@ impl Plan {
             sum.moves, sum.passing
         );
         println!(
-            "twin: {} steps came with an add or a delete, {} of them ended a move",
-            sum.riding, sum.ridden
+            "twin: {} steps were taken inside an add or a delete, {} of them ended a move",
+            sum.inside, sum.ended_inside
         );
         println!("twin: {scripts} scripts agree, seed {}", self.seed);
         Ok(())

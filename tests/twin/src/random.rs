@@ -64,13 +64,13 @@ enum Action {
     Forge,
     Wrong,
     /// An add or a delete in the middle of a move.
-    Ride,
+    Carry,
 }
 
 const ACTIONS: [Action; 11] = {
     use Action::*;
     [
-        Start, Add, Update, Delete, Find, Resize, Step, Walk, Forge, Wrong, Ride,
+        Start, Add, Update, Delete, Find, Resize, Step, Walk, Forge, Wrong, Carry,
     ]
 };
 
@@ -287,7 +287,7 @@ impl Generator {
     fn act(&mut self, action: Action) {
         match action {
             Action::Walk => self.walk(),
-            Action::Ride => self.ride(),
+            Action::Carry => self.carry_on(),
             _ => {
                 let line = self.line(action);
                 self.push(&line);
@@ -323,13 +323,14 @@ impl Generator {
     }
 
     /// An add or a delete in the middle of a move; with none a resize comes first.
-    /// Such a call would have taken a step, so all is looked at behind a refused one.
-    fn ride(&mut self) {
+    /// A refused one must not have kept the step that it would have taken, so all
+    /// is looked at behind it.
+    fn carry_on(&mut self) {
         if !self.program.store().is_some_and(Store::is_moving) {
             self.act(Action::Resize);
         }
         let line = match self.random.below(8) {
-            0 => format!("A {} 1", self.key_that_is(true)),
+            0 => format!("A {} {}", self.key_that_is(true), self.value()),
             1 => format!("D {}", self.key_that_is(false)),
             2 => format!("D {}", self.last_to_move()),
             3 | 4 => format!("D {}", self.key_that_is(true)),
@@ -367,16 +368,19 @@ impl Generator {
         let Some(store) = self.program.store() else {
             return;
         };
-        let (mut cursor, calls) = if store.size() <= SMALL {
-            (0, SMALL)
-        } else {
-            (store.unmoved().next().unwrap_or(0), 1)
-        };
-        for _ in 0..calls {
-            let line = format!("C {cursor}");
-            cursor = self.push(line.as_bytes()).map_or(0, |results| results[0]);
+        if store.size() > SMALL {
+            let next = store.unmoved().next();
+            if let Some(key) = next {
+                self.push(format!("C {key}").as_bytes());
+            }
+            return;
+        }
+        let mut cursor = 0;
+        loop {
+            let results = self.push(format!("C {cursor}").as_bytes());
+            cursor = results.map_or(0, |results| results[0]);
             if cursor == 0 {
-                break;
+                return;
             }
         }
     }
@@ -390,15 +394,15 @@ impl Generator {
             if self.random.one_in(4) {
                 let action = self
                     .random
-                    .pick(&[Action::Step, Action::Ride, Action::Resize]);
+                    .pick(&[Action::Step, Action::Carry, Action::Resize]);
                 self.act(action);
             }
             self.walk();
         }
     }
 
-    /// A line of its own for an action; a walk's line comes from its cursor, and
-    /// that of a ride from the keys held.
+    /// A line of its own for an action; a walk's line comes from its cursor, and one
+    /// that carries a move on from the keys held.
     fn line(&mut self, action: Action) -> Vec<u8> {
         let (letter, numbers) = match action {
             Action::Start => ("N", vec![self.capacity(), self.start_size()]),
@@ -410,7 +414,7 @@ impl Generator {
             Action::Step => ("S", vec![]),
             Action::Forge => ("C", vec![self.forged_cursor()]),
             Action::Wrong => return self.wrong_line(),
-            Action::Walk | Action::Ride => unreachable!("written by `act`"),
+            Action::Walk | Action::Carry => unreachable!("written by `act`"),
         };
         let mut line = letter.to_string();
         for number in numbers {
@@ -570,6 +574,7 @@ mod tests {
     use crate::store::{is_legal_capacity, is_legal_size, Refusal, Step};
     use crate::walk::{Tally, Witness};
     use std::collections::BTreeMap;
+    use std::sync::OnceLock;
 
     #[test]
     fn scripts_are_repeatable_and_unlike() {
@@ -580,14 +585,17 @@ mod tests {
     }
 
     /// Many, since most keys that come more than once are those of a few long scripts.
-    fn thousand_scripts() -> impl Iterator<Item = Vec<u8>> {
-        (0..1000).map(|number| script(script_seed(1, number)))
+    fn thousand_scripts() -> &'static [Vec<u8>] {
+        static SCRIPTS: OnceLock<Vec<Vec<u8>>> = OnceLock::new();
+        let seeds = (0..1000).map(|number| script_seed(1, number));
+        SCRIPTS.get_or_init(|| seeds.map(script).collect())
     }
 
     /// Lazy scripts would agree with any program: every answer that a script
     /// can bring about has to come up often, and so do walks through resizes,
     /// with keys that come again as a table shrinks or are added ahead, and moves
-    /// to their end, with steps that only pass empty buckets.
+    /// to their end, with steps that only pass empty buckets, and with steps inside
+    /// adds and deletes.
     #[test]
     fn scripts_reach_every_answer() {
         let mut answers: BTreeMap<u32, usize> = BTreeMap::new();
@@ -596,7 +604,7 @@ mod tests {
         for script in thousand_scripts() {
             longest = longest.max(script.len());
             let mut witness = Witness::default();
-            for exchange in replies(&script) {
+            for exchange in replies(script) {
                 witness.observe(&exchange).unwrap();
                 let answer = exchange.reply.map_or_else(|refusal| refusal as u32, |_| 0);
                 *answers.entry(answer).or_default() += 1;
@@ -612,6 +620,7 @@ mod tests {
         assert!(sum.shrunk > 1000 && sum.repeated > 1000, "{sum:?}");
         assert!(sum.late > 3000, "{sum:?}");
         assert!(sum.moves > 2000 && sum.passing > 5000, "{sum:?}");
+        assert!(sum.inside > 10_000 && sum.ended_inside > 2000, "{sum:?}");
         assert!(longest <= MAX_SCRIPT && longest > 20_000, "{longest}");
     }
 
@@ -623,7 +632,7 @@ mod tests {
         for script in thousand_scripts() {
             let mut passed = false;
             let mut program = Program::default();
-            for line in lines(&script) {
+            for line in lines(script) {
                 let command = Command::parse(line);
                 let letter = command.map_or('?', |_| line[0].into());
                 let reply = command.map_or(Err(Refusal::BadLine), |command| program.run(command));
@@ -651,8 +660,8 @@ mod tests {
 
     /// What a step of the move under way would answer, before an add or a delete.
     fn step_of(store: &Store, command: Command) -> Option<Step> {
-        let rides = matches!(command, Command::Add { .. } | Command::Delete { .. });
-        (rides && store.is_moving()).then(|| store.clone().step().unwrap())
+        let carries = matches!(command, Command::Add { .. } | Command::Delete { .. });
+        (carries && store.is_moving()).then(|| store.clone().step().unwrap())
     }
 
     /// Adds and deletes have to come up in the middle of moves that grow the table
@@ -661,13 +670,13 @@ mod tests {
     /// with the last keys or with none left. Only a full store always has one left:
     /// a delete would have made room, and an add behind it have ended the move.
     #[test]
-    fn scripts_ride_along_in_every_way() {
+    fn scripts_carry_moves_on_in_every_way() {
         let mut seen: BTreeMap<String, usize> = BTreeMap::new();
         let mut emptied = 0;
         for script in thousand_scripts() {
             let mut program = Program::default();
             let mut way = "";
-            for line in lines(&script) {
+            for line in lines(script) {
                 let Some(command) = Command::parse(line) else {
                     continue;
                 };
@@ -723,7 +732,7 @@ mod tests {
         let mut refusals: BTreeMap<(Option<bool>, u8, u32), usize> = BTreeMap::new();
         for script in thousand_scripts() {
             let mut program = Program::default();
-            for line in lines(&script) {
+            for line in lines(script) {
                 let Some(command) = Command::parse(line) else {
                     continue;
                 };

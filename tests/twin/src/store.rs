@@ -8,6 +8,7 @@
 
 use crate::cursor;
 use std::collections::VecDeque;
+use std::rc::Rc;
 
 pub const MAX_CAPACITY: u32 = 65_536;
 /// Of a table, and of a suggested size too.
@@ -43,17 +44,21 @@ pub fn is_legal_size(size: u32) -> bool {
     size.is_power_of_two() && size <= MAX_SIZE
 }
 
-/// One hash table. The front of a bucket's queue is the head of its chain.
+/// The front of the queue is the head of the chain.
+type Chain = VecDeque<Entry>;
+
+/// One hash table. A copy shares the chains until one of the two is changed, so
+/// that it costs little.
 #[derive(Clone)]
 struct Table {
-    buckets: Vec<VecDeque<Entry>>,
+    buckets: Vec<Rc<Chain>>,
     held: usize,
 }
 
 impl Table {
     fn new(size: u32) -> Self {
         Table {
-            buckets: (0..size).map(|_| VecDeque::new()).collect(),
+            buckets: vec![Rc::default(); size as usize],
             held: 0,
         }
     }
@@ -67,13 +72,17 @@ impl Table {
         (hash % self.size()) as usize
     }
 
-    fn chain(&self, hash: u32) -> &VecDeque<Entry> {
+    fn chain(&self, hash: u32) -> &Chain {
         &self.buckets[self.index(hash)]
     }
 
+    fn chain_mut(&mut self, hash: u32) -> &mut Chain {
+        let index = self.index(hash);
+        Rc::make_mut(&mut self.buckets[index])
+    }
+
     fn insert(&mut self, entry: Entry) {
-        let index = self.index(entry.key);
-        self.buckets[index].push_front(entry);
+        self.chain_mut(entry.key).push_front(entry);
         self.held += 1;
     }
 
@@ -82,18 +91,15 @@ impl Table {
     }
 
     fn find_mut(&mut self, key: u32) -> Option<&mut Entry> {
-        let index = self.index(key);
-        self.buckets[index]
+        self.chain_mut(key)
             .iter_mut()
             .find(|entry| entry.key == key)
     }
 
     fn remove(&mut self, key: u32) -> Option<Entry> {
-        let index = self.index(key);
-        let chain = &mut self.buckets[index];
-        let place = chain.iter().position(|entry| entry.key == key)?;
+        let place = self.chain(key).iter().position(|entry| entry.key == key)?;
         self.held -= 1;
-        chain.remove(place)
+        self.chain_mut(key).remove(place)
     }
 
     /// The first bucket with keys among so many from bucket `start` on.
@@ -102,7 +108,7 @@ impl Table {
         (start..end).find(|&index| !self.buckets[index].is_empty())
     }
 
-    fn take_chain(&mut self, index: usize) -> VecDeque<Entry> {
+    fn take_chain(&mut self, index: usize) -> Rc<Chain> {
         let chain = std::mem::take(&mut self.buckets[index]);
         self.held -= chain.len();
         chain
@@ -174,7 +180,8 @@ impl Store {
     pub fn unmoved(&self) -> impl Iterator<Item = u32> + '_ {
         let old = self.rehash.as_ref().map(|_| &self.table);
         old.into_iter()
-            .flat_map(|table| table.buckets.iter().flatten())
+            .flat_map(|table| &table.buckets)
+            .flat_map(|chain| chain.iter())
             .map(|entry| entry.key)
     }
 
@@ -197,17 +204,17 @@ impl Store {
     }
 
     pub fn add(&mut self, key: u32, value: u32) -> Result<(), Refusal> {
-        self.ride_along(|store| store.add_alone(key, value))
+        self.step_first(|store| store.add_alone(key, value))
     }
 
     pub fn delete(&mut self, key: u32) -> Result<(), Refusal> {
-        self.ride_along(|store| store.delete_alone(key))
+        self.step_first(|store| store.delete_alone(key))
     }
 
     /// A call that carries a move on. While one is under way the call takes a step
     /// first, and is answered as on the store that the step leaves. If either of
     /// the two is refused, neither has happened.
-    fn ride_along(
+    fn step_first(
         &mut self,
         call: impl FnOnce(&mut Store) -> Result<(), Refusal>,
     ) -> Result<(), Refusal> {
@@ -274,7 +281,7 @@ impl Store {
             if let Some(index) = self.table.first_filled(rehash.next, visits) {
                 let chain = self.table.take_chain(index);
                 moved = chain.len();
-                for entry in chain {
+                for &entry in chain.iter() {
                     rehash.target.insert(entry);
                 }
                 rehash.next = index + 1;

@@ -123,11 +123,11 @@ pub struct Tally {
     /// Moves.
     pub moves: usize,
     /// Those of them that an add or a delete ended.
-    pub ridden: usize,
+    pub ended_inside: usize,
     /// Steps that only passed empty buckets, of moves that a start broke off too.
     pub passing: usize,
-    /// Steps that came with an add or a delete, of such moves too.
-    pub riding: usize,
+    /// Steps inside an add or a delete, of such moves too.
+    pub inside: usize,
 }
 
 impl AddAssign for Tally {
@@ -138,9 +138,9 @@ impl AddAssign for Tally {
         self.repeated += other.repeated;
         self.late += other.late;
         self.moves += other.moves;
-        self.ridden += other.ridden;
+        self.ended_inside += other.ended_inside;
         self.passing += other.passing;
-        self.riding += other.riding;
+        self.inside += other.inside;
     }
 }
 
@@ -218,7 +218,7 @@ impl Witness {
             return expect(reply, FULL, &[]);
         }
         // Behind its step there may be one table only.
-        let in_new = self.ride(live)?;
+        let in_new = self.step_first(live)?;
         self.held.insert(place(key), Held { key, value, in_new });
         self.added.push(place(key));
         expect(reply, DONE, &[])
@@ -228,7 +228,7 @@ impl Witness {
         if !self.held.contains_key(&place(key)) {
             return expect(reply, ABSENT, &[]);
         }
-        self.ride(live)?;
+        self.step_first(live)?;
         self.held.remove(&place(key));
         expect(reply, DONE, &[])
     }
@@ -237,14 +237,14 @@ impl Witness {
     /// refused: whether a move is under way behind it. The call's answer does not
     /// tell of the step, but the step is one of the move's answered ones: behind it
     /// the next bucket is another, or the move is over.
-    fn ride(&mut self, live: Live) -> Result<bool, String> {
+    fn step_first(&mut self, live: Live) -> Result<bool, String> {
         let Some(new) = live.new else {
             return Ok(false);
         };
         let (_, moving) = self.advance(live.old, new);
         self.progress.count(moving)?;
-        self.tally.riding += 1;
-        self.tally.ridden += usize::from(!moving);
+        self.tally.inside += 1;
+        self.tally.ended_inside += usize::from(!moving);
         Ok(moving)
     }
 
@@ -666,14 +666,14 @@ mod tests {
         let script = "N 8 32\nA 20 20\nR 4\nS\nS\nN 8 32\nA 19 19\nR 4\nS\nS\n";
         let tally = witness(script).tally();
         assert_eq!((tally.moves, tally.passing), (1, 3));
-        assert_eq!((tally.ridden, tally.riding), (0, 0));
+        assert_eq!((tally.ended_inside, tally.inside), (0, 0));
         // An add's step passes empty buckets, a step moves key 12, and a delete's
         // moves key 14 and ends the move. None comes with a refused call, nor with
         // one behind the end.
         let script = "N 3 16\nA 12 0\nA 14 0\nR 4\nA 1 0\nA 2 0\nD 3\nS\nD 1\nA 1 0\nD 1\n";
         let tally = witness(script).tally();
         assert_eq!((tally.moves, tally.passing), (1, 1));
-        assert_eq!((tally.ridden, tally.riding), (1, 2));
+        assert_eq!((tally.ended_inside, tally.inside), (1, 2));
     }
 
     #[test]
@@ -1020,7 +1020,7 @@ mod tests {
     /// What a script would be answered if its adds and deletes took no step, or a
     /// refused one did, or another call.
     #[test]
-    fn steps_that_ride_along_wrongly_are_noticed() {
+    fn wrong_steps_inside_other_calls_are_noticed() {
         // One key in bucket 0, two in bucket 1, three in bucket 2 and one in bucket 3.
         let begin = "N 8 4\nA 0 0\nA 1 0\nA 5 0\nA 2 0\nA 6 0\nA 10 0\nA 3 0\nR 8\n";
         for (lines, moved, wrong) in [

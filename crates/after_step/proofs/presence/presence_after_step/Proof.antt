@@ -1,0 +1,16 @@
+-- `after_step::presence::presence_after_step` meets its contract: the state's flag says which buffer is the current one.
+-- Assumes nothing.
+use borrow.Author.Needs.{needs}
+use Rattle.memory.proofs.Tested.{lent-first, lent-second}
+use Rattle.after_step.proofs.Deciding.{lent-first-step, lent-second-step}
+use Rattle.after_step.proofs.presence.presence_after_step.Statement.{statement}
+use Rattle.after_step.proofs.presence.presence_after_step.Tie as tie
+
+pub presence-after-step-spec : {M : Type 1} → statement M
+presence-after-step-spec =
+    tie.close
+    (tie.spec
+    (λ c κs. (search lent-second, search needs))
+    (λ c κs. (search lent-first, search needs))
+    (λ c. search lent-second-step)
+    (λ c. search lent-first-step))

@@ -1,0 +1,3 @@
+-- What a lookup finds after a rehash step, and what the functions below the public one tell of it.
+pub mod Presence
+pub mod Told

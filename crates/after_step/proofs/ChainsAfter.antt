@@ -21,7 +21,8 @@ use Rattle.model.proofs.Shared.{lastOr, shared-last}
 use Rattle.memory.specs.Length.{bucketChain}
 use Rattle.dict_rehash.specs.Progress.{chains}
 use Rattle.after_step.specs.Told.{bound, howMany}
-use Rattle.after_step.proofs.Moving.{moved-key, moved-link, chain-same}
+use Rattle.model.proofs.Moved.{moved-key, moved-link}
+use Rattle.after_step.proofs.SameChains.{chain-same}
 use Rattle.after_step.proofs.Stacking.{stacked, Movable, moved-in-front, moved-before}
 
 -- ---- old chains

@@ -30,7 +30,7 @@ use Rattle.dict_rehash.specs.Progress.{chains}
 use Rattle.after_step.specs.declared.presence.Presence.{Presence}
 use Rattle.after_step.specs.Presence.{presence, presenceAfter, presenceThen}
 use Rattle.after_step.specs.Told.{bound, howMany, has, heldIf, either, newThen, oldThen, tablesThen, Moves}
-use Rattle.after_step.proofs.Moving.{moved-key}
+use Rattle.model.proofs.Moved.{moved-key}
 use Rattle.after_step.proofs.Stacking.{stacked}
 use Rattle.after_step.proofs.ChainsAfter.{unlessLast, old-chain-kept, old-chain-emptied, new-chain-after}
 use Rattle.after_step.proofs.Presences.{seen, seen-kept, presence-both, presence-in, has-stacked}

@@ -21,7 +21,8 @@ use Rattle.model.proofs.Fields.{length-setLink}
 use Rattle.model.proofs.Linked.{Linked, read-sound, read-complete, linked-kept, linked-first, linked-distinct, link-set-other}
 use Rattle.memory.specs.Length.{bucketChain}
 use Rattle.after_step.specs.Told.{bound, howMany}
-use Rattle.after_step.proofs.Moving.{key-kept, link-written, chain-same}
+use Rattle.model.proofs.Fields.{link-set-same, key-set-link}
+use Rattle.after_step.proofs.SameChains.{chain-same}
 
 -- the entries of ns that pass, each put in front in turn: last first, and then ms
 unfoldable pub stacked : (ℕ → Bool) → List ℕ → List ℕ → List ℕ
@@ -66,7 +67,7 @@ module _ (size c capacity : ℕ) (filled : 0 < size) (test : ℕ → Bool) where
 
     keys : (k : ℕ) → keyOf (m′ .entries) k ≡ keyOf (m .entries) k
     unfolding push
-    keys k = key-kept (m .entries) n k _
+    keys k = key-set-link (m .entries) n k _
 
     links : (k : ℕ) → ¬ (k ≡ n) → linkOf (m′ .entries) k ≡ linkOf (m .entries) k
     unfolding push
@@ -104,7 +105,7 @@ module _ (size c capacity : ℕ) (filled : 0 < size) (test : ℕ → Bool) where
       link : linkOf (m′ .entries) n ≡ at
       unfolding push
       link =
-          link-written (m .entries) n (getD (m .buckets) d 0) some-entry (omega (arith, fits, h .entries-fit))
+          link-set-same (m .entries) n (getD (m .buckets) d 0) some-entry (omega (arith, fits, h .entries-fit))
           ∙ ap (λ (i : ℕ). getD (m .buckets) i 0) here
 
       module _ (budget : ℕ) where

@@ -10,18 +10,13 @@ use lib.Seq.{getD-set-same, getD-set-other}
 use Rattle.model.specs.declared.State.{State}
 use Rattle.model.specs.declared.Table.{Table}
 use Rattle.model.specs.Memory.{Place, headAt, bucketsOf, linkOf, keyOf, valueOf, setLink, setKey, setValue}
-use Rattle.model.proofs.Fields.{length-setLink}
+use Rattle.model.proofs.Fields.{length-setLink, link-set-same, key-set-link, value-set-link}
 use Rattle.model.proofs.Linked.{link-set-other}
 
 -- An entry's three numbers.
 
 module _ (e : List ℕ) where
   -- at the entry written, which is inside the buffer
-
-  link-set-same : (n x : ℕ) → 0 < n → n * 3 ≤ length e → linkOf (setLink e n x) n ≡ x
-  unfolding linkOf setLink
-  link-set-same zero x h l = absurd (omega arith)
-  link-set-same (suc n) x h l = getD-set-same e (n * 3) x 0 (omega arith)
 
   pub key-set-same : (n x : ℕ) → 0 < n → n * 3 ≤ length e → keyOf (setKey e n x) n ≡ x
   unfolding keyOf setKey
@@ -65,26 +60,12 @@ module _ (e : List ℕ) where
   link-set-value (suc n) zero x = refl
   link-set-value (suc n) (suc m) x = getD-set-other e (n * 3 + 2) (m * 3) x 0 (λ h. omega arith)
 
-  pub key-set-link : (n m x : ℕ) → keyOf (setLink e n x) m ≡ keyOf e m
-  unfolding keyOf setLink
-  key-set-link zero zero x = refl
-  key-set-link zero (suc m) x = refl
-  key-set-link (suc n) zero x = refl
-  key-set-link (suc n) (suc m) x = getD-set-other e (n * 3) (m * 3 + 1) x 0 (λ h. omega arith)
-
   pub key-set-value : (n m x : ℕ) → keyOf (setValue e n x) m ≡ keyOf e m
   unfolding keyOf setValue
   key-set-value zero zero x = refl
   key-set-value zero (suc m) x = refl
   key-set-value (suc n) zero x = refl
   key-set-value (suc n) (suc m) x = getD-set-other e (n * 3 + 2) (m * 3 + 1) x 0 (λ h. omega arith)
-
-  pub value-set-link : (n m x : ℕ) → valueOf (setLink e n x) m ≡ valueOf e m
-  unfolding valueOf setLink
-  value-set-link zero zero x = refl
-  value-set-link zero (suc m) x = refl
-  value-set-link (suc n) zero x = refl
-  value-set-link (suc n) (suc m) x = getD-set-other e (n * 3) (m * 3 + 2) x 0 (λ h. omega arith)
 
   pub value-set-key : (n m x : ℕ) → valueOf (setKey e n x) m ≡ valueOf e m
   unfolding valueOf setKey

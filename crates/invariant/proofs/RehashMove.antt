@@ -23,7 +23,9 @@ use Rattle.invariant.proofs.Shape.{Home, IsBucket, Shape, facts}
 use Rattle.invariant.proofs.States.{sound-again, live-kept, home-kept}
 use Rattle.invariant.proofs.Places.{one, inTable, LiveTable, key-live}
 use Rattle.invariant.proofs.LinkedChains.{shape-linked}
-use Rattle.invariant.proofs.Cells.{key-set-link, value-set-link, Cell, memory, bucketsIn, read, write}
+use Rattle.model.proofs.Fields.{key-set-link}
+use Rattle.model.proofs.Moved.{moved-key, moved-value}
+use Rattle.invariant.proofs.Cells.{Cell, memory, bucketsIn, read, write}
 use Rattle.invariant.proofs.Relink.{lastCell, Relinked, Moved, relink}
 use Rattle.invariant.proofs.RelinkWrites.{rewired, rewired-keeps, shape-rewired}
 use Rattle.invariant.proofs.StoreAfter.{HeldIn, StoreAfter}
@@ -166,16 +168,6 @@ move-all (n ∷ ns) {s} {current} {other} {entries} shape rehashing b below chai
           (λ k. ap (λ (i : ℕ). Place.bucket Table.New (bucketOf i (s .«new_size»))) (key-set-link entries n k _)) went,
     )
 
--- keys and values are kept
-moved-keeps : (size : ℕ) (ns : List ℕ) (m : Chains) (k : ℕ)
-    → (keyOf (moved size ns m .entries) k ≡ keyOf (m .entries) k) × (valueOf (moved size ns m .entries) k ≡ valueOf (m .entries) k)
-unfolding moved push
-moved-keeps size [] m k = (refl, refl)
-moved-keeps size (n ∷ ns) m k =
-    let c = bucketOf (keyOf (m .entries) n) size in
-    let (keys, values) = moved-keeps size ns (push c n m) k in
-    (keys ∙ key-set-link (m .entries) n k (getD (m .buckets) c 0), values ∙ value-set-link (m .entries) n k (getD (m .buckets) c 0))
-
 -- The rehash goes on from bucket i, with the same counts: every bucket before it is empty.
 
 module _ (s : State) (used : Table → ℕ) (same-used : (t : Table) → used t ≡ usedOf s t) (i : ℕ) where
@@ -278,10 +270,10 @@ module _ {s : State} {current other entries : List ℕ} (shape : Shape s current
     held-only t l k v h = go (went .before (h .entry) t l (h .there))
       where
         its-key : keyOf entries (h .entry) ≡ k
-        its-key = sym (moved-keeps (s .«new_size») ns (record { buckets = other; entries = entries }) (h .entry) .0) ∙ h .its-key
+        its-key = sym (moved-key (s .«new_size») ns (record { buckets = other; entries = entries }) (h .entry)) ∙ h .its-key
 
         its-value : valueOf entries (h .entry) ≡ v
-        its-value = sym (moved-keeps (s .«new_size») ns (record { buckets = other; entries = entries }) (h .entry) .1) ∙ h .its-value
+        its-value = sym (moved-value (s .«new_size») ns (record { buckets = other; entries = entries }) (h .entry)) ∙ h .its-value
 
         go : (In (h .entry) ns × (t ≡ goesTo s entries (h .entry)))
             ⊎ ((In (h .entry) ns → ⊥) × In (h .entry) (shape .at t)) → HoldsThen t k v
@@ -305,8 +297,8 @@ module _ {s : State} {current other entries : List ℕ} (shape : Shape s current
               went .after (h .entry) t
               (λ i. d (sym (shape .owns (h .entry) t l (h .there)) ∙ shape .owns (h .entry) (Place.bucket Table.Old b) below i))
               (h .there);
-          its-key = moved-keeps (s .«new_size») ns (record { buckets = other; entries = entries }) (h .entry) .0 ∙ h .its-key;
-          its-value = moved-keeps (s .«new_size») ns (record { buckets = other; entries = entries }) (h .entry) .1 ∙ h .its-value;
+          its-key = moved-key (s .«new_size») ns (record { buckets = other; entries = entries }) (h .entry) ∙ h .its-key;
+          its-value = moved-value (s .«new_size») ns (record { buckets = other; entries = entries }) (h .entry) ∙ h .its-value;
         }
     held-all t l k v (inr (e, h)) =
         record {
@@ -314,8 +306,8 @@ module _ {s : State} {current other entries : List ℕ} (shape : Shape s current
           there =
               subst (λ (z : Place). In (h .entry) (at' z))
               (ap (λ (i : ℕ). keyPlace s i Table.New) (h .its-key) ∙ sym e) (went .there (h .entry) (h .there));
-          its-key = moved-keeps (s .«new_size») ns (record { buckets = other; entries = entries }) (h .entry) .0 ∙ h .its-key;
-          its-value = moved-keeps (s .«new_size») ns (record { buckets = other; entries = entries }) (h .entry) .1 ∙ h .its-value;
+          its-key = moved-key (s .«new_size») ns (record { buckets = other; entries = entries }) (h .entry) ∙ h .its-key;
+          its-value = moved-value (s .«new_size») ns (record { buckets = other; entries = entries }) (h .entry) ∙ h .its-value;
         }
 
   -- (the state then, before it is asked whether the rehash is over)

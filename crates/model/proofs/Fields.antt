@@ -1,11 +1,13 @@
--- An entry's fields at the places where the code reads and writes them, and that a write keeps the length.
+-- An entry's fields at the places where the code reads and writes them, that a write keeps the length, and what a written
+-- link leaves.
 -- Assumes nothing.
-use Prim.Native.Nat.{ℕ, zero, suc, _+_, _*_, _-_, _<_}
+use Prim.Native.Nat.{ℕ, zero, suc, _+_, _*_, _-_, _<_, _≤_}
 use mathlib.Core.Path.{_≡_, refl}
 use mathlib.Core.List.{List}
 use native.Mathlib.Numerals.{sub-one}
 use native.Mathlib.Omega.{arith}
 use lib.ListN.{length, getD, set, length-set}
+use lib.Seq.{getD-set-same, getD-set-other}
 use Rattle.model.specs.Memory.{linkOf, keyOf, valueOf, setLink, setKey, setValue, setEntry}
 
 module _ (entries : List ℕ) where
@@ -53,6 +55,27 @@ module _ (entries : List ℕ) where
   unfolding setValue
   length-setValue zero x = refl
   length-setValue (suc n) x = length-set entries (n * 3 + 2) x
+
+  -- a written link, and the other two of any entry
+
+  pub link-set-same : (n x : ℕ) → 0 < n → n * 3 ≤ length entries → linkOf (setLink entries n x) n ≡ x
+  unfolding linkOf setLink
+  link-set-same zero x h l = absurd (omega arith)
+  link-set-same (suc n) x h l = getD-set-same entries (n * 3) x 0 (omega arith)
+
+  pub key-set-link : (n m x : ℕ) → keyOf (setLink entries n x) m ≡ keyOf entries m
+  unfolding keyOf setLink
+  key-set-link zero zero x = refl
+  key-set-link zero (suc m) x = refl
+  key-set-link (suc n) zero x = refl
+  key-set-link (suc n) (suc m) x = getD-set-other entries (n * 3) (m * 3 + 1) x 0 (λ h. omega arith)
+
+  pub value-set-link : (n m x : ℕ) → valueOf (setLink entries n x) m ≡ valueOf entries m
+  unfolding valueOf setLink
+  value-set-link zero zero x = refl
+  value-set-link zero (suc m) x = refl
+  value-set-link (suc n) zero x = refl
+  value-set-link (suc n) (suc m) x = getD-set-other entries (n * 3) (m * 3 + 2) x 0 (λ h. omega arith)
 
 -- the three writes of a whole entry
 pub set-entry-at : (entries : List ℕ) (n link key value : ℕ) → 0 < n

@@ -10,6 +10,7 @@ pub mod Soundness
 pub mod Computing
 pub mod Cases
 pub mod Lookups
+pub mod Moved
 pub mod StepAhead
 pub mod StepLeaves
 pub mod Pairs

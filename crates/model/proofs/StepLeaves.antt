@@ -4,7 +4,7 @@
 use Prim.Native.Nat.{ℕ, suc, _-_, _≤_, _<_}
 use mathlib.Core.Path.{_≡_, refl, sym, ap, subst, _∙_}
 use mathlib.Core.Bool.{Bool, true, false, not, cond}
-use mathlib.Core.List.{List, [], _∷_}
+use mathlib.Core.List.{List}
 use mathlib.Core.Option.{Option, none, some}
 use native.Mathlib.Omega.{arith}
 use lib.ListN.{length, set, length-set}
@@ -15,22 +15,13 @@ use Rattle.model.specs.declared.Table.{Table}
 use Rattle.model.specs.declared.Error.{Error}
 use Rattle.model.specs.declared.Ahead.{Ahead}
 use Rattle.model.specs.declared.StepAnswer.{StepAnswer}
-use Rattle.model.specs.Keys.{bucketOf}
 use Rattle.model.specs.Limits.{emptyVisits}
-use Rattle.model.specs.Memory.{keyOf, sizeOf, usedOf, keysHeld, Place, budgetAt, chainAt}
-use Rattle.model.specs.Calls.{After, sound, oriented, checked, back, writing, stateOf, oldNew, retabled, Chains, push, ahead, moved, advanced, finished, settled, stepDone, movedChain, movedFrom, aheadOf, stepped, rehashStep}
-use Rattle.model.proofs.Fields.{length-setLink}
+use Rattle.model.specs.Memory.{sizeOf, usedOf, keysHeld, Place, budgetAt, chainAt}
+use Rattle.model.specs.Calls.{After, sound, oriented, checked, back, writing, stateOf, oldNew, retabled, Chains, ahead, moved, advanced, finished, settled, stepDone, movedChain, movedFrom, aheadOf, stepped, rehashStep}
+use Rattle.model.proofs.Moved.{moved-length}
 use Rattle.model.proofs.Linked.{read-sound}
 use Rattle.model.proofs.Soundness.{Sound, sound-facts, sound-test}
 use Rattle.model.proofs.StepAhead.{Comes, ahead-comes}
-
-pub length-moved : (size : ℕ) (ns : List ℕ) (m : Chains)
-    → (length (moved size ns m .buckets) ≡ length (m .buckets)) × (length (moved size ns m .entries) ≡ length (m .entries))
-unfolding moved push
-length-moved size [] m = (refl, refl)
-length-moved size (n ∷ ns) m =
-    let (x, y) = length-moved size ns (push (bucketOf (keyOf (m .entries) n) size) n m) in
-    (x ∙ length-set (m .buckets) _ _, y ∙ length-setLink (m .entries) _ _)
 
 -- ---- the state after a step
 
@@ -144,7 +135,7 @@ module _ (s : State) (current other entries : List ℕ) (h : Sound s (length cur
       let few = read-sound _ entries (s .capacity) (s .«old_used») _ ns f .1 in
       let chains : Chains = record { buckets = other; entries = entries } in
       let m = moved (s .«new_size») ns chains in
-      let (x, y) = length-moved (s .«new_size») ns chains in
+      let (x, y) = moved-length (s .«new_size») ns chains in
       done-leaves (length ns) (suc b) few (omega arith) (set current b 0) (m .buckets) (m .entries) (length-set current b 0) x y
 
   ahead-leaves : (r : Ahead) → aheadOf s current ≡ r → Leaves (movedFrom s current other entries r)

@@ -33,7 +33,7 @@ use Rattle.model.proofs.Tests.{Tells, true-not-false, tells-true, tells-and, te
 use Rattle.model.proofs.Power.{legal-pos}
 use Rattle.model.proofs.Soundness.{sound-facts}
 use Rattle.model.proofs.Fields.{length-setLink, length-setKey, length-setValue, length-setEntry}
-use Rattle.model.proofs.StepLeaves.{length-moved}
+use Rattle.model.proofs.Moved.{moved-length}
 use Rattle.refinement.specs.Worlds.{current, other}
 use Rattle.refinement.specs.Demand1.{BadState, Damaged, keyPlaces, KeyHeld, Full, FreeListDamaged, SoundChain, EmptyFrom, FirstFilled, EndFirst, StepDamaged, places, KeysOn, TooMany, GroupDamaged, Short, Row, row, keyRows, aloneRows, rows, Decides, Leaves, keyZeros, LeavesAll}
 use Rattle.refinement.specs.Demand3.{lengthsOf}
@@ -272,7 +272,7 @@ module _ (w : World) where
     moved-good pos b f none n =
         let damaged : StepDamaged w = (pos, inr (b, f, n)) in Good.refused damaged (refuse Error.Damaged)
     moved-good pos b f (some ns) r =
-        let (x, y) = length-moved (w .state .«new_size») ns (record { buckets = other w; entries = w .entries }) in
+        let (x, y) = moved-length (w .state .«new_size») ns (record { buckets = other w; entries = w .entries }) in
         Good.past (step-sound b f (place-sound w (Place.bucket Table.Old b) ns r))
         (done (stepReply (w .state)) _ _ _ _ refl (length-set (current w) b 0) x y)
 

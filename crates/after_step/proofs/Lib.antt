@@ -7,3 +7,6 @@ pub mod Presences
 pub mod PresenceAfter
 mod Surveying
 mod Deciding
+mod LinkAfter
+mod LinkTold
+pub mod StepFirst

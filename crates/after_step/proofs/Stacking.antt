@@ -17,11 +17,10 @@ use Rattle.cursor.specs.Member.{In, Distinct}
 use Rattle.model.specs.Keys.{bucketOf, hash}
 use Rattle.model.specs.Memory.{linkOf, keyOf, inBucket}
 use Rattle.model.specs.Calls.{Chains, push, moved}
-use Rattle.model.proofs.Fields.{length-setLink}
+use Rattle.model.proofs.Fields.{length-setLink, link-set-same, key-set-link}
 use Rattle.model.proofs.Linked.{Linked, read-sound, read-complete, linked-kept, linked-first, linked-distinct, link-set-other}
 use Rattle.memory.specs.Length.{bucketChain}
 use Rattle.after_step.specs.Told.{bound, howMany}
-use Rattle.model.proofs.Fields.{link-set-same, key-set-link}
 use Rattle.after_step.proofs.SameChains.{chain-same}
 
 -- the entries of ns that pass, each put in front in turn: last first, and then ms

@@ -1,7 +1,7 @@
 -- From what the functions of numbers leave to the definition: on the current and the other buffer, on the lent ones, and the
 -- answer.
 -- Assumes nothing.
-use Prim.Native.Nat.{ℕ, _+_, _≤_}
+use Prim.Native.Nat.{ℕ, _≤_}
 use mathlib.Core.Path.{_≡_, refl, sym, ap, _∙_}
 use mathlib.Core.Bool.{Bool, true, false, cond}
 use mathlib.Core.List.{List}
@@ -14,14 +14,15 @@ use Rattle.model.specs.declared.Lookup.{Lookup}
 use Rattle.model.specs.declared.AddAnswer.{AddAnswer}
 use Rattle.model.specs.Keys.{bucketOf}
 use Rattle.model.specs.Memory.{linkOf, setEntry, sizeOf, bucketsOf, keysHeld}
-use Rattle.model.specs.Calls.{After, changed, both, lookup, push, pushed, takeable, target, added, add}
-use Rattle.model.proofs.Soundness.{Sound, Counted, tells-sound, tested-counts}
+use Rattle.model.specs.Calls.{After, changed, lookup, push, pushed, takeable, target, added, addAlone, isAdded, add}
+use Rattle.model.proofs.Soundness.{Sound, Counted, tells-sound}
 use Rattle.model.proofs.Tests.{told}
 use Rattle.memory.specs.Lent.{soundLent}
 use Rattle.memory.proofs.Orientation.{written-first, written-second, writing-refused, writing-sound}
 use Rattle.search.specs.Found.{foundOf}
 use Rattle.search.specs.Tables.{searchedIn}
-use Rattle.search.proofs.Lookups.{lookup-resting, lookup-rehashing}
+use Rattle.search.proofs.Lookups.{lookup-resting}
+use Rattle.after_step.proofs.StepFirst.{first-resting, first-unsound}
 use Rattle.dict_add.specs.declared.add.Push.{Push}
 use Rattle.dict_add.specs.Push.{Left, pushFree, pushFound, oneMore, pushAnswer}
 
@@ -38,7 +39,7 @@ module _ (s : State) (current other entries : List ℕ) (key value : ℕ) (t : T
   kept Table.Old a = refl
   kept Table.New a = refl
 
-  taken : changed t (AddAnswer.Added (oneMore s (target (s .rehashing)) (linkOf entries (s .«free_head»)))) current other
+  pub taken : changed t (AddAnswer.Added (oneMore s (target (s .rehashing)) (linkOf entries (s .«free_head»)))) current other
       (set (bucketsOf current other t) (bucketOf key (sizeOf s t)) (s .«free_head»))
       (setEntry entries (s .«free_head») (getD (bucketsOf current other t) (bucketOf key (sizeOf s t)) 0) key value)
       ≡ pushed s current other entries key value (target (s .rehashing))
@@ -70,14 +71,14 @@ module _ (s : State) (first second entries : ℕ) (h : soundLent first second en
   pub free-fits : s .«free_head» ≤ s .capacity
   free-fits = lent-sound .free-fits
 
-  pub used-fits : s .«old_used» + s .«new_used» ≤ s .capacity
-  used-fits = lent-sound .used-fits
+  pub lent-counts : Counted s
+  lent-counts = record { held-fit = lent-sound .used-fits; capacity-limit = lent-sound .capacity-limit }
 
   old-held : s .rehashing ≡ false → s .«old_used» ≡ keysHeld s
   unfolding keysHeld
   old-held f = let z = lent-sound .resting f .no-keys in omega arith
 
--- into the only table, or the new one
+-- into the only table
 
 module _ (s : State) (current other entries : List ℕ) (key value : ℕ) (r : Push) (b e : List ℕ) where
   pub added-resting : (first second : ℕ) → soundLent first second (length entries) s ≡ true → s .rehashing ≡ false
@@ -94,50 +95,40 @@ module _ (s : State) (current other entries : List ℕ) (key value : ℕ) (r : P
       (old-held s first second (length entries) h f) _
       ∙ ap (added s current other entries key value) (lookup-resting s current other entries key f)
 
-  pub added-rehashing : s .rehashing ≡ true
-      → Left.left r b e
-      ≡ pushFound other entries
-      (pushFree other entries (s .«new_size») (s .capacity) (s .«old_used» + s .«new_used») (s .«free_head») key value)
-      (foundOf
-      (both (searchedIn entries (s .capacity) (s .«old_used») current (s .«old_size») key Table.Old)
-      (searchedIn entries (s .capacity) (s .«new_used») other (s .«new_size») key Table.New)))
-      → After.after (pushAnswer s r) current b e
-      ≡ added s current other entries key value (lookup s current other entries key)
-  unfolding afterLeft changed bucketsOf sizeOf target keysHeld
-  added-rehashing f p =
-      ap (afterLeft s current other Table.New) p
-      ∙ added-by s current other entries key value Table.New (ap target f) (s .«old_used» + s .«new_used») refl _
-      ∙ ap (added s current other entries key value) (lookup-rehashing s current other entries key f)
-
 -- On the lent buffers.
 
 module _ (s : State) (first second entries : List ℕ) (key value : ℕ) (a : AddAnswer) (x y e : List ℕ)
-    (h : soundLent (length first) (length second) (length entries) s ≡ true) where
+    (h : soundLent (length first) (length second) (length entries) s ≡ true) (rests : s .rehashing ≡ false) where
+  alone : (r : After AddAnswer) → r ≡ addAlone s first second entries key value → r ≡ add s first second entries key value
+  unfolding add
+  alone r p = first-resting AddAnswer.Refused isAdded (λ t x y z. addAlone t x y z key value) s first second entries r rests p
+
   pub added-first : s .«second_is_current» ≡ false
       → After.after a x y e ≡ added s first second entries key value (lookup s first second entries key)
       → After.after a x y e ≡ add s first second entries key value
-  unfolding add
+  unfolding addAlone
   added-first f p =
-      writing-sound s first second entries true (sym h) _ _ _ refl (written-first _ _ first second _ x y e f p)
+      alone _ (writing-sound s first second entries true (sym h) _ _ _ refl (written-first _ _ first second _ x y e f p))
 
   pub added-second : s .«second_is_current» ≡ true
       → After.after a x y e ≡ added s second first entries key value (lookup s second first entries key)
       → After.after a y x e ≡ add s first second entries key value
-  unfolding add
+  unfolding addAlone
   added-second f p =
-      writing-sound s first second entries true (sym h) _ _ _ refl (written-second _ _ first second _ x y e f p)
+      alone _ (writing-sound s first second entries true (sym h) _ _ _ refl (written-second _ _ first second _ x y e f p))
 
 -- The answer.
 
 pub counted : (s : State) (first second entries : ℕ) (t : Bool) → t ≡ soundLent first second entries s → t ≡ true → Counted s
-unfolding soundLent
-counted s first second entries t e h = tested-counts s _ _ entries t e h
+counted s first second entries t e h = lent-counts s first second entries (sym e ∙ h)
 
 pub add-unsound : (s : State) (first second entries : List ℕ) (key value : ℕ) (t : Bool)
     → t ≡ soundLent (length first) (length second) (length entries) s → t ≡ false
     → After.after (AddAnswer.Refused Error.BadState) first second entries ≡ add s first second entries key value
-unfolding add
-add-unsound s first second entries key value t e f = writing-refused s first second entries t e _ _ f
+unfolding add addAlone
+add-unsound s first second entries key value t e f =
+    first-unsound AddAnswer.Refused isAdded (λ t x y z. addAlone t x y z key value) s first second entries t e f
+    (writing-refused s first second entries t e _ _ f)
 
 module _ (s : State) (x y e : List ℕ) (r : Push) (meant : After AddAnswer)
     (h : After.after (pushAnswer s r) x y e ≡ meant) where

@@ -1,5 +1,9 @@
 // Add a key that is not held (SPECIFICATION, "Add"). It is a timed call: the state is tested on the lent lengths, then whether
 // a rehash is under way, then which buffer is current. What has more than one caller below that takes numbers and no state.
+use after_step::link::link_after_step;
+use after_step::presence::Presence;
+use after_step::presence::presence_after_step;
+use dict_rehash::rehash::rehash_step;
 use memory::entry::link_of;
 use memory::entry::set_entry;
 use memory::state::bucket_index;
@@ -7,23 +11,26 @@ use memory::state::is_sound_lent;
 use model::AddAnswer;
 use model::Error;
 use model::State;
+use model::StepAnswer;
 use search::found::Found;
 use search::found::entry_in;
-use search::found::entry_in_both;
 ghost use mathlib.Core.Path.{_≡_};
 ghost use mathlib.Core.Bool.{true, false};
-ghost use Prim.Native.Nat.{_+_, _≤_, _<_};
+ghost use Prim.Native.Nat.{_≤_, _<_};
 ghost use lib.ListN.{length, getD, set};
 ghost use Rattle.model.specs.declared.Table.{Table};
 ghost use Rattle.model.specs.Keys.{bucketOf};
-ghost use Rattle.model.specs.Memory.{setEntry};
+ghost use Rattle.model.specs.Memory.{linkOf, setEntry, sizeOf};
 ghost use Rattle.model.specs.Calls as calls;
 ghost use Rattle.model.specs.Calls.After.{after};
 ghost use Rattle.model.proofs.Soundness.{Counted};
 ghost use Rattle.memory.specs.Lent.{soundLent};
 ghost use Rattle.search.specs.Tables.{searchedIn, Readable};
 ghost use Rattle.search.specs.Found.{foundOf};
-ghost use Rattle.dict_add.specs.Push.{pushFree, pushFound, oneMore, pushAnswer};
+ghost use Rattle.after_step.specs.declared.presence.Presence.the-variants as told;
+ghost use Rattle.after_step.specs.Planned.{Planned};
+ghost use Rattle.dict_add.specs.Push.{pushFree, pushFound, oneMore, pushAnswer, pushedLent};
+ghost use Rattle.dict_add.specs.Takes.{Room, Takes};
 ghost use Rattle.dict_add.specs.Push.Left.{left};
 
 // What happened to the buffers, in numbers: the public call makes the answer of it.
@@ -104,50 +111,6 @@ fn push_one(
     }
 }
 
-// Into the new table, by what the search in both found.
-fn push_two(
-    old: &[u32],
-    new: &mut [u32],
-    entries: &mut [u32],
-    capacity: u32,
-    old_used: u32,
-    new_used: u32,
-    old_size: u32,
-    new_size: u32,
-    free: u32,
-    key: u32,
-    value: u32,
-) -> Push
-    requires { ⌜ Readable «old_size» (length (now old)) capacity (length (now entries)) ⌝ }
-    requires { ⌜ Readable «new_size» (length (now new)) capacity (length (now entries)) ⌝ }
-    requires { ⌜ «old_used» + «new_used» ≤ capacity ⌝ }
-    requires { ⌜ free ≤ capacity ⌝ }
-    ensures { λ r. ⌜ left r (now (new .exit)) (now (entries .exit))
-        ≡ pushFound (now (new .entry)) (now (entries .entry))
-        (pushFree (now (new .entry)) (now (entries .entry)) «new_size» capacity («old_used» + «new_used») free key value)
-        (foundOf (calls.both
-        (searchedIn (now (entries .entry)) capacity «old_used» (now (old .entry)) «old_size» key Table.Old)
-        (searchedIn (now (entries .entry)) capacity «new_used» (now (new .entry)) «new_size» key Table.New))) ⌝ }
-{
-    let held = old_used + new_used;
-    let at = entry_in_both(
-        old,
-        new,
-        entries,
-        capacity,
-        old_used,
-        new_used,
-        old_size,
-        new_size,
-        key,
-    );
-    match at {
-        Found::Damaged => Push::Refused(Error::Damaged),
-        Found::Absent => push_free(new, entries, new_size, capacity, held, free, key, value),
-        Found::At(_) => Push::Refused(Error::Present),
-    }
-}
-
 // With no rehash under way the flag says which lent buffer has the only table.
 fn push_resting(
     first: &mut [u32],
@@ -187,71 +150,6 @@ fn push_resting(
     }
 }
 
-// During a rehash it says which has the old table, and the other has the new one.
-fn push_rehashing(
-    first: &mut [u32],
-    second: &mut [u32],
-    entries: &mut [u32],
-    s: State,
-    key: u32,
-    value: u32,
-) -> Push
-    requires { ⌜ soundLent (length (now first)) (length (now second)) (length (now entries)) s ≡ true ⌝ }
-    requires { ⌜ s .rehashing ≡ true ⌝ }
-    ensures { λ r. ⌜ after (pushAnswer s r) (now (first .exit)) (now (second .exit)) (now (entries .exit))
-        ≡ calls.add s (now (first .entry)) (now (second .entry)) (now (entries .entry)) key value ⌝ }
-{
-    if s.second_is_current {
-        push_two(
-            second,
-            first,
-            entries,
-            s.capacity,
-            s.old_used,
-            s.new_used,
-            s.old_size,
-            s.new_size,
-            s.free_head,
-            key,
-            value,
-        )
-    } else {
-        push_two(
-            first,
-            second,
-            entries,
-            s.capacity,
-            s.old_used,
-            s.new_used,
-            s.old_size,
-            s.new_size,
-            s.free_head,
-            key,
-            value,
-        )
-    }
-}
-
-// Once the state is known to be sound.
-fn push_sound(
-    first: &mut [u32],
-    second: &mut [u32],
-    entries: &mut [u32],
-    s: State,
-    key: u32,
-    value: u32,
-) -> Push
-    requires { ⌜ soundLent (length (now first)) (length (now second)) (length (now entries)) s ≡ true ⌝ }
-    ensures { λ r. ⌜ after (pushAnswer s r) (now (first .exit)) (now (second .exit)) (now (entries .exit))
-        ≡ calls.add s (now (first .entry)) (now (second .entry)) (now (entries .entry)) key value ⌝ }
-{
-    if s.rehashing {
-        push_rehashing(first, second, entries, s, key, value)
-    } else {
-        push_resting(first, second, entries, s, key, value)
-    }
-}
-
 // One key more in the table that keys are added to, and another free head.
 fn one_more(s: State, free: u32) -> State
     requires { ⌜ Counted s ⌝ }
@@ -268,6 +166,125 @@ fn one_more(s: State, free: u32) -> State
     }
 }
 
+// The size of that table.
+fn target_size(s: State) -> u32
+    ensures { λ r. ⌜ r ≡ sizeOf s (calls.target (s .rehashing)) ⌝ }
+{
+    if s.rehashing { s.new_size } else { s.old_size }
+}
+
+// The first free entry into that table, which has what the two flags say of the lent buffers. Its link is known.
+fn push_lent(
+    first: &mut [u32],
+    second: &mut [u32],
+    entries: &mut [u32],
+    s: State,
+    key: u32,
+    value: u32,
+    link: u32,
+) -> AddAnswer
+    requires { ⌜ soundLent (length (now first)) (length (now second)) (length (now entries)) s ≡ true ⌝ }
+    requires { ⌜ (0 < s .«free_head») × (link ≡ linkOf (now entries) (s .«free_head»)) ⌝ }
+    ensures { λ r. ⌜ after r (now (first .exit)) (now (second .exit)) (now (entries .exit))
+        ≡ pushedLent s (now (first .entry)) (now (second .entry)) (now (entries .entry)) key value ⌝ }
+{
+    let free = s.free_head;
+    let size = target_size(s);
+    if s.rehashing == s.second_is_current {
+        push_entry(first, entries, size, free, key, value);
+        AddAnswer::Added(one_more(s, link))
+    } else {
+        push_entry(second, entries, size, free, key, value);
+        AddAnswer::Added(one_more(s, link))
+    }
+}
+
+// The step for real, and the entry into what it leaves. What was told says that no test of either fails.
+fn step_and_push(
+    first: &mut [u32],
+    second: &mut [u32],
+    entries: &mut [u32],
+    s: State,
+    key: u32,
+    value: u32,
+    link: u32,
+) -> AddAnswer
+    requires { ⌜ Takes s (now first) (now second) (now entries) key link ⌝ }
+    ensures { λ r. ⌜ after r (now (first .exit)) (now (second .exit)) (now (entries .exit))
+        ≡ calls.add s (now (first .entry)) (now (second .entry)) (now (entries .entry)) key value ⌝ }
+{
+    let stepped = rehash_step(first, second, entries, s);
+    match stepped {
+        StepAnswer::Refused(e) => AddAnswer::Refused(e),
+        StepAnswer::Stepped(_, t) => push_lent(first, second, entries, t, key, value, link),
+    }
+}
+
+// There is room: the link of the first free entry decides. In damaged memory the step may change it.
+fn take_free(
+    first: &mut [u32],
+    second: &mut [u32],
+    entries: &mut [u32],
+    s: State,
+    key: u32,
+    value: u32,
+) -> AddAnswer
+    requires { ⌜ Room s (now first) (now second) (now entries) key ⌝ }
+    ensures { λ r. ⌜ after r (now (first .exit)) (now (second .exit)) (now (entries .exit))
+        ≡ calls.add s (now (first .entry)) (now (second .entry)) (now (entries .entry)) key value ⌝ }
+{
+    let link = link_after_step(first, second, entries, s, s.free_head);
+    if link <= s.capacity {
+        step_and_push(first, second, entries, s, key, value, link)
+    } else {
+        AddAnswer::Refused(Error::Damaged)
+    }
+}
+
+// The key is on no chain once the step is taken. The step keeps the keys held, the capacity and the free head.
+fn add_absent(
+    first: &mut [u32],
+    second: &mut [u32],
+    entries: &mut [u32],
+    s: State,
+    key: u32,
+    value: u32,
+) -> AddAnswer
+    requires { ⌜ Planned s (now first) (now second) (now entries) key told.Absent ⌝ }
+    ensures { λ r. ⌜ after r (now (first .exit)) (now (second .exit)) (now (entries .exit))
+        ≡ calls.add s (now (first .entry)) (now (second .entry)) (now (entries .entry)) key value ⌝ }
+{
+    if s.old_used + s.new_used == s.capacity {
+        return AddAnswer::Refused(Error::Full);
+    }
+    if s.free_head == 0 {
+        return AddAnswer::Refused(Error::Damaged);
+    }
+    take_free(first, second, entries, s, key, value)
+}
+
+// During a rehash a step comes first, and a refusal leaves all as it was: what is told of the memory after the step decides.
+fn add_rehashing(
+    first: &mut [u32],
+    second: &mut [u32],
+    entries: &mut [u32],
+    s: State,
+    key: u32,
+    value: u32,
+) -> AddAnswer
+    requires { ⌜ soundLent (length (now first)) (length (now second)) (length (now entries)) s ≡ true ⌝ }
+    requires { ⌜ s .rehashing ≡ true ⌝ }
+    ensures { λ r. ⌜ after r (now (first .exit)) (now (second .exit)) (now (entries .exit))
+        ≡ calls.add s (now (first .entry)) (now (second .entry)) (now (entries .entry)) key value ⌝ }
+{
+    let presence = presence_after_step(first, second, entries, s, key);
+    match presence {
+        Presence::Damaged => AddAnswer::Refused(Error::Damaged),
+        Presence::Held => AddAnswer::Refused(Error::Present),
+        Presence::Absent => add_absent(first, second, entries, s, key, value),
+    }
+}
+
 pub fn add(
     first: &mut [u32],
     second: &mut [u32],
@@ -280,10 +297,14 @@ pub fn add(
         ≡ calls.add s (now (first .entry)) (now (second .entry)) (now (entries .entry)) key value ⌝ }
 {
     if is_sound_lent(first.len(), second.len(), entries.len(), s) {
-        let pushed = push_sound(first, second, entries, s, key, value);
-        match pushed {
-            Push::Refused(e) => AddAnswer::Refused(e),
-            Push::Done(free) => AddAnswer::Added(one_more(s, free)),
+        if s.rehashing {
+            add_rehashing(first, second, entries, s, key, value)
+        } else {
+            let pushed = push_resting(first, second, entries, s, key, value);
+            match pushed {
+                Push::Refused(e) => AddAnswer::Refused(e),
+                Push::Done(free) => AddAnswer::Added(one_more(s, free)),
+            }
         }
     } else {
         AddAnswer::Refused(Error::BadState)

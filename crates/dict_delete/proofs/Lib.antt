@@ -1,2 +1,3 @@
--- What the steps of a delete come to.
+-- What the steps of a delete come to, and the whole of it.
 mod Removing
+mod Deleting

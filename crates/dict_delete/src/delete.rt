@@ -1,5 +1,9 @@
-// Delete a held key (SPECIFICATION, "Delete"). The state is tested on the lent lengths, and then its flag is read once: below
-// that every function knows the current and the other buffer.
+// Delete a held key (SPECIFICATION, "Delete"). The state is tested on the lent lengths, then whether a rehash is under way:
+// during one a step comes first. Then the flag is read once, and below that every function knows the current and the other
+// buffer.
+use after_step::presence::Presence;
+use after_step::presence::presence_after_step;
+use dict_rehash::rehash::rehash_step;
 use memory::entry::link_of;
 use memory::entry::set_entry;
 use memory::entry::set_link;
@@ -9,9 +13,11 @@ use model::DeleteAnswer;
 use model::Error;
 use model::Lookup;
 use model::State;
+use model::StepAnswer;
 use model::Table;
 use search::lookup::look_up;
 ghost use mathlib.Core.Path.{_≡_};
+ghost use mathlib.Core.Bool.{true};
 ghost use Prim.Native.Nat.{_*_, _≤_, _<_};
 ghost use lib.ListN.{length};
 ghost use Rattle.model.specs.Keys.{bucketOf};
@@ -20,7 +26,10 @@ ghost use Rattle.model.specs.Calls as calls;
 ghost use Rattle.model.specs.Calls.After.{after};
 ghost use Rattle.model.proofs.Soundness.{Sound};
 ghost use Rattle.model.proofs.Lookups.{Located};
+ghost use Rattle.memory.specs.Lent.{soundLent};
 ghost use Rattle.search.specs.Tables.{Readable};
+ghost use Rattle.after_step.specs.declared.presence.Presence.the-variants as told;
+ghost use Rattle.after_step.specs.Planned.{Planned};
 
 // Entry n off its chain, where it stands behind another entry or at the head of the key's bucket.
 fn unlink(buckets: &mut [u32], entries: &mut [u32], size: u32, key: u32, before: u32, n: u32)
@@ -117,6 +126,65 @@ fn remove_sound(
     }
 }
 
+// With no step, once the state is known to be sound: the flag says which lent buffer is current.
+fn delete_alone(
+    first: &mut [u32],
+    second: &mut [u32],
+    entries: &mut [u32],
+    s: State,
+    key: u32,
+) -> DeleteAnswer
+    requires { ⌜ soundLent (length (now first)) (length (now second)) (length (now entries)) s ≡ true ⌝ }
+    ensures { λ r. ⌜ after r (now (first .exit)) (now (second .exit)) (now (entries .exit))
+        ≡ calls.deleteAlone s (now (first .entry)) (now (second .entry)) (now (entries .entry)) key ⌝ }
+{
+    if s.second_is_current {
+        remove_sound(second, first, entries, s, key)
+    } else {
+        remove_sound(first, second, entries, s, key)
+    }
+}
+
+// A key that is held once the step is taken: both are done for real. What was told says that neither is refused.
+fn step_and_delete(
+    first: &mut [u32],
+    second: &mut [u32],
+    entries: &mut [u32],
+    s: State,
+    key: u32,
+) -> DeleteAnswer
+    requires { ⌜ Planned s (now first) (now second) (now entries) key told.Held ⌝ }
+    ensures { λ r. ⌜ after r (now (first .exit)) (now (second .exit)) (now (entries .exit))
+        ≡ calls.delete s (now (first .entry)) (now (second .entry)) (now (entries .entry)) key ⌝ }
+{
+    let stepped = rehash_step(first, second, entries, s);
+    match stepped {
+        StepAnswer::Refused(e) => DeleteAnswer::Refused(e),
+        StepAnswer::Stepped(_, t) => delete_alone(first, second, entries, t, key),
+    }
+}
+
+// During a rehash a step comes first, and a refusal leaves all as it was: what is told of the memory after the step decides.
+fn delete_rehashing(
+    first: &mut [u32],
+    second: &mut [u32],
+    entries: &mut [u32],
+    s: State,
+    key: u32,
+) -> DeleteAnswer
+    requires { ⌜ soundLent (length (now first)) (length (now second)) (length (now entries)) s ≡ true ⌝ }
+    requires { ⌜ s .rehashing ≡ true ⌝ }
+    ensures { λ r. ⌜ after r (now (first .exit)) (now (second .exit)) (now (entries .exit))
+        ≡ calls.delete s (now (first .entry)) (now (second .entry)) (now (entries .entry)) key ⌝ }
+{
+    let presence = presence_after_step(first, second, entries, s, key);
+    match presence {
+        Presence::Damaged => DeleteAnswer::Refused(Error::Damaged),
+        Presence::Absent => DeleteAnswer::Refused(Error::Absent),
+        Presence::Held => step_and_delete(first, second, entries, s, key),
+    }
+}
+
 pub fn delete(
     first: &mut [u32],
     second: &mut [u32],
@@ -128,10 +196,10 @@ pub fn delete(
         ≡ calls.delete s (now (first .entry)) (now (second .entry)) (now (entries .entry)) key ⌝ }
 {
     if is_sound_lent(first.len(), second.len(), entries.len(), s) {
-        if s.second_is_current {
-            remove_sound(second, first, entries, s, key)
+        if s.rehashing {
+            delete_rehashing(first, second, entries, s, key)
         } else {
-            remove_sound(first, second, entries, s, key)
+            delete_alone(first, second, entries, s, key)
         }
     } else {
         DeleteAnswer::Refused(Error::BadState)

@@ -41,7 +41,7 @@ module _ (s : State) (current other entries : ℕ) (h : Sound s current other en
 -- ---- a chain that was read, and one whose entries were counted
 
 -- its entries are in the entry buffer
-read-linked : (test : ℕ → Bool) (entries : List ℕ) (capacity budget head : ℕ) (ns : List ℕ) → chain test entries capacity budget head ≡ some ns
+pub read-linked : (test : ℕ → Bool) (entries : List ℕ) (capacity budget head : ℕ) (ns : List ℕ) → chain test entries capacity budget head ≡ some ns
     → capacity * 3 ≤ length entries → Linked entries (room entries) head ns
 unfolding room
 read-linked test entries capacity budget head ns e fits =

@@ -11,9 +11,13 @@ pub(crate) enum Work {
     Adds,
     Finds,
     Walks,
+    // Adds during a rehash (the specification's move), with all that comes before them.
+    Moves,
+    // What comes before them, alone.
+    Halves,
 }
 
-// So many rounds on a store of so many keys.
+// So many rounds on a store for so many keys.
 pub(crate) struct Order {
     pub work: Work,
     pub keys: u32,
@@ -36,6 +40,8 @@ fn order_of(letter: u8, keys: u32, rounds: u32) -> Parsed {
         b'A' => Work::Adds,
         b'F' => Work::Finds,
         b'W' => Work::Walks,
+        b'M' => Work::Moves,
+        b'H' => Work::Halves,
         _ => return Parsed::Bad,
     };
     if is_number_of_keys(keys) {

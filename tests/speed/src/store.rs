@@ -7,18 +7,26 @@
 //! tested to belong in that bucket of that table, in the loop that reads the
 //! chain; a lookup reads both chains to their ends, even where the first entry
 //! has the key; a walk call has tested its chains, their sum and its room
-//! before it writes. There is no `unsafe` (Cargo.toml forbids it), and the
-//! state is hidden from the compiler (`work.rs`).
+//! before it writes. In a move an add takes a step first: it has tested the
+//! chain that moves, and the key's two as the step will leave them, before
+//! either writes, so that nothing is copied and a refusal has nothing to undo.
+//! There is no `unsafe` (Cargo.toml forbids it), and the state is hidden from
+//! the compiler (`work.rs`).
 //!
 //! It is the bar for the proved store, so it is tuned within that form. Tried,
 //! and kept: a bucket by a mask, two buckets compared by one mask, one loop to
 //! a chain's end that carries what was found without a branch, errors as wide
-//! as the numbers beside them. Inlining is left to the compiler on both sides,
-//! since Rattle has no word for it. docs/COSTS.md says what a store does that
-//! leaves this form.
+//! as the numbers beside them; for an add in a move, one reading of the chain
+//! that moves for all that is asked of it, and the heads of the key's chains
+//! fetched before it. Inlining is left to the compiler on both sides, since
+//! Rattle has no word for it. docs/COSTS.md says what a store does that leaves
+//! this form.
 
 pub const MAX_CAPACITY: u32 = 65536;
 pub const MAX_SIZE: u32 = 65536;
+
+/// The most empty buckets that a step passes.
+const EMPTY_VISITS: usize = 10;
 
 /// The numbers of an entry in its buffer: link, key, value.
 const FIELDS: usize = 3;
@@ -46,6 +54,7 @@ pub enum Error {
     Present = 4,
     Full = 5,
     BadSize = 6,
+    Rehashing = 7,
 }
 
 /// Why a walk call is refused.
@@ -94,6 +103,18 @@ impl Table<'_> {
     fn share_bucket(&self, hash: u32, other: u32) -> bool {
         bucket(hash ^ other, self.size) == 0
     }
+}
+
+/// What an add must know of the chain that its step moves, which may be empty.
+#[derive(Default)]
+struct Moving {
+    count: u32,
+    /// How many of its keys go to the new bucket of the key that is added.
+    joining: u32,
+    has_key: bool,
+    /// Whether the first free entry is on it.
+    has_free: bool,
+    last: u32,
 }
 
 pub fn is_legal_size(size: u32) -> bool {
@@ -153,6 +174,28 @@ impl<'a> Store<'a> {
         Ok(())
     }
 
+    /// Begins a move to a table of another size.
+    pub fn resize(&mut self, size: u32) -> Result<(), Error> {
+        self.check_state()?;
+        if self.state.rehashing {
+            return Err(Error::Rehashing);
+        }
+        let other = if self.state.second_is_current {
+            &mut self.first
+        } else {
+            &mut self.second
+        };
+        let is_present = size == self.state.old_size;
+        if !is_legal_size(size) || is_present || other.len() < size as usize {
+            return Err(Error::BadSize);
+        }
+        other[..size as usize].fill(0);
+        // With no move the new count and the next bucket are 0 already.
+        self.state.new_size = size;
+        self.state.rehashing = true;
+        Ok(())
+    }
+
     pub fn find(&self, key: u32) -> Result<u32, Error> {
         self.check_state()?;
         match self.look_up(key)? {
@@ -163,27 +206,166 @@ impl<'a> Store<'a> {
 
     pub fn add(&mut self, key: u32, value: u32) -> Result<(), Error> {
         self.check_state()?;
-        if self.look_up(key)? != 0 {
-            return Err(Error::Present);
-        }
-        let State {
-            capacity,
-            free_head: free,
-            ..
-        } = self.state;
-        if self.state.old_used + self.state.new_used == capacity {
-            return Err(Error::Full);
-        }
-        if free == 0 {
-            return Err(Error::Damaged);
-        }
-        let next_free = self.link(free);
-        if next_free > capacity {
-            return Err(Error::Damaged);
-        }
-        self.push(free, key, value);
+        let next_free = if self.state.rehashing {
+            self.step_before_add(key)?
+        } else {
+            if self.search(self.old_table(), key)? != 0 {
+                return Err(Error::Present);
+            }
+            self.check_number(self.link(self.first_free()?))?
+        };
+        self.push(self.state.free_head, key, value);
         self.state.free_head = next_free;
         Ok(())
+    }
+
+    /// The step of an add in a move. That both are answered is known before the
+    /// step writes, from the memory as it is. Answers the link that the first
+    /// free entry has behind the step.
+    fn step_before_add(&mut self, key: u32) -> Result<u32, Error> {
+        let (old, new) = (self.old_table(), self.new_table());
+        let (old_head, new_head) = (old.head(key), new.head(key));
+        let mut next = self.state.rehash_index;
+        let mut moving = Moving::default();
+        // With no keys in the old table the step only ends the move.
+        if old.used != 0 {
+            next = self.next_bucket(old)?;
+            moving = self.moving_chain(old, new, next - 1, key)?;
+        }
+        let mut found = moving.has_key;
+
+        // The step raises the new table's count, and puts the keys that join the
+        // key's chain before it.
+        let most = new.used + moving.count - moving.joining;
+        let mut last = 0;
+        self.read_chain(new, new_head, key, most, |at, met| {
+            found |= met == key;
+            last = at;
+        })?;
+        // A chain that runs into the one that moves has the same end, and the
+        // step would make it a loop.
+        if (last != 0) & (last == moving.last) {
+            return Err(Error::Damaged);
+        }
+
+        // The key's old chain may be the one that moves, or go with the table.
+        let ends = moving.count == old.used;
+        if !ends && !old.share_bucket(next - 1, key) {
+            let most = old.used - moving.count;
+            self.read_chain(old, old_head, key, most, |_, met| found |= met == key)?;
+        }
+        if found {
+            return Err(Error::Present);
+        }
+
+        let free = self.first_free()?;
+        let link = if moving.has_free {
+            self.moved_link(old.head(next - 1), new, free)
+        } else {
+            self.link(free)
+        };
+        let next_free = self.check_number(link)?;
+        self.take_step(next, moving.count);
+        Ok(next_free)
+    }
+
+    /// The next bucket to move behind a step. The bucket before it is the one
+    /// that the step moves, or the tenth of ten empty ones.
+    fn next_bucket(&self, old: Table) -> Result<u32, Error> {
+        let from = self.state.rehash_index as usize;
+        let left = &old.buckets[from..old.size as usize];
+        let ahead = &left[..left.len().min(EMPTY_VISITS)];
+        match ahead.iter().position(|&head| head != 0) {
+            Some(passed) => Ok((from + passed + 1) as u32),
+            None if left.len() > EMPTY_VISITS => Ok((from + EMPTY_VISITS) as u32),
+            None => Err(Error::Damaged),
+        }
+    }
+
+    /// The chain in a bucket of the old table, for an add of the key.
+    fn moving_chain(&self, old: Table, new: Table, from: u32, key: u32) -> Result<Moving, Error> {
+        let free = self.state.free_head;
+        let mut moving = Moving::default();
+        self.read_chain(old, old.head(from), from, old.used, |at, met| {
+            moving.count += 1;
+            moving.joining += u32::from(new.share_bucket(met, key));
+            moving.has_key |= met == key;
+            moving.has_free |= at == free;
+            moving.last = at;
+        })?;
+        Ok(moving)
+    }
+
+    /// The link that an entry has once its chain has moved: to the last one
+    /// before it that goes to the same bucket, or else to that bucket's head.
+    /// Asked of a free entry, which only damaged memory has on a bucket's chain:
+    /// elsewhere a step reads its chain once before it moves it.
+    fn moved_link(&self, head: u32, new: Table, entry: u32) -> u32 {
+        let key = self.key(entry);
+        let mut link = new.head(key);
+        let mut at = head;
+        while at != entry {
+            if new.share_bucket(self.key(at), key) {
+                link = at;
+            }
+            at = self.link(at);
+        }
+        link
+    }
+
+    /// A step that moves so many keys, those of the bucket before the next one.
+    /// It ends the move if they are the old table's last.
+    fn take_step(&mut self, next: u32, count: u32) {
+        if count != 0 {
+            self.move_chain(next as usize - 1);
+        }
+        let state = &mut self.state;
+        state.old_used -= count;
+        state.new_used += count;
+        state.rehash_index = next;
+        if state.old_used == 0 {
+            *state = State {
+                second_is_current: !state.second_is_current,
+                old_size: state.new_size,
+                old_used: state.new_used,
+                free_head: state.free_head,
+                capacity: state.capacity,
+                ..State::default()
+            };
+        }
+    }
+
+    /// The entries of a bucket's chain, in turn, to the heads of their buckets
+    /// in the new table.
+    fn move_chain(&mut self, from: usize) {
+        let size = self.state.new_size;
+        let (current, other) = if self.state.second_is_current {
+            (&mut self.second, &mut self.first)
+        } else {
+            (&mut self.first, &mut self.second)
+        };
+        let mut at = current[from];
+        while at != 0 {
+            let start = start_of(at);
+            let head = &mut other[bucket(self.entries[start + 1], size)];
+            let rest = self.entries[start];
+            self.entries[start] = *head;
+            *head = at;
+            at = rest;
+        }
+        current[from] = 0;
+    }
+
+    /// The first free entry, if a key more may be held.
+    fn first_free(&self) -> Result<u32, Error> {
+        let state = &self.state;
+        if state.old_used + state.new_used == state.capacity {
+            return Err(Error::Full);
+        }
+        match state.free_head {
+            0 => Err(Error::Damaged),
+            free => Ok(free),
+        }
     }
 
     /// One walk call. The pairs go to the front of `list`.
@@ -303,21 +485,10 @@ impl<'a> Store<'a> {
     /// the chain must belong in the bucket, also behind the one that is found.
     fn search(&self, table: Table, key: u32) -> Result<u32, Error> {
         let mut found = 0;
-        let mut at = table.head(key);
-        let mut left = table.used;
-        while at != 0 {
-            if (left == 0) | (at > self.state.capacity) {
-                return Err(Error::Damaged);
-            }
-            let met = self.key(at);
-            if !table.share_bucket(met, key) {
-                return Err(Error::Damaged);
-            }
+        self.read_chain(table, table.head(key), key, table.used, |at, met| {
             let is_first = (found == 0) & (met == key);
             found = if is_first { at } else { found };
-            at = self.link(at);
-            left -= 1;
-        }
+        })?;
         Ok(found)
     }
 
@@ -325,18 +496,44 @@ impl<'a> Store<'a> {
     /// entries, each with a key that belongs there.
     fn chain_length(&self, table: Table, hash: u32, most: u32) -> Result<u32, Error> {
         let mut count = 0;
-        let mut at = table.head(hash);
-        while at != 0 {
-            if (count == most) | (at > self.state.capacity) {
-                return Err(Error::Damaged);
-            }
-            if !table.share_bucket(self.key(at), hash) {
-                return Err(Error::Damaged);
-            }
-            at = self.link(at);
-            count += 1;
-        }
+        self.read_chain(table, table.head(hash), hash, most, |_, _| count += 1)?;
         Ok(count)
+    }
+
+    /// Reads a chain to its end, and hands on each entry with its key: at most so
+    /// many, and each key must belong in the bucket of `hash`.
+    fn read_chain(
+        &self,
+        table: Table,
+        head: u32,
+        hash: u32,
+        most: u32,
+        mut meet: impl FnMut(u32, u32),
+    ) -> Result<(), Error> {
+        let mut at = head;
+        let mut left = most;
+        while at != 0 {
+            if (left == 0) | (at > self.state.capacity) {
+                return Err(Error::Damaged);
+            }
+            let met = self.key(at);
+            if !table.share_bucket(met, hash) {
+                return Err(Error::Damaged);
+            }
+            meet(at, met);
+            at = self.link(at);
+            left -= 1;
+        }
+        Ok(())
+    }
+
+    /// A number of a bucket or a link, which names an entry or none.
+    fn check_number(&self, number: u32) -> Result<u32, Error> {
+        if number <= self.state.capacity {
+            Ok(number)
+        } else {
+            Err(Error::Damaged)
+        }
     }
 
     fn check_state(&self) -> Result<(), Error> {
@@ -406,7 +603,11 @@ impl<'a> Store<'a> {
 }
 
 #[cfg(test)]
+mod defined;
+
+#[cfg(test)]
 mod tests {
+    use super::defined::Memory;
     use super::*;
 
     const PAIRS: [u32; 6] = [9, 90, 5, 50, 1, 10];
@@ -494,6 +695,7 @@ mod tests {
                 let state = store.state;
                 assert_eq!(store.find(1), Err(Error::BadState), "{state:?}");
                 assert_eq!(store.add(2, 0), Err(Error::BadState), "{state:?}");
+                assert_eq!(store.resize(8), Err(Error::BadState), "{state:?}");
                 let refused = Err(ScanError::Refused(Error::BadState));
                 assert_eq!(store.scan(0, &mut [0; 8]), refused, "{state:?}");
             }
@@ -502,19 +704,45 @@ mod tests {
         });
     }
 
-    /// What a resize does; this store has no such call.
-    fn begin_move(store: &mut Store, size: u32) {
-        store.second.fill(0);
-        store.state.new_size = size;
-        store.state.rehashing = true;
+    #[test]
+    fn a_resize_begins_a_move() {
+        with_store(|store| {
+            let before = store.state;
+            for size in [0, 3, 4, 16, MAX_SIZE * 2] {
+                assert_eq!(store.resize(size), Err(Error::BadSize), "{size}");
+            }
+            assert_eq!(store.state, before);
+            assert_eq!(store.second, [7; 8]);
+
+            assert_eq!(store.resize(2), Ok(()));
+            assert_eq!(store.second, [0, 0, 7, 7, 7, 7, 7, 7]);
+            let moving = State {
+                rehashing: true,
+                new_size: 2,
+                ..before
+            };
+            assert_eq!(store.state, moving);
+            for size in [1, 2, 3] {
+                assert_eq!(store.resize(size), Err(Error::Rehashing));
+            }
+            assert_eq!(store.state, moving);
+        });
+    }
+
+    /// An add without its tests and without a step, so that the old table stays
+    /// as it is.
+    fn put(store: &mut Store, key: u32, value: u32) {
+        let free = store.state.free_head;
+        store.state.free_head = store.link(free);
+        store.push(free, key, value);
     }
 
     /// Runs `test` during a move from size 4 to 8, with a fourth key in the new
     /// table. The group of cursor 1 has the chains of all four.
     fn with_two_tables(test: impl FnOnce(&mut Store)) {
         with_store(|store| {
-            begin_move(store, 8);
-            assert_eq!(store.add(13, 130), Ok(()));
+            assert_eq!(store.resize(8), Ok(()));
+            put(store, 13, 130);
             assert_eq!(store.state.new_used, 1);
             test(store);
         });
@@ -539,7 +767,7 @@ mod tests {
     #[test]
     fn chains_that_pass_the_keys_held_are_damaged() {
         with_two_tables(|store| {
-            assert_eq!(store.add(17, 170), Ok(()));
+            put(store, 17, 170);
             let counted = Scanned { next: 3, count: 5 };
             assert_eq!(store.scan(1, &mut [0; 10]), Ok(counted));
             store.state.new_used = 1;
@@ -569,7 +797,8 @@ mod tests {
         assert_eq!(store.scan(hash, &mut []), DAMAGED, "{hash}");
     }
 
-    /// Calls that read only buckets 2 and 6 are answered; key 2 is held there.
+    /// Calls that read only buckets 2 and 6 are answered; key 2 is held there. An
+    /// add in a move reads the chain that its step moves too, and is answered.
     fn expect_others_answered(store: &mut Store) {
         assert_eq!(store.find(2), Ok(20));
         assert_eq!(store.add(2, 0), Err(Error::Present));
@@ -626,12 +855,17 @@ mod tests {
 
     /// Runs `test` on tables of sizes 4 and 8, in a move from either to the
     /// other. Entries 3, 2 and 1 are the chain of the smaller one's bucket 1,
-    /// entries 5 and 4 that of the larger one's bucket 5.
+    /// entries 6 and 5 that of the larger one's bucket 5. The step of an add
+    /// moves neither, but entry 4 of the smaller table's bucket 0, or entry 7 of
+    /// the larger one's bucket 2.
     fn with_both_moves(test: fn(&mut Store)) {
         for shrinks in [false, true] {
-            with_two_tables(|store| {
-                assert_eq!(store.add(21, 210), Ok(()));
-                assert_eq!(store.add(2, 20), Ok(()));
+            with_store(|store| {
+                assert_eq!(store.add(4, 40), Ok(()));
+                assert_eq!(store.resize(8), Ok(()));
+                put(store, 13, 130);
+                put(store, 21, 210);
+                put(store, 2, 20);
                 if shrinks {
                     let grows = store.state;
                     store.state = State {
@@ -665,14 +899,14 @@ mod tests {
     #[test]
     fn a_key_belongs_by_the_larger_size_in_the_larger_table() {
         with_both_moves(|store| {
-            for entry in 4..=5 {
+            for entry in 5..=6 {
                 let own = [29, 65541];
                 // By size 4 the keys 17 and 25 have the same bucket as 5.
                 let off = [17, 25, 4, 7, u32::MAX];
                 expect_own_keys(store, entry, &own, &off, &[5, 13, 21, 29], 5);
             }
             // Lookups of 1, 9 and 17 read bucket 1 of the larger table, not 5.
-            set_key(store, 4, 17);
+            set_key(store, 5, 17);
             assert_eq!(store.find(1), Ok(10));
             assert_eq!(store.add(9, 0), Err(Error::Present));
             assert_eq!(store.find(17), Err(Error::Absent));
@@ -698,7 +932,8 @@ mod tests {
         pairs
     }
 
-    /// 500 adds, half of them to one table and half during a move.
+    /// 500 adds: half of them to one table, and then a move begins, which adds
+    /// end.
     #[test]
     fn a_store_filled_by_adds_is_never_damaged() {
         let key = |value: u32| value.wrapping_mul(2654435761);
@@ -715,10 +950,12 @@ mod tests {
             let mut store = Store::new(&mut first, &mut second, &mut entries);
             assert_eq!(store.init(500, old_size), Ok(()));
             let mut held = Vec::new();
+            let mut adds_in_move = 0;
             for value in 0..500 {
                 if value == 250 {
-                    begin_move(&mut store, new_size);
+                    assert_eq!(store.resize(new_size), Ok(()));
                 }
+                adds_in_move += u32::from(store.state.rehashing);
                 assert_eq!(store.find(key(value)), Err(Error::Absent));
                 assert_eq!(store.add(key(value), value), Ok(()));
                 held.push((key(value), value));
@@ -726,10 +963,290 @@ mod tests {
                     assert_eq!(store.find(key), Ok(value));
                 }
                 assert_eq!(walked(&store), held);
+                let state = store.state;
+                assert_eq!(state.old_used + state.new_used, value + 1);
             }
-            assert_eq!((store.state.old_used, store.state.new_used), (250, 250));
+            assert!((1..=old_size).contains(&adds_in_move));
+            let ended = State {
+                second_is_current: true,
+                old_size: new_size,
+                old_used: 500,
+                capacity: 500,
+                ..State::default()
+            };
+            assert_eq!(store.state, ended);
             assert_eq!(store.add(key(0), 0), Err(Error::Present));
             assert_eq!(store.add(key(500), 0), Err(Error::Full));
         }
+    }
+
+    /// Runs `test` at the start of a move from size 4 to 8: bucket 0 has entry 4,
+    /// with key 4, and bucket 1 has entries 3, 2 and 1, with keys 9, 5 and 1.
+    fn with_move(test: impl FnOnce(&mut Store)) {
+        with_store(|store| {
+            assert_eq!(store.add(4, 40), Ok(()));
+            assert_eq!(store.resize(8), Ok(()));
+            test(store);
+        });
+    }
+
+    /// The same with bucket 0 empty, so that the step moves bucket 1: entries 3
+    /// and 1 to the new bucket 1, entry 2 to the new bucket 5.
+    fn with_move_of_three(test: impl FnOnce(&mut Store)) {
+        with_store(|store| {
+            assert_eq!(store.resize(8), Ok(()));
+            test(store);
+        });
+    }
+
+    #[test]
+    fn an_add_in_a_move_takes_a_step_first() {
+        with_move(|store| {
+            // Bucket 0 moves, and then the key goes to the new table.
+            assert_eq!(store.add(12, 120), Ok(()));
+            assert_eq!(store.first, [0, 3, 0, 0]);
+            assert_eq!(store.second, [0, 0, 0, 0, 5, 0, 0, 0]);
+            assert_eq!(store.entries[9..15], [0, 4, 40, 4, 12, 120]);
+            let state = store.state;
+            assert_eq!((state.old_used, state.new_used), (3, 2));
+            assert_eq!((state.rehash_index, state.free_head), (1, 6));
+            assert!(state.rehashing);
+
+            // Bucket 1 moves, from its head on: that ends the move.
+            assert_eq!(store.add(13, 130), Ok(()));
+            assert_eq!(store.first, [0, 0, 0, 0]);
+            assert_eq!(store.second, [0, 1, 0, 0, 5, 6, 0, 0]);
+            let links = [store.link(1), store.link(3), store.link(6), store.link(2)];
+            assert_eq!(links, [3, 0, 2, 0]);
+            let ended = State {
+                second_is_current: true,
+                old_size: 8,
+                old_used: 6,
+                free_head: 7,
+                capacity: 8,
+                ..State::default()
+            };
+            assert_eq!(store.state, ended);
+        });
+    }
+
+    /// Runs `test` at the start of a move from size 16 to 32, with one key.
+    fn with_sparse_move(key: u32, test: impl FnOnce(&mut Store)) {
+        let (mut first, mut second, mut entries) = ([7; 16], [7; 32], [7; 12]);
+        let mut store = Store::new(&mut first, &mut second, &mut entries);
+        assert_eq!(store.init(4, 16), Ok(()));
+        assert_eq!(store.add(key, 0), Ok(()));
+        assert_eq!(store.resize(32), Ok(()));
+        test(&mut store);
+    }
+
+    /// The step of the first add passes ten empty buckets, that of the second
+    /// moves the key behind them.
+    #[test]
+    fn a_step_passes_ten_empty_buckets() {
+        with_sparse_move(10, |store| {
+            assert_eq!(store.add(26, 1), Ok(()));
+            let state = store.state;
+            assert_eq!((state.rehash_index, state.rehashing), (10, true));
+            assert_eq!((state.old_used, state.new_used), (1, 1));
+            assert_eq!(store.first[10], 1);
+            assert_eq!(store.add(42, 2), Ok(()));
+            assert!(!store.state.rehashing);
+            assert_eq!(walked(store), [(10, 0), (26, 1), (42, 2)]);
+        });
+    }
+
+    /// An add in a move that is refused, and changes nothing.
+    fn expect_refused(store: &mut Store, key: u32, error: Error) {
+        assert!(store.state.rehashing);
+        let before = Memory::of(store);
+        assert_eq!(store.add(key, 0), Err(error), "{key}");
+        assert_eq!(Memory::of(store), before, "{key}");
+    }
+
+    /// An add in a move that is answered, tried on a copy.
+    fn expect_added(store: &Store, key: u32) {
+        assert!(store.state.rehashing);
+        let mut copy = Memory::of(store);
+        assert_eq!(copy.call(|store| store.add(key, 0)), Ok(()), "{key}");
+    }
+
+    #[test]
+    fn a_refused_add_in_a_move_changes_nothing() {
+        with_move(|store| {
+            put(store, 13, 130);
+            put(store, 21, 210);
+            // On the chain that moves, on the key's old one and on its new one.
+            for key in [4, 5, 13] {
+                expect_refused(store, key, Error::Present);
+            }
+            // No free entry, and one whose link is out of range.
+            store.state.free_head = 0;
+            expect_refused(store, 29, Error::Damaged);
+            expect_refused(store, 13, Error::Present);
+            store.state.free_head = 7;
+            store.entries[start_of(7)] = 9;
+            expect_refused(store, 29, Error::Damaged);
+            expect_refused(store, 13, Error::Present);
+            store.entries[start_of(7)] = 8;
+            expect_added(store, 29);
+
+            put(store, 29, 290);
+            put(store, 37, 370);
+            expect_refused(store, 45, Error::Full);
+            expect_refused(store, 4, Error::Present);
+            // Damage of the key's old chain, of its new one, of the one that moves.
+            for (entry, own) in [(1, 1), (5, 13), (4, 4)] {
+                set_key(store, entry, 2);
+                expect_refused(store, 45, Error::Damaged);
+                expect_refused(store, 5, Error::Damaged);
+                set_key(store, entry, own);
+            }
+        });
+    }
+
+    /// By its count the old table holds keys. So one of its next buckets is
+    /// filled, or there is one behind the ten that a step passes.
+    #[test]
+    fn a_step_to_the_end_of_the_table_is_damage() {
+        with_move(|store| {
+            for index in [2, 4] {
+                store.state.rehash_index = index;
+                expect_refused(store, 2, Error::Damaged);
+            }
+            store.state.rehash_index = 1;
+            expect_added(store, 2);
+        });
+        with_sparse_move(0, |store| {
+            for index in [6, 16] {
+                store.state.rehash_index = index;
+                expect_refused(store, 2, Error::Damaged);
+            }
+            store.state.rehash_index = 5;
+            expect_added(store, 2);
+        });
+    }
+
+    /// The step moves nothing, whatever lies there.
+    #[test]
+    fn an_old_table_without_keys_is_only_left() {
+        with_move(|store| {
+            store.state.old_used = 0;
+            let first = store.first.to_vec();
+            assert_eq!(store.add(1, 11), Ok(()));
+            assert_eq!(store.first, first);
+            assert_eq!(store.second, [0, 5, 0, 0, 0, 0, 0, 0]);
+            let ended = State {
+                second_is_current: true,
+                old_size: 8,
+                old_used: 1,
+                free_head: 6,
+                capacity: 8,
+                ..State::default()
+            };
+            assert_eq!(store.state, ended);
+        });
+    }
+
+    /// The step is refused, whatever the key's own chains are.
+    #[test]
+    fn an_unsound_chain_that_moves_is_damage() {
+        with_move_of_three(|store| {
+            expect_added(store, 2);
+            // It loops, runs out of range, has a key off its bucket, is too long.
+            store.entries[start_of(1)] = 3;
+            expect_refused(store, 2, Error::Damaged);
+            store.entries[start_of(1)] = 9;
+            expect_refused(store, 2, Error::Damaged);
+            store.entries[start_of(1)] = 0;
+            set_key(store, 1, 3);
+            expect_refused(store, 2, Error::Damaged);
+            set_key(store, 1, 1);
+            store.state.old_used = 2;
+            expect_refused(store, 2, Error::Damaged);
+        });
+    }
+
+    /// Before the step both chains are sound. Behind it the new one would lead
+    /// from the entry that they share to its own head again.
+    #[test]
+    fn a_new_chain_into_the_chain_that_moves_is_damage() {
+        with_move_of_three(|store| {
+            put(store, 25, 250);
+            expect_added(store, 17);
+            store.entries[start_of(4)] = 1;
+            store.state.new_used = 2;
+            assert_eq!(store.find(17), Err(Error::Absent));
+            expect_refused(store, 17, Error::Damaged);
+            expect_refused(store, 1, Error::Damaged);
+            // The shared entry may be the whole chain.
+            store.second[1] = 1;
+            assert_eq!(store.find(17), Err(Error::Absent));
+            expect_refused(store, 17, Error::Damaged);
+            // Another new bucket's chain is not read.
+            expect_added(store, 2);
+        });
+    }
+
+    /// The step takes the keys that it moves off the old table's count.
+    #[test]
+    fn an_old_chain_longer_than_the_keys_left_is_damage() {
+        with_move(|store| {
+            expect_added(store, 13);
+            store.state.old_used = 3;
+            assert_eq!(store.find(13), Err(Error::Absent));
+            expect_refused(store, 13, Error::Damaged);
+            expect_refused(store, 1, Error::Damaged);
+            // Not where the move ends: then there is no old chain to read.
+            store.state.old_used = 1;
+            assert_eq!(store.find(13), Err(Error::Damaged));
+            expect_added(store, 13);
+        });
+        // Nor where it is the chain that moves, here with one key left by count.
+        with_move_of_three(|store| {
+            store.state.old_used = 4;
+            expect_added(store, 13);
+        });
+    }
+
+    /// The step puts the keys that it moves on the new table's count, and those
+    /// of the key's bucket on its chain.
+    #[test]
+    fn a_new_chain_longer_than_the_keys_then_is_damage() {
+        with_move_of_three(|store| {
+            put(store, 13, 130);
+            put(store, 21, 210);
+            // With entry 2 the chain will have three entries.
+            store.state.new_used = 0;
+            assert_eq!(store.find(29), Err(Error::Damaged));
+            expect_added(store, 29);
+            // With entry 1 too it will have four.
+            set_key(store, 1, 45);
+            expect_refused(store, 29, Error::Damaged);
+            store.state.new_used = 1;
+            expect_added(store, 29);
+        });
+    }
+
+    /// Behind the step the link of entries 3 and 2 is the head of their new
+    /// bucket, and the link of entry 1 is entry 3.
+    #[test]
+    fn a_free_entry_on_the_chain_that_moves_is_damage_by_its_new_link() {
+        with_move_of_three(|store| {
+            for (entry, bucket) in [(3, 1), (2, 5)] {
+                store.state.free_head = entry;
+                expect_added(store, 2);
+                store.second[bucket] = 9;
+                expect_refused(store, 2, Error::Damaged);
+                store.second[bucket] = 8;
+                expect_added(store, 2);
+            }
+            store.second[1] = 9;
+            store.state.free_head = 1;
+            assert_eq!(store.add(2, 20), Ok(()));
+            assert_eq!(store.state.free_head, 3);
+            assert_eq!(store.second, [0, 1, 1, 0, 0, 2, 0, 0]);
+            assert_eq!(store.entries[..3], [0, 2, 20]);
+        });
     }
 }

@@ -1,6 +1,6 @@
 //! Both programs as processes: first compared, then timed in turns.
 
-use crate::work::{Order, Work};
+use crate::work::{adds_in_move, Order, Work};
 use std::fmt;
 use std::io::{self, Read, Write};
 use std::path::Path;
@@ -9,6 +9,13 @@ use std::time::{Duration, Instant};
 
 /// The numbers of keys that are timed, the second as many as a store can hold.
 const TIMED: [u32; 2] = [4096, 65536];
+
+/// The kinds of work that a row gives as they are, with their call.
+const ROWS: [(Work, &str); 3] = [
+    (Work::Adds, "add"),
+    (Work::Finds, "find"),
+    (Work::Walks, "walk call"),
+];
 
 /// How long one timed run should take, about.
 const RUN_TIME: Duration = Duration::from_millis(300);
@@ -20,9 +27,13 @@ const RUNS: usize = 11;
 const TRIALS: usize = 3;
 
 /// Numbers of keys, with the rounds at which the sums are compared before
-/// anything is timed.
-const COMPARED: [(u32, &[u32]); 3] = [
+/// anything is timed. With 1 key no move begins, with 2 no add falls into one,
+/// and the adds of the small numbers end some moves.
+const COMPARED: [(u32, &[u32]); 6] = [
     (1, &[0, 1, 2]),
+    (2, &[0, 1, 2]),
+    (4, &[0, 1, 2, 100]),
+    (16, &[0, 1, 2, 100]),
     (4096, &[0, 1, 2, 3, 10, 100]),
     (65536, &[0, 1, 2, 3]),
 ];
@@ -109,7 +120,8 @@ pub struct Race<'a> {
     pub plain: Program<'a>,
 }
 
-/// The times of one kind of work, in turns.
+/// The times of one order, in turns.
+#[derive(Default)]
 struct Times {
     proved: Vec<Duration>,
     plain: Vec<Duration>,
@@ -132,19 +144,42 @@ impl Summary {
             least: each(sorted[0]),
         }
     }
+
+    /// The median less the other's median, and the least less the other's least.
+    /// Single runs are not subtracted: none belongs to one of the other's.
+    fn less(self, other: Summary) -> Summary {
+        Summary {
+            median: self.median - other.median,
+            least: self.least - other.least,
+        }
+    }
+}
+
+fn print_row(keys: u32, name: &str, rounds: u32, proved: Summary, plain: Summary) {
+    println!(
+        "| {keys} | {name} | {rounds} | {:.1} | {:.1} | {:.1} | {:.1} | {:.2} | {:.2} |",
+        proved.median,
+        proved.least,
+        plain.median,
+        plain.least,
+        proved.median / plain.median,
+        proved.least / plain.least,
+    );
 }
 
 impl Race<'_> {
     /// Compares both programs, then times them and prints a table.
     pub fn run(&self) -> Result<(), Failure> {
         self.compare()?;
-        println!("Median and least of {RUNS} runs of each program, in turns\n");
+        println!("Median and least of {RUNS} runs of each program, in turns");
+        println!("An add in a move: rounds with such adds, less as many rounds without them\n");
         println!("| keys | work | rounds | proved, ns | least | plain Rust, ns | least | ratio | of the least |");
         println!("|---|---|---|---|---|---|---|---|---|");
         for keys in TIMED {
-            for work in Work::ALL {
-                self.print_row(work, keys)?;
+            for (work, name) in ROWS {
+                self.print_work(work, name, keys)?;
             }
+            self.print_adds_in_move(keys)?;
         }
         println!();
         TIMED
@@ -153,22 +188,29 @@ impl Race<'_> {
     }
 
     /// The times of one add, one find or one walk call.
-    fn print_row(&self, work: Work, keys: u32) -> Result<(), Failure> {
+    fn print_work(&self, work: Work, name: &str, keys: u32) -> Result<(), Failure> {
         let rounds = self.rounds_for(work, keys)?;
-        let times = self.time(Order { work, keys, rounds }, RUNS)?;
+        let [times] = self.time([Order { work, keys, rounds }], RUNS)?;
         let operations = f64::from(rounds) * f64::from(keys);
         let proved = Summary::new(&times.proved, operations);
         let plain = Summary::new(&times.plain, operations);
-        println!(
-            "| {keys} | {} | {rounds} | {:.1} | {:.1} | {:.1} | {:.1} | {:.2} | {:.2} |",
-            work.name(),
-            proved.median,
-            proved.least,
-            plain.median,
-            plain.least,
-            proved.median / plain.median,
-            proved.least / plain.least,
-        );
+        print_row(keys, name, rounds, proved, plain);
+        Ok(())
+    }
+
+    /// The times of one add in a move: those of rounds with such adds, less those
+    /// of as many rounds without them. All four kinds of runs come in turns.
+    fn print_adds_in_move(&self, keys: u32) -> Result<(), Failure> {
+        let rounds = self.rounds_for(Work::Moves, keys)?;
+        let orders = [Work::Moves, Work::Halves].map(|work| Order { work, keys, rounds });
+        let [moves, halves] = self.time(orders, RUNS)?;
+        let adds = f64::from(rounds) * f64::from(adds_in_move(keys));
+        let less = |all: &[Duration], before: &[Duration]| {
+            Summary::new(all, adds).less(Summary::new(before, adds))
+        };
+        let proved = less(&moves.proved, &halves.proved);
+        let plain = less(&moves.plain, &halves.plain);
+        print_row(keys, "add in a move", rounds, proved, plain);
         Ok(())
     }
 
@@ -176,7 +218,7 @@ impl Race<'_> {
     /// the start of a process, one fill and one walk.
     fn print_start(&self, keys: u32) -> Result<(), Failure> {
         let (work, rounds) = (Work::Adds, 0);
-        let times = self.time(Order { work, keys, rounds }, RUNS)?;
+        let [times] = self.time([Order { work, keys, rounds }], RUNS)?;
         let milliseconds = 1e6;
         let proved = Summary::new(&times.proved, milliseconds);
         let plain = Summary::new(&times.plain, milliseconds);
@@ -221,7 +263,7 @@ impl Race<'_> {
     fn rounds_for(&self, work: Work, keys: u32) -> Result<u32, Failure> {
         let mut rounds = 64;
         loop {
-            let times = self.time(Order { work, keys, rounds }, TRIALS)?;
+            let [times] = self.time([Order { work, keys, rounds }], TRIALS)?;
             let least = |times: &[Duration]| times.iter().min().copied().unwrap_or_default();
             let time = least(&times.proved).max(least(&times.plain));
             if time * 4 >= RUN_TIME {
@@ -232,12 +274,16 @@ impl Race<'_> {
         }
     }
 
-    fn time(&self, order: Order, runs: usize) -> Result<Times, Failure> {
-        let text = order.to_string();
-        let pairs: Vec<_> = (0..runs)
-            .map(|_| self.time_once(&text))
-            .collect::<Result<_, _>>()?;
-        let (proved, plain) = pairs.into_iter().unzip();
-        Ok(Times { proved, plain })
+    /// So many runs of each order with each program, all in turns.
+    fn time<const N: usize>(&self, orders: [Order; N], runs: usize) -> Result<[Times; N], Failure> {
+        let mut times = std::array::from_fn(|_| Times::default());
+        for _ in 0..runs {
+            for (order, times) in orders.iter().zip(&mut times) {
+                let (proved, plain) = self.time_once(&order.to_string())?;
+                times.proved.push(proved);
+                times.plain.push(plain);
+            }
+        }
+        Ok(times)
     }
 }

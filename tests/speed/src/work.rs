@@ -17,29 +17,40 @@ pub enum Work {
     Adds,
     Finds,
     Walks,
+    /// Adds in a move, with all that comes before them.
+    Moves,
+    /// What comes before them, alone.
+    Halves,
 }
 
 impl Work {
-    pub const ALL: [Work; 3] = [Work::Adds, Work::Finds, Work::Walks];
+    pub const ALL: [Work; 5] = [
+        Work::Adds,
+        Work::Finds,
+        Work::Walks,
+        Work::Moves,
+        Work::Halves,
+    ];
 
     fn letter(self) -> char {
         match self {
             Work::Adds => 'A',
             Work::Finds => 'F',
             Work::Walks => 'W',
-        }
-    }
-
-    pub fn name(self) -> &'static str {
-        match self {
-            Work::Adds => "add",
-            Work::Finds => "find",
-            Work::Walks => "walk call",
+            Work::Moves => 'M',
+            Work::Halves => 'H',
         }
     }
 }
 
-/// So many rounds on a store of so many keys, in as many buckets.
+/// The adds in the move of a round of `Work::Moves`. The move finds half of the
+/// keys in half as many buckets, of which they fill some 63 of 100, and a step
+/// moves one bucket: these adds are fewer than the move has steps.
+pub fn adds_in_move(keys: u32) -> u32 {
+    keys / 4
+}
+
+/// So many rounds on a store for so many keys.
 #[derive(Clone, Copy, Debug, PartialEq, Eq)]
 pub struct Order {
     pub work: Work,
@@ -83,6 +94,7 @@ impl Order {
         let keys = make_keys(self.keys);
 
         fill(&mut store, &keys, SEED);
+        let adds = adds_in_move(self.keys);
         let seeds = numbers(SEED).take(self.rounds as usize);
         let sum = match self.work {
             Work::Adds => {
@@ -91,6 +103,8 @@ impl Order {
             }
             Work::Finds => seeds.fold(0, |sum, seed| find_all(&store, &keys, seed, sum)),
             Work::Walks => seeds.fold(0, |sum, _| walk_all(&store, &mut list, sum)),
+            Work::Moves => seeds.fold(0, |sum, seed| grow(&mut store, &keys, seed, adds, sum)),
+            Work::Halves => seeds.fold(0, |sum, seed| grow(&mut store, &keys, seed, 0, sum)),
         };
         // At the end the sum also tells what the store has come to hold.
         walk_all(&store, &mut list, sum)
@@ -131,21 +145,54 @@ fn ordered(keys: &[u32], seed: u32) -> impl Iterator<Item = u32> + '_ {
     })
 }
 
-/// A new store with every key, in the seed's order and with values that count
-/// up from the seed.
-fn fill(store: &mut Store, keys: &[u32], seed: u32) {
-    // A refusal shows in the sums. What the state holds is hidden from the
-    // compiler, as it is where a caller keeps it between calls: each field by
-    // itself, so that no two are known to be equal either. The proved program
-    // does so once for each start too, by a byte for each field.
-    let size = keys.len() as u32;
-    let _ = store.init(size, size);
+/// Every key once, in the seed's order and with values that count up from the
+/// seed.
+fn pairs(keys: &[u32], seed: u32) -> impl Iterator<Item = (u32, u32)> + '_ {
+    ordered(keys, seed).zip(seed..)
+}
+
+/// A new store. A refused call shows in the sums, here and below.
+fn start(store: &mut Store, capacity: u32, size: u32) {
+    let _ = store.init(capacity, size);
+    hide(store);
+}
+
+/// What the state holds is hidden from the compiler, as it is where a caller
+/// keeps it between calls: each field by itself, so that no two are known to be
+/// equal either. The proved program does so at the same places, by a byte for
+/// each field.
+fn hide(store: &mut Store) {
     store.state = black_box(store.state);
-    let mut value = seed;
-    for key in ordered(keys, seed) {
+}
+
+/// The next so many pairs. All adds are made here, by one call, as in the
+/// proved program.
+fn add_some(store: &mut Store, pairs: &mut impl Iterator<Item = (u32, u32)>, count: u32) {
+    for (key, value) in pairs.take(count as usize) {
         let _ = store.add(key, value);
-        value = value.wrapping_add(1);
     }
+}
+
+/// A new store with as many buckets as keys, and every key.
+fn fill(store: &mut Store, keys: &[u32], seed: u32) {
+    let size = keys.len() as u32;
+    start(store, size, size);
+    add_some(store, &mut pairs(keys, seed), size);
+}
+
+/// A new store with half as many buckets as keys (one at least) and half of the
+/// keys, then a move to as many buckets as keys, and so many adds in it. The
+/// sum, with how far the move has come: both numbers rise with each step.
+fn grow(store: &mut Store, keys: &[u32], seed: u32, adds: u32, sum: u32) -> u32 {
+    let size = keys.len() as u32;
+    let mut pairs = pairs(keys, seed);
+    start(store, size, (size / 2).max(1));
+    add_some(store, &mut pairs, size / 2);
+    let _ = store.resize(size);
+    hide(store);
+    add_some(store, &mut pairs, adds);
+    let progress = store.state.rehash_index.wrapping_add(store.state.new_used);
+    sum.wrapping_add(progress)
 }
 
 /// The sum, with the value of every key, in the seed's order.
@@ -243,6 +290,95 @@ mod tests {
             assert_eq!(answer(&format!("W {size} 1\n")), format!("{twice}\n"));
             let found = both.wrapping_add(values);
             assert_eq!(answer(&format!("F {size} 1")), format!("{found}\n"));
+        }
+    }
+
+    /// Runs `test` on a store for so many keys that is not started.
+    fn with_store(keys: u32, test: impl FnOnce(&mut Store)) {
+        let size = keys as usize;
+        let (mut first, mut second, mut entries) =
+            (vec![0; size], vec![0; size], vec![0; size * 3]);
+        test(&mut Store::new(&mut first, &mut second, &mut entries));
+    }
+
+    /// How far a move has come behind so many steps, where it began with half of
+    /// the keys in half as many buckets: the next bucket, and the keys moved. This
+    /// only counts the keys of each bucket.
+    fn moved(keys: &[u32], seed: u32, steps: u32) -> (u32, u32) {
+        let half = keys.len() / 2;
+        let mut counts = vec![0; half];
+        for key in ordered(keys, seed).take(half) {
+            counts[key as usize % half] += 1;
+        }
+        let mut next = 0;
+        for _ in 0..steps {
+            let filled = counts[next..].iter().take(10).position(|&n| n > 0);
+            next += filled.map_or(10, |empty| empty + 1);
+        }
+        (next as u32, counts[..next].iter().sum())
+    }
+
+    /// The move is still under way behind the last add, so that all adds fall
+    /// into it.
+    #[test]
+    fn the_timed_adds_do_not_end_their_move() {
+        for size in [4096, 65536] {
+            let keys = make_keys(size);
+            let half = size / 2;
+            with_store(size, |store| {
+                for seed in numbers(SEED).take(20) {
+                    for adds in [0, adds_in_move(size)] {
+                        let sum = grow(store, &keys, seed, adds, 0);
+                        let state = store.state;
+                        assert!(state.rehashing && state.old_used > 0);
+                        assert_eq!((state.old_size, state.new_size), (half, size));
+                        assert_eq!(state.old_used + state.new_used, half + adds);
+                        let (next, moved) = moved(&keys, seed, adds);
+                        assert_eq!((state.rehash_index, state.new_used), (next, moved + adds));
+                        assert_eq!(sum, next + moved + adds);
+                    }
+                }
+            });
+        }
+    }
+
+    #[test]
+    fn every_key_of_a_growing_store_is_walked() {
+        for size in [2, 4096, 65536] {
+            let keys = make_keys(size);
+            let seed = numbers(SEED).next().expect("there is no last number");
+            for (letter, adds) in [('H', 0), ('M', size / 4)] {
+                let held = size / 2 + adds;
+                let (next, moved) = moved(&keys, seed, adds);
+                let total = sum(ordered(&keys, seed).take(held as usize))
+                    .wrapping_add(sum(seed..seed + held))
+                    .wrapping_add(next + moved + adds);
+                let order = format!("{letter} {size} 1");
+                assert_eq!(answer(&order), format!("{total}\n"));
+            }
+        }
+    }
+
+    /// One key has no smaller table to begin with, so that there is no move, and
+    /// with two there is no add in it. In the others an add may end it.
+    #[test]
+    fn small_stores_grow_too() {
+        for size in [1, 2, 4, 16] {
+            let keys = make_keys(size);
+            let mut ended = 0;
+            with_store(size, |store| {
+                for seed in numbers(SEED).take(100) {
+                    grow(store, &keys, seed, adds_in_move(size), 0);
+                    let state = store.state;
+                    assert_eq!(state.old_used + state.new_used, size / 2 + size / 4);
+                    ended += u32::from(!state.rehashing);
+                }
+            });
+            match size {
+                1 => assert_eq!(ended, 100),
+                2 => assert_eq!(ended, 0),
+                _ => assert!((1..100).contains(&ended), "{size}: {ended}"),
+            }
         }
     }
 

@@ -1,4 +1,4 @@
--- `dict_add::add::add` meets its contract: the answer is made of what happened to the buffers.
+-- `dict_add::add::add` meets its contract: a rehash is under way, or the answer is made of what happened to the buffers.
 -- Assumes nothing.
 use borrow.Author.Needs.{needs}
 use Rattle.memory.proofs.Tested.{tested-lent}
@@ -11,10 +11,15 @@ add-spec =
     tie.close
     (tie.spec
     (λ c κs. search needs)
-    (λ c κs. search tested-lent)
+    (λ c κs. (search tested-lent, search needs))
+    (λ c κs. (search tested-lent, search needs))
     (λ c. search needs)
     (λ c. search needs)
     (λ c κs. search counted)
+    (λ c. search needs)
+    (λ c. search needs)
+    (λ c. search needs)
+    (λ c. search needs)
     (λ c. search needs)
     (λ c. search needs)
     (λ c. search needs)

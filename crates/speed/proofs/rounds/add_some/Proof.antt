@@ -1,20 +1,17 @@
--- `speed::rounds::add_all` is safe and ends. The buffers keep their lengths.
+-- `speed::rounds::add_some` is safe and ends. The buffers keep their lengths.
 -- Assumes nothing.
 use mathlib.Core.Path.{_≡_}
 use native.Mathlib.Omega.{arith}
 use lib.ListN.{length}
-use Rattle.speed.proofs.rounds.add_all.Statement.{statement}
-use Rattle.speed.proofs.rounds.add_all.Tie as tie
+use Rattle.speed.proofs.rounds.add_some.Statement.{statement}
+use Rattle.speed.proofs.rounds.add_some.Tie as tie
 
 abbrev Inv-loop : tie.InvT-loop
-Inv-loop first₀ second₀ entries₀ keys seed t₀ p₀ value₀ left₀ first second entries t p value left =
+Inv-loop first₀ second₀ entries₀ keys count t₀ p₀ value₀ left₀ first second entries t p value left =
     (length first ≡ length first₀) × (length second ≡ length second₀) × (length entries ≡ length entries₀)
 
 abbrev μ-loop : tie.MeasureT-loop
-μ-loop first₀ second₀ entries₀ keys seed t₀ p₀ value₀ left₀ first second entries t p value left = left
-
-path-of-requires : tie.Need-path-of-requires Inv-loop μ-loop
-path-of-requires c κs = tt
+μ-loop first₀ second₀ entries₀ keys count t₀ p₀ value₀ left₀ first second entries t p value left = left
 
 loop-holds : tie.Need-loop-holds Inv-loop μ-loop
 loop-holds c = omega arith
@@ -52,13 +49,12 @@ same-length-3 c = omega arith
 returns : tie.Need-returns Inv-loop μ-loop
 returns c = tt
 
-pub add-all-spec : {M : Type 1} → statement M
-add-all-spec =
+pub add-some-spec : {M : Type 1} → statement M
+add-some-spec =
     tie.close
     (tie.spec
     Inv-loop
     μ-loop
-    path-of-requires
     loop-holds
     sub-left
     key-at-requires

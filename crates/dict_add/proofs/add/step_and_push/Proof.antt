@@ -1,0 +1,28 @@
+-- `dict_add::add::step_and_push` meets its contract: the step is answered, and the first free entry goes into what it leaves.
+-- Assumes nothing.
+use borrow.Author.Needs.{needs}
+use Rattle.after_step.proofs.StepFirst.{then-sound}
+use Rattle.dict_add.proofs.AddingAfter.{free-then, link-then, add-stopped, add-taken}
+use Rattle.dict_add.proofs.add.step_and_push.Statement.{statement}
+use Rattle.dict_add.proofs.add.step_and_push.Tie as tie
+
+-- the entry goes by what the step leaves
+returns-2 : tie.Need-returns-2
+returns-2 c = search add-taken
+
+pub step-and-push-spec : {M : Type 1} → statement M
+step-and-push-spec =
+    tie.close
+    (tie.spec
+    (λ c κs. search needs)
+    (λ c. search needs)
+    (λ c. search needs)
+    (λ c κs. (search then-sound, (search free-then, search link-then)))
+    (λ c. search needs)
+    (λ c. search needs)
+    (λ c. search needs)
+    (λ c. search add-stopped)
+    (λ c. search needs)
+    (λ c. search needs)
+    (λ c. search needs)
+    returns-2)

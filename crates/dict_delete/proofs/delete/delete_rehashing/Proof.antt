@@ -1,0 +1,32 @@
+-- `dict_delete::delete::delete_rehashing` meets its contract: what is told of the memory after the step decides.
+-- Assumes nothing.
+use borrow.Author.Needs.{needs}
+use Rattle.dict_delete.proofs.Deleting.{delete-damaged, delete-absent}
+use Rattle.dict_delete.proofs.delete.delete_rehashing.Statement.{statement}
+use Rattle.dict_delete.proofs.delete.delete_rehashing.Tie as tie
+
+-- refused as absent, and no step is taken
+returns-2 : tie.Need-returns-2
+returns-2 c = search delete-absent
+
+pub delete-rehashing-spec : {M : Type 1} → statement M
+delete-rehashing-spec =
+    tie.close
+    (tie.spec
+    (λ c κs. search needs)
+    (λ c. search needs)
+    (λ c. search needs)
+    (λ c. search needs)
+    (λ c κs. record { sound = search needs; rehashing = search needs; told = cc })
+    (λ c. search needs)
+    (λ c. search needs)
+    (λ c. search needs)
+    (λ c. search delete-damaged)
+    (λ c. search needs)
+    (λ c. search needs)
+    (λ c. search needs)
+    returns-2
+    (λ c. search needs)
+    (λ c. search needs)
+    (λ c. search needs)
+    (λ c. search needs))

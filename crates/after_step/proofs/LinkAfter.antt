@@ -18,7 +18,7 @@ use Rattle.model.specs.Calls.{Chains, push, moved}
 use Rattle.model.proofs.Fields.{length-setLink, link-set-same, key-set-link}
 use Rattle.model.proofs.Moved.{moved-link}
 use Rattle.model.proofs.Linked.{Linked, room, linked-unique, linked-distinct, linked-head, linked-first, link-set-other}
-use Rattle.dict_rehash.specs.Progress.{chains, ChainOf}
+use Rattle.dict_rehash.specs.Progress.{ChainOf}
 use Rattle.after_step.specs.Links.{LinkMoved}
 
 -- ---- a chain moved

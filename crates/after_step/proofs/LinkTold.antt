@@ -5,14 +5,13 @@ use Prim.Native.Nat.{ℕ}
 use mathlib.Core.Path.{_≡_, refl, sym, ap, _∙_}
 use mathlib.Core.Bool.{Bool, true, false}
 use mathlib.Core.List.{List}
-use mathlib.Core.Option.{Option, some}
 use lib.ListN.{length, getD}
 use borrow.Author.Tests.{eq-eqb, ne-eqb}
 use Rattle.model.specs.declared.State.{State}
 use Rattle.model.specs.declared.Ahead.{Ahead}
 use Rattle.model.specs.declared.StepAnswer.{StepAnswer}
 use Rattle.model.specs.Memory.{linkOf, sizeOf, usedOf, bucketsOf, headAt, budgetAt, belongs, chainAt, listed}
-use Rattle.model.specs.Calls.{After, oriented, back, moved, movedChain, movedFrom, aheadOf, stepped, rehashStep}
+use Rattle.model.specs.Calls.{After, oriented, back, movedChain, movedFrom, aheadOf, stepped, rehashStep}
 use Rattle.model.proofs.Soundness.{Sound}
 use Rattle.memory.specs.declared.chain.ChainLength.{ChainLength}
 use Rattle.memory.specs.Length.{lengthOf}

@@ -5,6 +5,10 @@ use Rattle.dict_add.proofs.AddingAfter.{add-damaged, add-present}
 use Rattle.dict_add.proofs.add.add_rehashing.Statement.{statement}
 use Rattle.dict_add.proofs.add.add_rehashing.Tie as tie
 
+-- refused as present, and no step is taken
+returns-2 : tie.Need-returns-2
+returns-2 c = search add-present
+
 pub add-rehashing-spec : {M : Type 1} → statement M
 add-rehashing-spec =
     tie.close
@@ -21,7 +25,7 @@ add-rehashing-spec =
     (λ c. search needs)
     (λ c. search needs)
     (λ c. search needs)
-    (λ c. search add-present)
+    returns-2
     (λ c. search needs)
     (λ c. search needs)
     (λ c. search needs)

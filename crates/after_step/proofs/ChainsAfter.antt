@@ -20,7 +20,7 @@ use Rattle.model.proofs.Linked.{Linked, read-sound, linked-distinct, linked-in-
 use Rattle.model.proofs.Shared.{lastOr, shared-last}
 use Rattle.memory.specs.Length.{bucketChain}
 use Rattle.dict_rehash.specs.Progress.{chains}
-use Rattle.after_step.specs.Told.{bound, howMany}
+use Rattle.after_step.specs.Told.{ofBucket, howMany}
 use Rattle.model.proofs.Moved.{moved-key, moved-link}
 use Rattle.after_step.proofs.SameChains.{chain-same}
 use Rattle.after_step.proofs.Stacking.{stacked, Movable, moved-in-front, moved-before}
@@ -89,7 +89,7 @@ reads-nothing (some ls) f = absurd (f ls refl)
 module _ (size c capacity : ℕ) (filled : 0 < size) (other entries : List ℕ) (buckets-fit : size ≤ length other)
     (entries-fit : capacity * 3 ≤ length entries) (test : ℕ → Bool) (used head : ℕ) (ns : List ℕ)
     (read : chain test entries capacity used head ≡ some ns) (some-move : ns ≢ []) (budget whole : ℕ)
-    (counts : budget + howMany (bound size c entries) ns ≡ whole) where
+    (counts : budget + howMany (ofBucket size c entries) ns ≡ whole) where
   abbrev before : Option (List ℕ)
   before = bucketChain size entries capacity budget other c
 
@@ -99,7 +99,7 @@ module _ (size c capacity : ℕ) (filled : 0 < size) (other entries : List ℕ) 
   linked : Linked entries capacity head ns
   linked = read-sound test entries capacity used head ns read .0
 
-  movable : Movable size c capacity filled (bound size c entries) ns (chains other entries)
+  movable : Movable size c capacity filled (ofBucket size c entries) ns (chains other entries)
   movable =
       record {
         in-range = λ n i. linked-in-range entries capacity head n ns linked i;
@@ -109,16 +109,16 @@ module _ (size c capacity : ℕ) (filled : 0 < size) (other entries : List ℕ) 
       }
 
   parted : (ls : List ℕ) → after ≡ some ls → (ms : List ℕ) × (before ≡ some ms) × ((n : ℕ) → In n ns → ¬ In n ms)
-  parted = moved-before size c capacity filled (bound size c entries) ns (chains other entries) movable budget whole counts
+  parted = moved-before size c capacity filled (ofBucket size c entries) ns (chains other entries) movable budget whole counts
 
   pub new-chain-after : bucketChain size (moved size ns (chains other entries) .entries) capacity whole
       (moved size ns (chains other entries) .buckets) c
-      ≡ unlessLast (lastOr 0 ns) (stacked (bound size c entries) ns) (bucketChain size entries capacity budget other c)
+      ≡ unlessLast (lastOr 0 ns) (stacked (ofBucket size c entries) ns) (bucketChain size entries capacity budget other c)
   unfolding unlessLast
   new-chain-after = by before refl
     where
       ends : (ms : List ℕ) → before ≡ some ms → (t : Bool) → eqb (lastOr 0 ms) (lastOr 0 ns) ≡ t
-          → after ≡ cond t none (some (stacked (bound size c entries) ns ms))
+          → after ≡ cond t none (some (stacked (ofBucket size c entries) ns ms))
       ends ms e true t =
           let same = eqb-true (lastOr 0 ms) (lastOr 0 ns) t in
           let last = filled-last entries capacity head ns linked some-move in
@@ -128,13 +128,13 @@ module _ (size c capacity : ℕ) (filled : 0 < size) (other entries : List ℕ) 
           let sames : ms ≡ us = cc in
           apart (lastOr 0 ns) (last-in ns last) (rw (← sames, ← same) (last-in ms (omega arith))))
       ends ms e false t =
-          moved-in-front size c capacity filled (bound size c entries) ns (chains other entries) movable
+          moved-in-front size c capacity filled (ofBucket size c entries) ns (chains other entries) movable
           (linked-distinct entries capacity head ns linked) budget whole counts ms e
           (λ n i j.
           eqb-false (lastOr 0 ms) (lastOr 0 ns) t
           (sym (shared-last test (inBucket size c) entries capacity used budget head (getD other c 0) ns ms read e n i j)))
 
-      by : (o : Option (List ℕ)) → before ≡ o → after ≡ unlessLast (lastOr 0 ns) (stacked (bound size c entries) ns) o
+      by : (o : Option (List ℕ)) → before ≡ o → after ≡ unlessLast (lastOr 0 ns) (stacked (ofBucket size c entries) ns) o
       by none e =
           reads-nothing after
           (λ ls f. let (us, g, apart) = parted ls f in let z : _≡_ {A = ℕ} 0 1 = cc in omega arith)

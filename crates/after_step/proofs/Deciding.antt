@@ -34,7 +34,7 @@ use Rattle.dict_rehash.specs.Progress.{oldChain}
 use Rattle.after_step.specs.declared.presence.Presence.{Presence}
 use Rattle.after_step.specs.declared.presence.Survey.{Survey}
 use Rattle.after_step.specs.Presence.{presence, presenceAfter, presenceThen}
-use Rattle.after_step.specs.Told.{bound, howMany, has, surveyed, foundPresence, heldIf, either, newThen, oldThen, tablesThen, Moves}
+use Rattle.after_step.specs.Told.{ofBucket, howMany, has, surveyed, foundPresence, heldIf, either, newThen, oldThen, tablesThen, Moves}
 use Rattle.after_step.proofs.Presences.{presence-found}
 use Rattle.after_step.proofs.PresenceAfter.{then-refused, then-still, then-ended, then-moved}
 use Rattle.after_step.proofs.Surveying.{howMany-fits, surveyed-none, surveyed-some}
@@ -55,11 +55,11 @@ module _ (entries : List ℕ) (capacity budget : ℕ) (buckets : List ℕ) (size
   unfolding newThen
   new-unsound u = by-read none (surveyed-none r entries size b key _ e u)
 
-  module _ (count end mine : ℕ) (held : Bool) (s : r ≡ Survey.Sound count end mine held) where
+  module _ (count end joining : ℕ) (held : Bool) (s : r ≡ Survey.Sound count end joining held) where
     ends : (t : Bool) → eqb end last ≡ t → cond t Presence.Damaged (heldIf (moves || held)) ≡ meant
     unfolding newThen
     ends t f =
-        let (ns, read, n, l, m, h) = surveyed-some r entries size b key _ e count end mine held s in
+        let (ns, read, n, l, m, h) = surveyed-some r entries size b key _ e count end joining held s in
         (rw (← l, ← h, f) refl) ∙ by-read (some ns) read
 
     pub new-shared : end ≡ last
@@ -119,35 +119,35 @@ module _ (s : State) (current other entries : List ℕ) (b key c : ℕ) (r : Sur
       rw (surveyed-none r entries (s .«new_size») c key (oldChain s current entries b) e u)
       (sym (then-refused key current other entries (s .«second_is_current») Error.Damaged))
 
-  module _ (count last mine : ℕ) (held : Bool) (t : r ≡ Survey.Sound count last mine held) where
-    moving-fits : (count ≤ s .«old_used») × (mine ≤ count)
+  module _ (count last joining : ℕ) (held : Bool) (t : r ≡ Survey.Sound count last joining held) where
+    moving-fits : (count ≤ s .«old_used») × (joining ≤ count)
     moving-fits =
-        let (ns, read, n, l, m, h) = surveyed-some r entries (s .«new_size») c key (oldChain s current entries b) e count last mine held t in
+        let (ns, read, n, l, m, h) = surveyed-some r entries (s .«new_size») c key (oldChain s current entries b) e count last joining held t in
         let short = read-sound _ entries (s .capacity) (s .«old_used») (getD current b 0) ns read .1 in
-        (omega arith, omega (arith, howMany-fits (bound (s .«new_size») c entries) ns))
+        (omega arith, omega (arith, howMany-fits (ofBucket (s .«new_size») c entries) ns))
 
     pub old-enough : count ≤ s .«old_used»
     old-enough = moving-fits .0
 
-    pub new-enough : mine ≤ s .«new_used» + count
+    pub new-enough : joining ≤ s .«new_used» + count
     new-enough = omega (arith, moving-fits .1)
 
     pub moving-room : Moves s current other entries b → Fits w32 (s .capacity) → Fits w32 (s .«new_used» + count)
     moving-room h f = omega (arith, moving-fits .0, h .sound .used-fits)
 
     pub moving-sound : c ≡ bucketOf key (s .«new_size») → Moves s current other entries b → (x : Presence)
-        → x ≡ tablesThen s current other entries b key (s .«old_used» - count) (s .«new_used» + count - mine) last held
+        → x ≡ tablesThen s current other entries b key (s .«old_used» - count) (s .«new_used» + count - joining) last held
         → x ≡ presenceThen key (s .«second_is_current») (movedChain s current other entries b (oldChain s current entries b))
     moving-sound ce moves x xe =
-        let (ns, read, n, l, m, h) = surveyed-some r entries (s .«new_size») c key (oldChain s current entries b) e count last mine held t in
+        let (ns, read, n, l, m, h) = surveyed-some r entries (s .«new_size») c key (oldChain s current entries b) e count last joining held t in
         let fits = new-enough in
-        let counts : s .«new_used» + count - mine + howMany (bound (s .«new_size») (bucketOf key (s .«new_size»)) entries) ns
+        let counts : s .«new_used» + count - joining + howMany (ofBucket (s .«new_size») (bucketOf key (s .«new_size»)) entries) ns
         ≡ s .«new_used» + length ns =
         rw (← ce) (omega arith) in
-        let all = then-moved s key current other entries b moves ns read (s .«new_used» + count - mine) counts in
+        let all = then-moved s key current other entries b moves ns read (s .«new_used» + count - joining) counts in
         let left : s .«old_used» - count ≡ s .«old_used» - length ns = omega arith in
         let same : x
-        ≡ tablesThen s current other entries b key (s .«old_used» - length ns) (s .«new_used» + count - mine) (lastOr 0 ns)
+        ≡ tablesThen s current other entries b key (s .«old_used» - length ns) (s .«new_used» + count - joining) (lastOr 0 ns)
         (has entries key ns) =
         cc in
         same

@@ -1,10 +1,10 @@
--- What a move leaves, the chains after it, and what they are to a lookup after a step: these laws are public. Then what the
--- loop keeps, and what the code's parts come to.
-pub mod SameChains
-pub mod Stacking
-pub mod ChainsAfter
-pub mod Presences
-pub mod PresenceAfter
+-- The chains after a move, what they are to a lookup after a step, and what the code's parts come to; an entry's link; and
+-- what a call that takes a step first comes to, from what was told, which the calls use.
+mod SameChains
+mod Stacking
+mod ChainsAfter
+mod Presences
+mod PresenceAfter
 mod Surveying
 mod Deciding
 mod LinkAfter

@@ -29,7 +29,7 @@ use Rattle.search.proofs.Lookups.{lookup-resting, lookup-rehashing}
 use Rattle.dict_rehash.specs.Progress.{chains}
 use Rattle.after_step.specs.declared.presence.Presence.{Presence}
 use Rattle.after_step.specs.Presence.{presence, presenceAfter, presenceThen}
-use Rattle.after_step.specs.Told.{bound, howMany, has, heldIf, either, newThen, oldThen, tablesThen, Moves}
+use Rattle.after_step.specs.Told.{ofBucket, howMany, has, heldIf, either, newThen, oldThen, tablesThen, Moves}
 use Rattle.model.proofs.Moved.{moved-key}
 use Rattle.after_step.proofs.Stacking.{stacked}
 use Rattle.after_step.proofs.ChainsAfter.{unlessLast, old-chain-kept, old-chain-emptied, new-chain-after}
@@ -134,7 +134,7 @@ module _ (old new capacity used b : ℕ) (current other entries ns : List ℕ)
 
   -- the new table's
   pub new-after : 0 < new → new ≤ length other → capacity * 3 ≤ length entries → ns ≢ [] → (budget whole : ℕ)
-      → budget + howMany (bound new (bucketOf key new) entries) ns ≡ whole
+      → budget + howMany (ofBucket new (bucketOf key new) entries) ns ≡ whole
       → presence
       (searchedIn (moved new ns (chains other entries) .entries) capacity whole
       (moved new ns (chains other entries) .buckets) new key Table.New)
@@ -150,7 +150,7 @@ module _ (old new capacity used b : ℕ) (current other entries ns : List ℕ)
       before = bucketChain new entries capacity budget other (bucketOf key new)
 
       all : List ℕ → List ℕ
-      all ms = stacked (bound new (bucketOf key new) entries) ns ms
+      all ms = stacked (ofBucket new (bucketOf key new) entries) ns ms
 
       ends : (ms : List ℕ) (t : Bool)
           → seen entries key (cond t none (some (all ms))) ≡ cond t Presence.Damaged (heldIf (has entries key ns || has entries key ms))
@@ -205,7 +205,7 @@ module _ (s : State) (key : ℕ) (current other entries : List ℕ) where
   -- the chain of bucket b moves
   pub then-moved : (b : ℕ) → Moves s current other entries b → (ns : List ℕ)
       → bucketChain (s .«old_size») entries (s .capacity) (s .«old_used») current b ≡ some ns → (budget : ℕ)
-      → budget + howMany (bound (s .«new_size») (bucketOf key (s .«new_size»)) entries) ns ≡ s .«new_used» + length ns
+      → budget + howMany (ofBucket (s .«new_size») (bucketOf key (s .«new_size»)) entries) ns ≡ s .«new_used» + length ns
       → presenceThen key (s .«second_is_current») (movedChain s current other entries b (some ns))
       ≡ tablesThen s current other entries b key (s .«old_used» - length ns) budget (lastOr 0 ns) (has entries key ns)
   unfolding movedChain tablesThen

@@ -18,7 +18,7 @@ use Rattle.search.specs.Found.{foundOf}
 use Rattle.search.specs.Tables.{searchedIn}
 use Rattle.after_step.specs.declared.presence.Presence.{Presence}
 use Rattle.after_step.specs.Presence.{presence}
-use Rattle.after_step.specs.Told.{bound, has, foundPresence, heldIf, either}
+use Rattle.after_step.specs.Told.{ofBucket, has, foundPresence, heldIf, either}
 use Rattle.after_step.proofs.Stacking.{stacked}
 
 pub presence-both : (l m : Lookup) → presence (both l m) ≡ either (presence l) (presence m)
@@ -65,14 +65,14 @@ module _ (entries : List ℕ) (key : ℕ) where
 
   -- an entry with the key goes to the key's bucket, so the entries moved may all be asked
   pub has-stacked : (size : ℕ) (ns ms : List ℕ)
-      → has entries key (stacked (bound size (bucketOf key size) entries) ns ms) ≡ (has entries key ns || has entries key ms)
+      → has entries key (stacked (ofBucket size (bucketOf key size) entries) ns ms) ≡ (has entries key ns || has entries key ms)
   unfolding stacked has inBucket
   has-stacked size [] ms = refl
   has-stacked size (n ∷ ns) ms =
-      has-stacked size ns (cond (bound size (bucketOf key size) entries n) (n ∷ ms) ms)
-      ∙ by (bound size (bucketOf key size) entries n) (eqb (keyOf entries n) key) refl refl
+      has-stacked size ns (cond (ofBucket size (bucketOf key size) entries n) (n ∷ ms) ms)
+      ∙ by (ofBucket size (bucketOf key size) entries n) (eqb (keyOf entries n) key) refl refl
     where
-      by : (t u : Bool) → bound size (bucketOf key size) entries n ≡ t → eqb (keyOf entries n) key ≡ u
+      by : (t u : Bool) → ofBucket size (bucketOf key size) entries n ≡ t → eqb (keyOf entries n) key ≡ u
           → (has entries key ns || has entries key (cond t (n ∷ ms) ms)) ≡ ((u || has entries key ns) || has entries key ms)
       by true true p q = rw q (or-true (has entries key ns))
       by true false p q = rw q

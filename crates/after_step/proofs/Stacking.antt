@@ -20,7 +20,7 @@ use Rattle.model.specs.Calls.{Chains, push, moved}
 use Rattle.model.proofs.Fields.{length-setLink, link-set-same, key-set-link}
 use Rattle.model.proofs.Linked.{Linked, read-sound, read-complete, linked-kept, linked-first, linked-distinct, link-set-other}
 use Rattle.memory.specs.Length.{bucketChain}
-use Rattle.after_step.specs.Told.{bound, howMany}
+use Rattle.after_step.specs.Told.{ofBucket, howMany}
 use Rattle.after_step.proofs.SameChains.{chain-same}
 
 -- the entries of ns that pass, each put in front in turn: last first, and then ms
@@ -38,7 +38,7 @@ module _ (size c capacity : ℕ) (filled : 0 < size) (test : ℕ → Bool) where
     pub in-range : (n : ℕ) → In n ns → (0 < n) × (n ≤ capacity)
     pub entries-fit : capacity * 3 ≤ length (m .entries)
     pub buckets-fit : size ≤ length (m .buckets)
-    pub tested : (n : ℕ) → bound size c (m .entries) n ≡ test n
+    pub tested : (n : ℕ) → ofBucket size c (m .entries) n ≡ test n
 
   abbrev pub chainIn : Chains → ℕ → Option (List ℕ)
   chainIn m budget = bucketChain size (m .entries) capacity budget (m .buckets) c
@@ -89,7 +89,7 @@ module _ (size c capacity : ℕ) (filled : 0 < size) (test : ℕ → Bool) where
         let stray = h .tested n ∙ p in
         rw (getD-set-other (m .buckets) d c n 0 (λ e. eqb-false d c stray (sym e)))
         (chain-same (inBucket size c) (m .entries) (m′ .entries) capacity keys
-        (λ k q. links k (λ e. let z : _≡_ {A = ℕ} 0 1 = cc (ap (bound size c (m .entries)) e) in omega arith))
+        (λ k q. links k (λ e. let z : _≡_ {A = ℕ} 0 1 = cc (ap (ofBucket size c (m .entries)) e) in omega arith))
         budget at)
 
     module _ (p : test n ≡ true) where

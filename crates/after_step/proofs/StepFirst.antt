@@ -4,33 +4,22 @@ use Prim.Native.Nat.{ℕ}
 use mathlib.Core.Path.{_≡_, refl, sym, ap, subst, _∙_}
 use mathlib.Core.Bool.{Bool, true, false, cond}
 use mathlib.Core.List.{List}
+use native.Mathlib.Omega.{arith}
 use lib.ListN.{length}
 use Rattle.model.specs.declared.State.{State}
+use Rattle.model.specs.declared.Table.{Table}
 use Rattle.model.specs.declared.Error.{Error}
 use Rattle.model.specs.declared.Lookup.{Lookup}
 use Rattle.model.specs.declared.StepAnswer.{StepAnswer}
-use Rattle.model.specs.Memory.{soundState}
 use Rattle.model.specs.Calls.{After, sound, oriented, back, writing, lookup, rehashStep, unlessRefused, callAfter, stepFirst}
 use Rattle.model.proofs.StepLeaves.{Follows, RehashLeaves, rehash-leaves}
+use Rattle.model.proofs.StepFirst.{resting-first, stepping-first}
 use Rattle.memory.specs.Lent.{soundLent}
-use Rattle.memory.proofs.Orientation.{writing-refused, writing-sound}
+use Rattle.memory.proofs.Orientation.{lent-oriented, writing-refused, writing-sound}
 use Rattle.search.specs.Tables.{lookupLent}
 use Rattle.after_step.specs.declared.presence.Presence.{Presence}
 use Rattle.after_step.specs.Presence.{presence, presenceAfter, entriesAfter}
 use Rattle.after_step.specs.Planned.{Planned}
-
--- a state beside the lent buffers, as the code tests it and as the definitions do
-lent-oriented : (s : State) (x y z : List ℕ)
-    → soundLent (length x) (length y) (length z) s
-    ≡ oriented (s .«second_is_current») (λ current other. sound s current other z) x y
-unfolding soundLent oriented sound
-lent-oriented s x y z = pick (s .«second_is_current»)
-  where
-    pick : (f : Bool)
-        → soundState (cond f (length y) (length x)) (cond f (length x) (length y)) (length z) s
-        ≡ oriented f (λ current other. soundState (length current) (length other) (length z) s) x y
-    pick false = refl
-    pick true = refl
 
 -- ---- what a call answers
 
@@ -56,6 +45,26 @@ answer-by {A = A} s x y z key refusal call meant each h =
         ≡ meant (oriented f (λ c o. lookup s c o z key) x y)
     pick false = each x y (lookup s x y z key)
     pick true = same true (call y x (lookup s y x z key)) ∙ each y x (lookup s y x z key)
+
+-- what was told of a key says what its lookup finds
+
+pub is-damaged : (l : Lookup) → Presence.Damaged ≡ presence l → l ≡ Lookup.Damaged
+unfolding presence
+is-damaged Lookup.Damaged e = refl
+is-damaged Lookup.Absent e = let z : _≡_ {A = ℕ} 0 1 = cc in absurd (omega arith)
+is-damaged (Lookup.At t before n) e = let z : _≡_ {A = ℕ} 0 1 = cc in absurd (omega arith)
+
+pub is-absent : (l : Lookup) → Presence.Absent ≡ presence l → l ≡ Lookup.Absent
+unfolding presence
+is-absent Lookup.Damaged e = let z : _≡_ {A = ℕ} 0 1 = cc in absurd (omega arith)
+is-absent Lookup.Absent e = refl
+is-absent (Lookup.At t before n) e = let z : _≡_ {A = ℕ} 0 1 = cc in absurd (omega arith)
+
+pub is-held : (l : Lookup) → Presence.Held ≡ presence l → (t : Table) × (before : ℕ) × (n : ℕ) × (l ≡ Lookup.At t before n)
+unfolding presence
+is-held Lookup.Damaged e = let z : _≡_ {A = ℕ} 0 1 = cc in absurd (omega arith)
+is-held Lookup.Absent e = let z : _≡_ {A = ℕ} 0 1 = cc in absurd (omega arith)
+is-held (Lookup.At t before n) e = (t, before, n, refl)
 
 -- ---- the world after an answered step
 
@@ -112,13 +121,7 @@ module _ {A : Type 0} (refused : Error → A) (done : A → Bool) (call : State 
     (first second entries : List ℕ) where
   pub first-resting : (r : After A) → s .rehashing ≡ false → r ≡ call s first second entries
       → r ≡ stepFirst refused done call s first second entries
-  unfolding stepFirst
-  first-resting r e h =
-      h
-      ∙ ap
-      (λ (f : Bool).
-      cond f (callAfter refused done call first second entries (rehashStep s first second entries)) (call s first second entries))
-      (sym e)
+  first-resting r e h = h ∙ resting-first refused done call s first second entries e
 
   -- a state that is not sound: neither the step nor the call goes further than its test
   pub first-unsound : (t : Bool) → t ≡ soundLent (length first) (length second) (length entries) s → t ≡ false
@@ -137,22 +140,13 @@ module _ {A : Type 0} (refused : Error → A) (done : A → Bool) (call : State 
       by false = h
 
   module _ (e : s .rehashing ≡ true) where
-    first-stepping : callAfter refused done call first second entries (rehashStep s first second entries)
-        ≡ stepFirst refused done call s first second entries
-    unfolding stepFirst
-    first-stepping =
-        ap
-        (λ (f : Bool).
-        cond f (callAfter refused done call first second entries (rehashStep s first second entries)) (call s first second entries))
-        (sym e)
-
     -- the step is taken, and then the call
     pub first-done : (count : ℕ) (t : State) (x y z : List ℕ) (a : A) (p q w : List ℕ)
         → After.after (StepAnswer.Stepped count t) x y z ≡ rehashStep s first second entries
         → After.after a p q w ≡ call t x y z → done a ≡ true
         → After.after a p q w ≡ stepFirst refused done call s first second entries
     unfolding callAfter unlessRefused
-    first-done count t x y z a p q w r h d = (rw (← r, ← h, d) refl) ∙ first-stepping
+    first-done count t x y z a p q w r h d = (rw (← r, ← h, d) refl) ∙ stepping-first refused done call s first second entries e
 
     -- what is told of the key decides: no answered step leads to an answered call
     pub first-refused : (key : ℕ) (v : Presence) (answer : A)
@@ -164,7 +158,7 @@ module _ {A : Type 0} (refused : Error → A) (done : A → Bool) (call : State 
         → answerOf (call t x y z) ≡ answer)
         → After.after answer first second entries ≡ stepFirst refused done call s first second entries
     unfolding callAfter unlessRefused presenceAfter entriesAfter answerOf RehashLeaves
-    first-refused key v answer h k damaged d each = by (rehashStep s first second entries) refl ∙ first-stepping
+    first-refused key v answer h k damaged d each = by (rehashStep s first second entries) refl ∙ stepping-first refused done call s first second entries e
       where
         kept : (o : After A) → answerOf o ≡ answer
             → After.after answer first second entries ≡ unlessRefused done first second entries o

@@ -15,16 +15,16 @@ use Rattle.model.specs.Memory.{linkOf, keyOf, chain, inBucket}
 use Rattle.model.proofs.Chains.{chain-end, chain-bad, chain-stray, chain-good, budget-left}
 use Rattle.model.proofs.Shared.{lastOr}
 use Rattle.after_step.specs.declared.presence.Survey.{Survey}
-use Rattle.after_step.specs.Told.{bound, howMany, has, surveyed}
+use Rattle.after_step.specs.Told.{ofBucket, howMany, has, surveyed}
 
 -- ---- the loop
 
 -- what a survey says, with that many entries met before the chain, the last of them, how many of the bucket asked for, and
 -- whether one has the key
-pub onward : List ℕ → ℕ → ℕ → ℕ → (count last mine : ℕ) → Bool → Option (List ℕ) → Survey
-onward entries size c key count last mine held none = Survey.Unsound
-onward entries size c key count last mine held (some ns) =
-    Survey.Sound (count + length ns) (lastOr last ns) (mine + howMany (bound size c entries) ns) (held || has entries key ns)
+pub onward : List ℕ → ℕ → ℕ → ℕ → (count last joining : ℕ) → Bool → Option (List ℕ) → Survey
+onward entries size c key count last joining held none = Survey.Unsound
+onward entries size c key count last joining held (some ns) =
+    Survey.Sound (count + length ns) (lastOr last ns) (joining + howMany (ofBucket size c entries) ns) (held || has entries key ns)
 
 module _ (entries : List ℕ) (size c key : ℕ) where
   onward-start : (count : ℕ) (o : Option (List ℕ)) → count ≡ 0
@@ -33,18 +33,18 @@ module _ (entries : List ℕ) (size c key : ℕ) where
   onward-start count none e = refl
   onward-start count (some ns) e =
       let a : count + length ns ≡ length ns = omega arith in
-      let b : 0 + howMany (bound size c entries) ns ≡ howMany (bound size c entries) ns = omega arith in
+      let b : 0 + howMany (ofBucket size c entries) ns ≡ howMany (ofBucket size c entries) ns = omega arith in
       cc
 
-  onward-one : (count count′ last mine n : ℕ) (held : Bool) (o : Option (List ℕ)) → count′ ≡ suc count
-      → onward entries size c key count′ n (mine + boolByte (bound size c entries n)) (held || eqb (keyOf entries n) key) o
-      ≡ onward entries size c key count last mine held (Option·map (λ ns. n ∷ ns) o)
+  onward-one : (count count′ last joining n : ℕ) (held : Bool) (o : Option (List ℕ)) → count′ ≡ suc count
+      → onward entries size c key count′ n (joining + boolByte (ofBucket size c entries n)) (held || eqb (keyOf entries n) key) o
+      ≡ onward entries size c key count last joining held (Option·map (λ ns. n ∷ ns) o)
   unfolding onward howMany has lastOr
-  onward-one count count′ last mine n held none e = refl
-  onward-one count count′ last mine n held (some ns) e =
+  onward-one count count′ last joining n held none e = refl
+  onward-one count count′ last joining n held (some ns) e =
       let a : count′ + length ns ≡ count + suc (length ns) = omega arith in
-      let b : mine + boolByte (bound size c entries n) + howMany (bound size c entries) ns
-      ≡ mine + (boolByte (bound size c entries n) + howMany (bound size c entries) ns) = omega arith in
+      let b : joining + boolByte (ofBucket size c entries n) + howMany (ofBucket size c entries) ns
+      ≡ joining + (boolByte (ofBucket size c entries n) + howMany (ofBucket size c entries) ns) = omega arith in
       let d = or-assoc held (eqb (keyOf entries n) key) (has entries key ns) in
       cc
 
@@ -53,11 +53,11 @@ at-most-one true = omega arith
 at-most-one false = omega arith
 
 -- the entries met and the chain from here are the chain from the head
-pub record Surveying (test : ℕ → Bool) (entries : List ℕ) (capacity budget head size c key at left last mine : ℕ) (held : Bool)
+pub record Surveying (test : ℕ → Bool) (entries : List ℕ) (capacity budget head size c key at left last joining : ℕ) (held : Bool)
     : Type 0 where
   pub within : left ≤ budget
-  pub few : mine + left ≤ budget
-  pub same : onward entries size c key (budget - left) last mine held (chain test entries capacity left at)
+  pub few : joining + left ≤ budget
+  pub same : onward entries size c key (budget - left) last joining held (chain test entries capacity left at)
       ≡ surveyed entries size c key (chain test entries capacity budget head)
 
 module _ (test : ℕ → Bool) (entries : List ℕ) (capacity budget head size c key : ℕ) where
@@ -65,8 +65,8 @@ module _ (test : ℕ → Bool) (entries : List ℕ) (capacity budget head size c
   surveying-start =
       record { within = omega arith; few = omega arith; same = onward-start entries size c key _ _ (omega arith) }
 
-  module _ (at left last mine : ℕ) (held : Bool)
-      (h : Surveying test entries capacity budget head size c key at left last mine held) where
+  module _ (at left last joining : ℕ) (held : Bool)
+      (h : Surveying test entries capacity budget head size c key at left last joining held) where
     pub surveying-out : (at ≡ 0 → ⊥) → (eqb left 0 || ltb capacity at) ≡ true
         → Survey.Unsound ≡ surveyed entries size c key (chain test entries capacity budget head)
     unfolding onward
@@ -77,14 +77,14 @@ module _ (test : ℕ → Bool) (entries : List ℕ) (capacity budget head size c
     unfolding onward
     surveying-stray k f t ke p = rw (chain-stray test entries capacity left at f t (rw ke at p)) at (h .same)
 
-    pub surveying-fits : (eqb left 0 || ltb capacity at) ≡ false → Fits w32 budget → (t : Bool) → Fits w32 (mine + boolByte t)
+    pub surveying-fits : (eqb left 0 || ltb capacity at) ≡ false → Fits w32 budget → (t : Bool) → Fits w32 (joining + boolByte t)
     surveying-fits t f u = omega (arith, budget-left capacity left at t, h .few, at-most-one u)
 
-    pub surveying-next : (k i next mine′ : ℕ) (held′ : Bool) → (at ≡ 0 → ⊥) → (eqb left 0 || ltb capacity at) ≡ false
-        → k ≡ keyOf entries at → test k ≡ true → i ≡ bucketOf k size → next ≡ linkOf entries at → mine′ ≡ mine + boolByte (eqb i c)
-        → held′ ≡ (held || eqb k key) → Surveying test entries capacity budget head size c key next (left - 1) at mine′ held′
+    pub surveying-next : (k i next joining′ : ℕ) (held′ : Bool) → (at ≡ 0 → ⊥) → (eqb left 0 || ltb capacity at) ≡ false
+        → k ≡ keyOf entries at → test k ≡ true → i ≡ bucketOf k size → next ≡ linkOf entries at → joining′ ≡ joining + boolByte (eqb i c)
+        → held′ ≡ (held || eqb k key) → Surveying test entries capacity budget head size c key next (left - 1) at joining′ held′
     unfolding inBucket
-    surveying-next k i next mine′ held′ f t ke p ie ne me he =
+    surveying-next k i next joining′ held′ f t ke p ie ne me he =
         let l = budget-left capacity left at t in
         let w = h .within in
         let w′ = h .few in
@@ -93,18 +93,18 @@ module _ (test : ℕ → Bool) (entries : List ℕ) (capacity budget head size c
           few = omega (arith, me, at-most-one (eqb i c));
           same =
               rw (me, he, ie, ke, ne)
-              (onward-one entries size c key (budget - left) (budget - (left - 1)) last mine at held
+              (onward-one entries size c key (budget - left) (budget - (left - 1)) last joining at held
               (chain test entries capacity (left - 1) (linkOf entries at)) (omega arith)
-              ∙ ap (onward entries size c key (budget - left) last mine held) (sym (chain-good test entries capacity left at f t (rw ke at p)))
+              ∙ ap (onward entries size c key (budget - left) last joining held) (sym (chain-good test entries capacity left at f t (rw ke at p)))
               ∙ h .same);
         }
 
     pub surveying-end : at ≡ 0
-        → Survey.Sound (budget - left) last mine held ≡ surveyed entries size c key (chain test entries capacity budget head)
+        → Survey.Sound (budget - left) last joining held ≡ surveyed entries size c key (chain test entries capacity budget head)
     unfolding onward lastOr howMany has
     surveying-end e =
         let a : budget - left ≡ budget - left + 0 = omega arith in
-        let b : mine ≡ mine + 0 = omega arith in
+        let b : joining ≡ joining + 0 = omega arith in
         let d = or-false held in
         let end = rw (chain-end test entries capacity left at e) at (h .same) in
         cc
@@ -123,9 +123,9 @@ surveyed-none r entries size c key none e u = refl
 surveyed-none r entries size c key (some ns) e u = let z : _≡_ {A = ℕ} 0 1 = cc in absurd (omega arith)
 
 pub surveyed-some : (r : Survey) (entries : List ℕ) (size c key : ℕ) (o : Option (List ℕ)) → r ≡ surveyed entries size c key o
-    → (count last mine : ℕ) (held : Bool) → r ≡ Survey.Sound count last mine held
-    → (ns : List ℕ) × (o ≡ some ns) × (count ≡ length ns) × (last ≡ lastOr 0 ns) × (mine ≡ howMany (bound size c entries) ns)
+    → (count last joining : ℕ) (held : Bool) → r ≡ Survey.Sound count last joining held
+    → (ns : List ℕ) × (o ≡ some ns) × (count ≡ length ns) × (last ≡ lastOr 0 ns) × (joining ≡ howMany (ofBucket size c entries) ns)
     × (held ≡ has entries key ns)
 unfolding surveyed
-surveyed-some r entries size c key none e count last mine held s = let z : _≡_ {A = ℕ} 0 1 = cc in absurd (omega arith)
-surveyed-some r entries size c key (some ns) e count last mine held s = (ns, refl, cc, cc, cc, cc)
+surveyed-some r entries size c key none e count last joining held s = let z : _≡_ {A = ℕ} 0 1 = cc in absurd (omega arith)
+surveyed-some r entries size c key (some ns) e count last joining held s = (ns, refl, cc, cc, cc, cc)

@@ -1,4 +1,5 @@
--- What a lookup finds after a rehash step, and what the functions below the public one tell of it.
+-- What a lookup and an entry's link are after a rehash step, what the functions below the public ones tell of it, and what a
+-- call knows that is to take the step.
 pub mod Presence
 pub mod Told
 pub mod Links

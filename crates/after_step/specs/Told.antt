@@ -23,8 +23,8 @@ use Rattle.after_step.specs.Presence.{presence}
 -- One pass over a chain. `boolByte` is 1 of true and 0 of false.
 
 -- whether the entry's key is of bucket c of a table of that size
-abbrev pub bound : ℕ → ℕ → List ℕ → ℕ → Bool
-bound size c entries n = inBucket size c (keyOf entries n)
+abbrev pub ofBucket : ℕ → ℕ → List ℕ → ℕ → Bool
+ofBucket size c entries n = inBucket size c (keyOf entries n)
 
 unfoldable pub howMany : (ℕ → Bool) → List ℕ → ℕ
 howMany test [] = 0
@@ -38,7 +38,7 @@ has entries key (n ∷ ns) = eqb (keyOf entries n) key || has entries key ns
 unfoldable pub surveyed : List ℕ → ℕ → ℕ → ℕ → Option (List ℕ) → Survey
 surveyed entries size c key none = Survey.Unsound
 surveyed entries size c key (some ns) =
-    Survey.Sound (length ns) (lastOr 0 ns) (howMany (bound size c entries) ns) (has entries key ns)
+    Survey.Sound (length ns) (lastOr 0 ns) (howMany (ofBucket size c entries) ns) (has entries key ns)
 
 -- Presences.
 

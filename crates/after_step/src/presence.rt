@@ -43,7 +43,7 @@ enum Survey {
         // The last of them, 0 if there is none.
         last: u32,
         // How many have a key of the bucket asked for.
-        mine: u32,
+        joining: u32,
         // Whether one has the key.
         held: bool,
     },
@@ -70,7 +70,7 @@ fn survey_chain(
     let mut at = head;
     let mut left = budget;
     let mut last = 0;
-    let mut mine = 0;
+    let mut joining = 0;
     let mut held = false;
     while at != 0 {
         if (left == 0) | (capacity < at) {
@@ -82,14 +82,14 @@ fn survey_chain(
         }
         left -= 1;
         last = at;
-        mine += (bucket_index(met, new_size) == c) as u32;
+        joining += (bucket_index(met, new_size) == c) as u32;
         held = held | (met == key);
         at = link_of(entries, at);
     }
     Survey::Sound {
         count: budget - left,
         last,
-        mine,
+        joining,
         held,
     }
 }
@@ -148,7 +148,7 @@ fn new_then(
         Survey::Sound {
             count: _,
             last: end,
-            mine: _,
+            joining: _,
             held,
         } => {
             if end == last {
@@ -244,11 +244,11 @@ fn presence_moving(
         Survey::Sound {
             count,
             last,
-            mine,
+            joining,
             held,
         } => {
             let left = s.old_used - count;
-            let budget = s.new_used + count - mine;
+            let budget = s.new_used + count - joining;
             tables_then(
                 current,
                 other,

@@ -28,7 +28,7 @@ use Rattle.search.proofs.Readable.{old-first, old-second, new-first, new-second
 use Rattle.after_step.specs.declared.presence.Presence.{Presence}
 use Rattle.after_step.specs.Presence.{presence, presenceAfter, entriesAfter}
 use Rattle.after_step.specs.Planned.{Planned}
-use Rattle.after_step.proofs.StepFirst.{answerOf, answer-by, then-damaged, then-step, then-sound, then-follows, then-told, then-entries, first-done, first-refused}
+use Rattle.after_step.proofs.StepFirst.{answerOf, answer-by, is-damaged, is-absent, is-held, then-damaged, then-step, then-sound, then-follows, then-told, then-entries, first-done, first-refused}
 use Rattle.dict_add.specs.Push.{oneMore, pushedLent}
 use Rattle.dict_add.specs.Takes.{Room, Takes}
 use Rattle.dict_add.proofs.Pushing.{entry-readable}
@@ -70,23 +70,13 @@ module _ (s : State) (x y z : List ℕ) (key value : ℕ) where
 
 told-damaged : (s : State) (z : List ℕ) (l : Lookup) → Presence.Damaged ≡ presence l
     → addAnswer s z l ≡ AddAnswer.Refused Error.Damaged
-unfolding presence addAnswer
-told-damaged s z Lookup.Damaged e = refl
-told-damaged s z Lookup.Absent e = let z : _≡_ {A = ℕ} 0 1 = cc in absurd (omega arith)
-told-damaged s z (Lookup.At t before n) e = let z : _≡_ {A = ℕ} 0 1 = cc in absurd (omega arith)
+unfolding addAnswer
+told-damaged s z l e = ap (addAnswer s z) (is-damaged l e)
 
 told-held : (s : State) (z : List ℕ) (l : Lookup) → Presence.Held ≡ presence l
     → addAnswer s z l ≡ AddAnswer.Refused Error.Present
-unfolding presence addAnswer
-told-held s z Lookup.Damaged e = let z : _≡_ {A = ℕ} 0 1 = cc in absurd (omega arith)
-told-held s z Lookup.Absent e = let z : _≡_ {A = ℕ} 0 1 = cc in absurd (omega arith)
-told-held s z (Lookup.At t before n) e = refl
-
-told-absent : (l : Lookup) → Presence.Absent ≡ presence l → l ≡ Lookup.Absent
-unfolding presence
-told-absent Lookup.Damaged e = let z : _≡_ {A = ℕ} 0 1 = cc in absurd (omega arith)
-told-absent Lookup.Absent e = refl
-told-absent (Lookup.At t before n) e = let z : _≡_ {A = ℕ} 0 1 = cc in absurd (omega arith)
+unfolding addAnswer
+told-held s z l e = ap (addAnswer s z) (is-held l e .3)
 
 -- The key is absent.
 
@@ -275,7 +265,7 @@ module _ (s : State) (first second entries : List ℕ) (key value : ℕ) where
         (λ e. let z : _≡_ {A = ℕ} 0 1 = cc in absurd (omega arith)) refl
         (λ t x y z p o e w.
         alone-answer t x y z key value p
-        ∙ ap (addAnswer t z) (told-absent (lookupLent t x y z key) w)
+        ∙ ap (addAnswer t z) (is-absent (lookupLent t x y z key) w)
         ∙ ap (λ (z : List ℕ). addAnswer t z Lookup.Absent) e
         ∙ each t o)
 
@@ -325,7 +315,7 @@ module _ (s : State) (first second entries : List ℕ) (key value : ℕ) where
       add-taken a p q w g =
           let sound = then-sound s first second entries key Presence.Absent (k .room .planned) r x y z e count t d in
           let absent =
-          told-absent (lookupLent t x y z key) (then-told s first second entries key Presence.Absent (k .room .planned) r x y z e count t d) in
+          is-absent (lookupLent t x y z key) (then-told s first second entries key Presence.Absent (k .room .planned) r x y z e count t d) in
           let takes = good-link t z free-then (rw (← link-then, follows .capacity) (k .link-fits)) in
           let alone = g ∙ alone-pushes t x y z key value sound absent (room-then s (k .room .not-full) t follows) takes in
           first-done AddAnswer.Refused isAdded (λ t x y z. addAlone t x y z key value) s first second entries

@@ -1,5 +1,5 @@
--- What the functions below add hand up, and what they promise, in numbers: they know one table and no state. Add makes its
--- answer of it.
+-- What the functions below add hand up, and what they promise: with no rehash in numbers, of one table, and add makes its
+-- answer of it; behind a step on the lent buffers.
 use Prim.Native.Nat.{ℕ, _+_}
 use mathlib.Core.Bool.{_&&_, not, cond}
 use mathlib.Core.List.{List}

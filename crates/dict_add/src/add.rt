@@ -1,5 +1,6 @@
 // Add a key that is not held (SPECIFICATION, "Add"). It is a timed call: the state is tested on the lent lengths, then whether
-// a rehash is under way, then which buffer is current. What has more than one caller below that takes numbers and no state.
+// a rehash is under way, then, if none is, which buffer is current; below that are functions of numbers. During a rehash a step
+// comes first ("The step that comes first"), and all that can refuse is asked before it.
 use after_step::link::link_after_step;
 use after_step::presence::Presence;
 use after_step::presence::presence_after_step;
@@ -173,7 +174,7 @@ fn target_size(s: State) -> u32
     if s.rehashing { s.new_size } else { s.old_size }
 }
 
-// The first free entry into that table, which has what the two flags say of the lent buffers. Its link is known.
+// The first free entry into that table, in the lent buffer that the two flags name. Its link is known.
 fn push_lent(
     first: &mut [u32],
     second: &mut [u32],

@@ -20,7 +20,7 @@ use Rattle.search.specs.Tables.{lookupLent}
 use Rattle.after_step.specs.declared.presence.Presence.{Presence}
 use Rattle.after_step.specs.Presence.{presence, presenceAfter}
 use Rattle.after_step.specs.Planned.{Planned}
-use Rattle.after_step.proofs.StepFirst.{answerOf, answer-by, then-damaged, then-step, then-sound, then-told, first-resting, first-unsound, first-done, first-refused}
+use Rattle.after_step.proofs.StepFirst.{answerOf, answer-by, is-damaged, is-absent, is-held, then-damaged, then-step, then-sound, then-told, first-resting, first-unsound, first-done, first-refused}
 
 -- Alone, on the lent buffers.
 
@@ -62,22 +62,16 @@ module _ (s : State) (x y z : List ℕ) (key : ℕ) where
 -- what was told of the key says as much
 
 told-damaged : (s : State) (l : Lookup) → Presence.Damaged ≡ presence l → deleteAnswer s l ≡ DeleteAnswer.Refused Error.Damaged
-unfolding presence deleteAnswer held
-told-damaged s Lookup.Damaged e = refl
-told-damaged s Lookup.Absent e = let z : _≡_ {A = ℕ} 0 1 = cc in absurd (omega arith)
-told-damaged s (Lookup.At t before n) e = let z : _≡_ {A = ℕ} 0 1 = cc in absurd (omega arith)
+unfolding deleteAnswer held
+told-damaged s l e = ap (deleteAnswer s) (is-damaged l e)
 
 told-absent : (s : State) (l : Lookup) → Presence.Absent ≡ presence l → deleteAnswer s l ≡ DeleteAnswer.Refused Error.Absent
-unfolding presence deleteAnswer held
-told-absent s Lookup.Damaged e = let z : _≡_ {A = ℕ} 0 1 = cc in absurd (omega arith)
-told-absent s Lookup.Absent e = refl
-told-absent s (Lookup.At t before n) e = let z : _≡_ {A = ℕ} 0 1 = cc in absurd (omega arith)
+unfolding deleteAnswer held
+told-absent s l e = ap (deleteAnswer s) (is-absent l e)
 
 told-held : (s : State) (l : Lookup) → Presence.Held ≡ presence l → isDeleted (deleteAnswer s l) ≡ true
-unfolding presence deleteAnswer held isDeleted
-told-held s Lookup.Damaged e = let z : _≡_ {A = ℕ} 0 1 = cc in absurd (omega arith)
-told-held s Lookup.Absent e = let z : _≡_ {A = ℕ} 0 1 = cc in absurd (omega arith)
-told-held s (Lookup.At t before n) e = refl
+unfolding deleteAnswer held isDeleted
+told-held s l e = ap (λ (k : Lookup). isDeleted (deleteAnswer s k)) (is-held l e .3)
 
 -- The whole call.
 

@@ -31,7 +31,7 @@ enum Progress {
 }
 
 // What comes from that bucket on in a table of that size: a step passes only so many empty buckets, and must then see one
-// more, filled or not, before the table's end.
+// more, filled or not, before the table's end. (Public for those who ask what a step would do.)
 pub fn look_ahead(buckets: &[u32], from: u32, size: u32) -> Ahead
     requires { ⌜ (from ≤ size) × (size ≤ length (now buckets)) ⌝ }
     ensures { λ r. ⌜ r ≡ calls.ahead (now (buckets .entry)) from (size - from) emptyVisits ⌝ }

@@ -45,6 +45,19 @@ oriented-map f true call first second = refl
 
 -- After the test on the lent lengths.
 
+-- it is the definitions' test
+pub lent-oriented : (s : State) (first second entries : List ℕ)
+    → soundLent (length first) (length second) (length entries) s
+    ≡ oriented (s .«second_is_current») (λ current other. sound s current other entries) first second
+unfolding soundLent oriented sound
+lent-oriented s first second entries = pick (s .«second_is_current»)
+  where
+    pick : (flag : Bool)
+        → soundState (cond flag (length second) (length first)) (cond flag (length first) (length second)) (length entries) s
+        ≡ oriented flag (λ current other. soundState (length current) (length other) (length entries) s) first second
+    pick false = refl
+    pick true = refl
+
 module _ {A : Type 0} (s : State) (first second entries : List ℕ) (t : Bool)
     (e : t ≡ soundLent (length first) (length second) (length entries) s) where
   -- the test decides, whatever the flag

@@ -13,5 +13,6 @@ pub mod Lookups
 pub mod Moved
 pub mod StepAhead
 pub mod StepLeaves
+pub mod StepFirst
 pub mod Pairs
 pub mod Suggested

@@ -1,5 +1,5 @@
 -- What a rehash step leaves, whatever the memory: refused, all that was there; answered, buffers of the same lengths, and a
--- sound state with the same keys, capacity and free head.
+-- sound state with as many keys held, the same capacity and the same free head.
 -- Assumes nothing.
 use Prim.Native.Nat.{ℕ, suc, _-_, _≤_, _<_}
 use mathlib.Core.Path.{_≡_, refl, sym, ap, subst, _∙_}
@@ -27,9 +27,9 @@ use Rattle.model.proofs.StepAhead.{Comes, ahead-comes}
 
 -- By the lengths of the current and the other buffer before it: the rehash goes on, or it is over and the two change parts.
 pub data Onward (s : State) (current other entries : ℕ) (t : State) : Type 0 where
-  on : t .«second_is_current» ≡ s .«second_is_current» → t .rehashing ≡ true → Sound t current other entries
+  on : t .«second_is_current» ≡ s .«second_is_current» → Sound t current other entries
       → Onward s current other entries t
-  over : t .«second_is_current» ≡ not (s .«second_is_current») → t .rehashing ≡ false → Sound t other current entries
+  over : t .«second_is_current» ≡ not (s .«second_is_current») → Sound t other current entries
       → Onward s current other entries t
 
 -- what a call on it finds as before
@@ -85,8 +85,8 @@ module _ (s : State) (current other entries : ℕ) (h : Sound s current other en
   settled-onward = by (eqb (then .«old_used») 0)
     where
       by : (t : Bool) → Onward s current other entries (cond t (finished then) then)
-      by true = Onward.over refl refl over-sound
-      by false = Onward.on refl refl on-sound
+      by true = Onward.over refl over-sound
+      by false = Onward.on refl on-sound
 
   settled-follows : Follows s (settled then)
   unfolding settled finished advanced retabled stateOf oldNew keysHeld
@@ -181,13 +181,13 @@ module _ (s : State) (first second entries : List ℕ) (e : s .rehashing ≡ tru
       (oriented f (λ x y. x) c o) (oriented f (λ x y. y) c o)
       ≡ true
   unfolding oriented
-  onward-sound false p t c o z (Onward.on g r h) =
+  onward-sound false p t c o z (Onward.on g h) =
       subst (λ (f : Bool). oriented f (λ current other. sound t current other z) c o ≡ true) (sym (g ∙ p)) (sound-test t c o z h)
-  onward-sound false p t c o z (Onward.over g r h) =
+  onward-sound false p t c o z (Onward.over g h) =
       subst (λ (f : Bool). oriented f (λ current other. sound t current other z) c o ≡ true) (sym (g ∙ ap not p)) (sound-test t o c z h)
-  onward-sound true p t c o z (Onward.on g r h) =
+  onward-sound true p t c o z (Onward.on g h) =
       subst (λ (f : Bool). oriented f (λ current other. sound t current other z) o c ≡ true) (sym (g ∙ p)) (sound-test t c o z h)
-  onward-sound true p t c o z (Onward.over g r h) =
+  onward-sound true p t c o z (Onward.over g h) =
       subst (λ (f : Bool). oriented f (λ current other. sound t current other z) o c ≡ true) (sym (g ∙ ap not p)) (sound-test t o c z h)
 
   turned-leaves : (f : Bool) → s .«second_is_current» ≡ f → (a : After StepAnswer)

@@ -1,5 +1,5 @@
--- What every call answers and leaves, with no step before it, in one walk over its definition: the number of the first row that is given; where it
--- is refused all that was there, and where it is answered the lengths of the buffers.
+-- What every call answers and leaves, with no step before it, in one walk over its definition: the number of the first row
+-- that is given; where it is refused all that was there, and where it is answered the lengths of the buffers.
 -- Assumes nothing.
 use Prim.Native.Nat.{ℕ, zero, suc, _+_, _*_, _<_, _≤_}
 use mathlib.Core.Path.{_≡_, refl, sym, subst}

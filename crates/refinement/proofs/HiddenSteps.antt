@@ -14,6 +14,7 @@ use Rattle.model.specs.Answers.{Reply, reply, errorNumber, addReply, deleteRepl
 use Rattle.model.specs.Calls.{After, unlessRefused, stepFirst, isAdded, isDeleted}
 use Rattle.model.specs.Calls as calls
 use Rattle.model.specs.Sequences.{World, world, KeyCall, Call, Outcome, kept, left, given, perform, carriedState, carry}
+use Rattle.model.proofs.StepFirst.{resting-first, stepping-first}
 use Rattle.refinement.specs.Worlds.{takesStep}
 
 -- a call on a key with no step
@@ -98,23 +99,14 @@ module _ {A : Type 0} (refused : Error → A) (done : A → Bool) (replies : Sta
 
   rides : w .state .rehashing ≡ true
       → Rides w (perform w Call.rehashStep) then (left (replies (w .state)) (given w (stepFirst refused done call)))
-  unfolding perform given stepFirst
+  unfolding perform given
   rides e =
-      subst
-      (λ (f : Bool).
-      Rides w (perform w Call.rehashStep) then
-      (left (replies (w .state))
-      (cond f (calls.callAfter refused done call (w .first) (w .second) (w .entries) (given w calls.rehashStep))
-      (call (w .state) (w .first) (w .second) (w .entries)))))
-      (sym e) (rides-by (given w calls.rehashStep))
+      subst (λ (a : After A). Rides w (perform w Call.rehashStep) then (left (replies (w .state)) a))
+      (stepping-first refused done call (w .state) (w .first) (w .second) (w .entries) e) (rides-by (given w calls.rehashStep))
 
   rests : w .state .rehashing ≡ false → given w (stepFirst refused done call) ≡ given w call
-  unfolding given stepFirst
-  rests e =
-      ap
-      (λ (f : Bool).
-      cond f (calls.callAfter refused done call (w .first) (w .second) (w .entries) (given w calls.rehashStep)) (given w call))
-      e
+  unfolding given
+  rests e = sym (resting-first refused done call (w .state) (w .first) (w .second) (w .entries) e)
 
 -- for add and delete
 

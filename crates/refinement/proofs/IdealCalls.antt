@@ -196,19 +196,19 @@ pub data Passes (i : Ideal) (c : Call) (j : Ideal) : Type 0 where
 
 module _ (l : Lengths) (i : Ideal) (size new : ℕ) (moving : i .tables ≡ Tables.two size new) (a b : ℕ) where
   -- (or else it starts anew)
-  abbrev Goes-on : Call → Reply Ideal → Type 0
-  Goes-on c r = r .state .tables ≡ Tables.two a b → Passes i c (r .state)
+  abbrev GoesOn : Call → Reply Ideal → Type 0
+  GoesOn c r = r .state .tables ≡ Tables.two a b → Passes i c (r .state)
 
-  resize-passes : (n : ℕ) (t : Tables) → t ≡ Tables.two size new → Goes-on (Call.resize n) (resizeAnswer l i n t)
+  resize-passes : (n : ℕ) (t : Tables) → t ≡ Tables.two size new → GoesOn (Call.resize n) (resizeAnswer l i n t)
   unfolding resizeAnswer reply isStep
   resize-passes n (Tables.one a) e = absurd (one-not-two e)
   resize-passes n (Tables.two a b) e = λ f. Passes.stayed refl (same i)
 
-  pub passes : (c : Call) → Goes-on c (predict l i c)
+  pub passes : (c : Call) → GoesOn c (predict l i c)
   unfolding predict onAnswer stepsFirst startAnswer begun scanAnswer readAnswer reply ideal isStep
   passes (Call.init capacity n) = by (startNumber l capacity n)
     where
-      by : (m : ℕ) → Goes-on (Call.init capacity n) (startAnswer i capacity n m)
+      by : (m : ℕ) → GoesOn (Call.init capacity n) (startAnswer i capacity n m)
       by zero e = absurd (one-not-two e)
       by (suc m) e = Passes.stayed refl (same i)
   passes (Call.on key c) = λ e. by (takesStep c && eqb (mapDoes (i .plain) key c .number) 0)
@@ -221,7 +221,7 @@ module _ (l : Lengths) (i : Ideal) (size new : ℕ) (moving : i .tables ≡ Tabl
   passes (Call.resize n) = resize-passes n (i .tables) moving
   passes Call.rehashStep = λ e. Passes.stepped (same _)
   passes (Call.scan cursor lent) =
-      either (Goes-on (Call.scan cursor lent)) (leb (length (groupPairs i cursor) * 2) (length lent)) _ _
+      either (GoesOn (Call.scan cursor lent)) (leb (length (groupPairs i cursor) * 2) (length lent)) _ _
       (λ e. Passes.stayed refl (same i)) (λ e. Passes.stayed refl (same i))
   passes (Call.read (ReadCall.suggestedSize growing)) = λ e. Passes.stayed refl (same i)
   passes (Call.read ReadCall.currentTable) = λ e. Passes.stayed refl (same i)

@@ -16,13 +16,14 @@ use Rattle.model.specs.Sequences.{World, Call, Outcome, perform, run}
 use Rattle.refinement.specs.Demand1.{Demand1, SoundChain, Damaged, keyPlaces, stepWorld}
 use Rattle.refinement.specs.Demand3.{Demand3}
 use Rattle.refinement.specs.RehashesEnd.{UnderWay, answeredSteps, RehashesEnd}
+use Rattle.refinement.proofs.HiddenSteps.{alone}
 use Rattle.wrong_stores.specs.Rehashes as rehashes
 use Rattle.wrong_stores.specs.HiddenSteps as wrong
-use Rattle.wrong_stores.specs.HiddenSteps.{addsUnmoved, deletesUnmoved, addsAfterTwo, addsPassingOne, addStepStays, deleteStepStays, findsStepping, updatesStepping, walksStepping, looksBefore}
+use Rattle.wrong_stores.specs.HiddenSteps.{addsUnmoved, deletesUnmoved, addsThenSteps, deletesThenSteps, addsAfterTwo, addsPassingOne, addStepStays, deleteStepStays, findsStepping, updatesStepping, walksStepping, looksBefore}
 use Rattle.wrong_stores.proofs.Start.{computing, started, room, find, update, add, delete, at, rehash-at, apart, neither}
 
 unfoldable stepping : Unit {0}
-unfolding computing rehashes.goingOn wrong.addAlone wrong.deleteAlone wrong.stepped wrong.alsoSteps addsUnmoved deletesUnmoved addsAfterTwo addsPassingOne addStepStays deleteStepStays findsStepping updatesStepping walksStepping looksBefore
+unfolding computing alone rehashes.goingOn wrong.thenSteps addsThenSteps deletesThenSteps wrong.stepped wrong.alsoSteps addsUnmoved deletesUnmoved addsAfterTwo addsPassingOne addStepStays deleteStepStays findsStepping updatesStepping walksStepping looksBefore
 stepping = tt
 
 -- Demand 3, `answers`, `number`. Key 0 is the only one, and a rehash from size 2 to 4 is begun: a call, and then a step, ..
@@ -52,10 +53,27 @@ pub walksStepping-excluded : Demand3 walksStepping → ⊥
 unfolding stepping
 walksStepping-excluded d = eqb-false 8 0 refl (at d 2 refl (thenStep (Call.scan 0 room)) .answers .1 .1 .1 .0 .number)
 
+-- key 0, and those keys, in a rehash from size 2 to 4
+begun : List Call → World
+begun calls = run perform (started perform 2) (add 0 10 ∷ calls)
+
 -- With keys 0 and 1 an add leaves one of them in the old table, and a step is answered.
 pub addsAfterTwo-excluded : Demand3 addsAfterTwo → ⊥
 unfolding stepping
 addsAfterTwo-excluded d = eqb-false 8 0 refl (at d 2 refl (add 1 11 ∷ thenStep (add 2 12)) .answers .1 .1 .1 .1 .0 .number)
+
+-- A delete of key 0 leaves key 1 in the old table, and a step is answered. (Had it gone before its step, bucket 0 would be
+-- empty, and the step would have moved key 1.)
+pub deletesThenSteps-excluded : Demand3 deletesThenSteps → ⊥
+unfolding stepping
+deletesThenSteps-excluded d = eqb-false 8 0 refl (at d 2 refl (add 1 11 ∷ thenStep (delete 0)) .answers .1 .1 .1 .1 .0 .number)
+
+-- An add before its step leaves another order in a chain, which only the definitions of the calls exclude: key 4 comes behind
+-- key 0.
+pub addsThenSteps-excluded : ((w : World) (c : Call) → addsThenSteps w c ≡ perform w c) → ⊥
+unfolding stepping begun
+addsThenSteps-excluded same =
+    apart (λ (o : Outcome). getD (o .second) 0 0) _ _ refl (same (begun (Call.resize 4 ∷ [])) (add 4 14))
 
 -- After an add that is refused, key 0 is still found; ..
 pub addStepStays-excluded : Demand3 (addStepStays 4) → ⊥
@@ -73,10 +91,6 @@ deleteStepStays-excluded d =
 
 abbrev firstBucket : Outcome → ℕ
 firstBucket o = getD (o .first) 0 0
-
--- key 0, and those keys, in a rehash from size 2 to 4
-begun : List Call → World
-begun calls = run perform (started perform 2) (add 0 10 ∷ calls)
 
 pub addStepStays-excluded-by-refusals : (Demand1 (addStepStays 4) → ⊥) × (Demand1 (addStepStays 5) → ⊥) × (Demand1 (addStepStays 2) → ⊥)
 unfolding stepping begun rehashing counting

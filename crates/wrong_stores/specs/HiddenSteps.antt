@@ -3,26 +3,17 @@
 use Prim.Native.Nat.{ℕ, suc}
 use mathlib.Core.Bool.{cond}
 use lib.Dec.{eqb}
-use Rattle.model.specs.Answers.{addReply, deleteReply}
-use Rattle.model.specs.Calls as calls
-use Rattle.model.specs.Sequences.{World, world, KeyCall, Call, Outcome, left, given, perform, carry}
+use Rattle.model.specs.Sequences.{World, world, KeyCall, Call, Outcome, perform, carry}
+use Rattle.refinement.proofs.HiddenSteps.{alone}
 use Rattle.wrong_stores.specs.OneCall.{Change, butFind, butUpdate, butAdd, butDelete, butScan, ifDone, ifDamaged, handingBack, leaving}
 use Rattle.wrong_stores.specs.Rehashes.{goingOn}
 
--- The calls alone, with no step.
-
-unfoldable pub addAlone : ℕ → ℕ → World → Outcome
-addAlone key value w = left (addReply (w .state)) (given w calls.addAlone key value)
-
-unfoldable pub deleteAlone : ℕ → World → Outcome
-deleteAlone key w = left (deleteReply (w .state)) (given w calls.deleteAlone key)
-
 -- an add, or a delete, that takes no step
 unfoldable pub addsUnmoved : World → Call → Outcome
-addsUnmoved = butAdd (λ key value w o. addAlone key value w)
+addsUnmoved = butAdd (λ key value w o. alone w key (KeyCall.add value))
 
 unfoldable pub deletesUnmoved : World → Call → Outcome
-deletesUnmoved = butDelete (λ key w o. deleteAlone key w)
+deletesUnmoved = butDelete (λ key w o. alone w key KeyCall.delete)
 
 -- an add that takes two
 unfoldable pub addsAfterTwo : World → Call → Outcome
@@ -37,7 +28,21 @@ addsPassingOne =
     butAdd
     (λ key value w o.
     let s = w .state in
-    cond (s .rehashing) (addAlone key value (world (goingOn (suc (s .«rehash_index»)) s) (w .first) (w .second) (w .entries))) o)
+    cond (s .rehashing)
+    (alone (world (goingOn (suc (s .«rehash_index»)) s) (w .first) (w .second) (w .entries)) key (KeyCall.add value))
+    o)
+
+-- a call alone, and then the step
+unfoldable pub thenSteps : (World → Outcome) → Change
+thenSteps call w o =
+    let step = perform (carry w (call w)) Call.rehashStep in
+    cond (w .state .rehashing) (ifDone (handingBack (step .reply .state) (leaving (step .first) (step .second) (step .entries) o)) o) o
+
+unfoldable pub addsThenSteps : World → Call → Outcome
+addsThenSteps = butAdd (λ key value. thenSteps (λ w. alone w key (KeyCall.add value)))
+
+unfoldable pub deletesThenSteps : World → Call → Outcome
+deletesThenSteps = butDelete (λ key. thenSteps (λ w. alone w key KeyCall.delete))
 
 -- The buffers as a step leaves them, with what the call answers.
 
@@ -67,4 +72,4 @@ walksStepping = butScan (λ cursor lent w o. ifDone (alsoSteps w o) o)
 
 -- an add that is damaged only where its chains are so before the step
 unfoldable pub looksBefore : World → Call → Outcome
-looksBefore = butAdd (λ key value w o. ifDamaged (addAlone key value w) o)
+looksBefore = butAdd (λ key value w o. ifDamaged (alone w key (KeyCall.add value)) o)

@@ -10,17 +10,17 @@ use Rattle.after_step.proofs.presence.survey_chain.Statement.{statement
 use Rattle.after_step.proofs.presence.survey_chain.Tie as tie
 
 abbrev Inv-loop : tie.InvT-loop
-Inv-loop entries capacity budget head size b new-size c key at₀ left₀ last₀ mine₀ held₀ at left last mine held =
-    Surveying (inBucket size b) entries capacity budget head new-size c key at left last mine held
+Inv-loop entries capacity budget head size b new-size c key at₀ left₀ last₀ joining₀ held₀ at left last joining held =
+    Surveying (inBucket size b) entries capacity budget head new-size c key at left last joining held
 
 abbrev μ-loop : tie.MeasureT-loop
-μ-loop entries capacity budget head size b new-size c key at₀ left₀ last₀ mine₀ held₀ at left last mine held = left
+μ-loop entries capacity budget head size b new-size c key at₀ left₀ last₀ joining₀ held₀ at left last joining held = left
 
 returns-2 : tie.Need-returns-2 Inv-loop μ-loop
 returns-2 c = search (surveying-stray, bucket-other)
 
-add-mine : tie.Need-add-mine Inv-loop μ-loop
-add-mine c = search surveying-fits
+add-joining : tie.Need-add-joining Inv-loop μ-loop
+add-joining c = search surveying-fits
 
 loop-again : tie.Need-loop-again Inv-loop μ-loop
 loop-again c = search (surveying-next, bucket-same)
@@ -39,7 +39,7 @@ survey-chain-spec =
     (λ c. omega (arith, budget-left))
     (λ c κs. search needs)
     (λ c. search needs)
-    add-mine
+    add-joining
     (λ c κs. omega (arith, in-range))
     (λ c. omega (arith, budget-left))
     loop-again

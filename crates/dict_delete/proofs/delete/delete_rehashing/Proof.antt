@@ -9,6 +9,10 @@ use Rattle.dict_delete.proofs.delete.delete_rehashing.Tie as tie
 returns-2 : tie.Need-returns-2
 returns-2 c = search delete-absent
 
+-- the step and the delete are the answer
+returns-3 : tie.Need-returns-3
+returns-3 c = search needs
+
 pub delete-rehashing-spec : {M : Type 1} → statement M
 delete-rehashing-spec =
     tie.close
@@ -29,4 +33,4 @@ delete-rehashing-spec =
     (λ c. search needs)
     (λ c. search needs)
     (λ c. search needs)
-    (λ c. search needs))
+    returns-3)

@@ -340,7 +340,7 @@ rehashStep s first second entries =
     writing s first second entries (StepAnswer.Refused Error.BadState)
     (λ current other. stepped s current other entries (s .rehashing))
 
--- Add and delete during a rehash: a step comes first
+-- The step that comes first: add and delete during a rehash
 
 -- what an answered call leaves; a refused one leaves these buffers
 unfoldable pub unlessRefused : {A : Type 0} → (A → Bool) → List ℕ → List ℕ → List ℕ → After A → After A

@@ -1,23 +1,20 @@
 -- An entry's link after a step, from the tests and the functions that tell it: the chain of a bucket, what comes from the
--- next bucket on, the whole step, and the same on the lent buffers.
+-- next bucket on, and the whole step.
 -- Assumes nothing.
 use Prim.Native.Nat.{ℕ}
-use mathlib.Core.Path.{_≡_, refl, sym, ap, _∙_}
-use mathlib.Core.Bool.{Bool, true, false}
+use mathlib.Core.Path.{_≡_, sym, ap, _∙_}
+use mathlib.Core.Bool.{Bool, true}
 use mathlib.Core.List.{List}
 use lib.ListN.{length, getD}
 use borrow.Author.Tests.{eq-eqb, ne-eqb}
 use Rattle.model.specs.declared.State.{State}
 use Rattle.model.specs.declared.Ahead.{Ahead}
-use Rattle.model.specs.declared.StepAnswer.{StepAnswer}
 use Rattle.model.specs.Memory.{linkOf, sizeOf, usedOf, bucketsOf, headAt, budgetAt, belongs, chainAt, listed}
-use Rattle.model.specs.Calls.{After, oriented, back, movedChain, movedFrom, aheadOf, stepped, rehashStep}
+use Rattle.model.specs.Calls.{movedChain, movedFrom, aheadOf, stepped}
 use Rattle.model.proofs.Soundness.{Sound}
 use Rattle.memory.specs.declared.chain.ChainLength.{ChainLength}
 use Rattle.memory.specs.Length.{lengthOf}
-use Rattle.memory.specs.Lent.{soundLent}
 use Rattle.memory.proofs.Counted.{counted, uncounted}
-use Rattle.memory.proofs.Orientation.{writing-sound}
 use Rattle.dict_rehash.specs.Progress.{oldChain, chains}
 use Rattle.dict_rehash.proofs.Stepping.{read-linked}
 use Rattle.after_step.specs.Presence.{entriesAfter}
@@ -73,34 +70,3 @@ module _ (s : State) (current other entries : List ℕ) (n link : ℕ) where
     link-going z l =
         (rw (ne-eqb (s .«old_used») 0 z) l)
         ∙ ap (λ (f : Bool). linkOf (entriesAfter (stepped s current other entries f)) n) (sym p)
-
--- on the lent buffers
-module _ (s : State) (first second entries : List ℕ) (n link : ℕ)
-    (h : soundLent (length first) (length second) (length entries) s ≡ true) where
-  -- the entries are the same once the buffers are back in their places
-  back-entries : (f : Bool) (a : After StepAnswer) → entriesAfter a ≡ entriesAfter (back f a)
-  unfolding entriesAfter back
-  back-entries false a = refl
-  back-entries true (After.after answer c o z) = refl
-
-  lent : (f : Bool) → s .«second_is_current» ≡ f
-      → link ≡ linkOf (entriesAfter (oriented f (λ current other. stepped s current other entries (s .rehashing)) first second)) n
-      → link ≡ linkOf (entriesAfter (rehashStep s first second entries)) n
-  unfolding rehashStep
-  lent f e l =
-      l
-      ∙ ap (λ (z : List ℕ). linkOf z n) (back-entries f (oriented f (λ current other. stepped s current other entries (s .rehashing)) first second))
-      ∙ ap (λ (a : After StepAnswer). linkOf (entriesAfter a) n)
-      (writing-sound s first second entries true (sym h) _ _ _ refl (rw e refl))
-
-  pub link-first : s .«second_is_current» ≡ false
-      → link ≡ linkOf (entriesAfter (stepped s first second entries (s .rehashing))) n
-      → link ≡ linkOf (entriesAfter (rehashStep s first second entries)) n
-  unfolding oriented
-  link-first f l = lent false f l
-
-  pub link-second : s .«second_is_current» ≡ true
-      → link ≡ linkOf (entriesAfter (stepped s second first entries (s .rehashing))) n
-      → link ≡ linkOf (entriesAfter (rehashStep s first second entries)) n
-  unfolding oriented
-  link-second f l = lent true f l

@@ -89,7 +89,13 @@ module _ (s : State) (first second entries : List ℕ) (h : soundLent (length fi
         subst (RehashLeaves s first second entries) (sym r) leaves in
         k .3
 
--- once it was planned, and as the code has it
+-- that world to a call that knew as much before the step
+pub record StepTaken (s : State) (first second entries : List ℕ) (key : ℕ) (v : Presence) (count : ℕ) (t : State) (x y z : List ℕ) : Type 0 where
+  pub step : After.after (StepAnswer.Stepped count t) x y z ≡ rehashStep s first second entries
+  pub sound : soundLent (length x) (length y) (length z) t ≡ true
+  pub follows : Follows s t
+  pub told : v ≡ presence (lookupLent t x y z key)
+
 module _ (s : State) (first second entries : List ℕ) (key : ℕ) (v : Presence) (p : Planned s first second entries key v)
     (r : StepAnswer) (x y z : List ℕ) (e : After.after r x y z ≡ rehashStep s first second entries) where
   -- no step is refused but where damage was told
@@ -98,22 +104,19 @@ module _ (s : State) (first second entries : List ℕ) (key : ℕ) (v : Presence
   then-damaged error d = p .told ∙ ap (presenceAfter key) (sym (rw d at e))
 
   module _ (count : ℕ) (t : State) (d : r ≡ StepAnswer.Stepped count t) where
-    pub then-step : After.after (StepAnswer.Stepped count t) x y z ≡ rehashStep s first second entries
-    then-step = rw d at e
+    pub step-taken : StepTaken s first second entries key v count t x y z
+    unfolding presenceAfter
+    step-taken =
+        let taken : After.after (StepAnswer.Stepped count t) x y z ≡ rehashStep s first second entries = rw d at e in
+        record {
+          step = taken;
+          sound = stepped-sound s first second entries (p .sound) (p .rehashing) count t x y z taken;
+          follows = stepped-follows s first second entries (p .sound) (p .rehashing) count t x y z taken;
+          told = p .told ∙ ap (presenceAfter key) (sym taken);
+        }
 
     pub then-sound : soundLent (length x) (length y) (length z) t ≡ true
-    then-sound = stepped-sound s first second entries (p .sound) (p .rehashing) count t x y z then-step
-
-    pub then-follows : Follows s t
-    then-follows = stepped-follows s first second entries (p .sound) (p .rehashing) count t x y z then-step
-
-    pub then-told : v ≡ presence (lookupLent t x y z key)
-    unfolding presenceAfter
-    then-told = p .told ∙ ap (presenceAfter key) (sym then-step)
-
-    pub then-entries : z ≡ entriesAfter (rehashStep s first second entries)
-    unfolding entriesAfter
-    then-entries = ap entriesAfter then-step
+    then-sound = step-taken .sound
 
 -- ---- the call on it
 

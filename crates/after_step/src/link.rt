@@ -16,7 +16,6 @@ ghost use Rattle.model.specs.Limits.{legalSize};
 ghost use Rattle.model.specs.Memory.{linkOf};
 ghost use Rattle.model.specs.Calls as calls;
 ghost use Rattle.model.proofs.Soundness.{Sound};
-ghost use Rattle.memory.specs.Lent.{soundLent};
 ghost use Rattle.dict_rehash.specs.Progress.{oldChain, chains, ChainOf};
 ghost use Rattle.after_step.specs.Presence.{entriesAfter};
 ghost use Rattle.after_step.specs.Links.{LinkMoved};
@@ -69,7 +68,7 @@ fn link_bucket(current: &[u32], other: &[u32], entries: &[u32], s: State, b: u32
 }
 
 // On the current and the other bucket buffer: where the step moves no chain, the link stays.
-fn link_in(current: &[u32], other: &[u32], entries: &[u32], s: State, n: u32) -> u32
+pub fn link_after_step(current: &[u32], other: &[u32], entries: &[u32], s: State, n: u32) -> u32
     requires { ⌜ Sound s (length (now current)) (length (now other)) (length (now entries)) ⌝ }
     requires { ⌜ s .rehashing ≡ true ⌝ }
     requires { ⌜ (0 < n) × (n ≤ s .capacity) ⌝ }
@@ -84,19 +83,5 @@ fn link_in(current: &[u32], other: &[u32], entries: &[u32], s: State, n: u32) ->
         Ahead::Filled(b) => link_bucket(current, other, entries, s, b, n),
         Ahead::Empty(_) => link_of(entries, n),
         Ahead::End => link_of(entries, n),
-    }
-}
-
-pub fn link_after_step(first: &[u32], second: &[u32], entries: &[u32], s: State, n: u32) -> u32
-    requires { ⌜ soundLent (length (now first)) (length (now second)) (length (now entries)) s ≡ true ⌝ }
-    requires { ⌜ s .rehashing ≡ true ⌝ }
-    requires { ⌜ (0 < n) × (n ≤ s .capacity) ⌝ }
-    ensures { λ r. ⌜ r ≡ linkOf (entriesAfter
-        (calls.rehashStep s (now (first .entry)) (now (second .entry)) (now (entries .entry)))) n ⌝ }
-{
-    if s.second_is_current {
-        link_in(second, first, entries, s, n)
-    } else {
-        link_in(first, second, entries, s, n)
     }
 }

@@ -292,7 +292,7 @@ fn presence_ahead(current: &[u32], other: &[u32], entries: &[u32], s: State, key
 }
 
 // On the current and the other bucket buffer. With no keys in the old table the step only ends the rehash.
-fn presence_in(current: &[u32], other: &[u32], entries: &[u32], s: State, key: u32) -> Presence
+pub fn presence_in(current: &[u32], other: &[u32], entries: &[u32], s: State, key: u32) -> Presence
     requires { ⌜ Sound s (length (now current)) (length (now other)) (length (now entries)) ⌝ }
     requires { ⌜ s .rehashing ≡ true ⌝ }
     ensures { λ r. ⌜ r ≡ presenceThen key (s .«second_is_current») (calls.stepped s (now (current .entry)) (now (other .entry))

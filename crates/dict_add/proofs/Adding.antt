@@ -15,7 +15,7 @@ use Rattle.model.specs.declared.AddAnswer.{AddAnswer}
 use Rattle.model.specs.Keys.{bucketOf}
 use Rattle.model.specs.Memory.{linkOf, setEntry, sizeOf, bucketsOf, keysHeld}
 use Rattle.model.specs.Calls.{After, changed, lookup, push, pushed, takeable, target, added, addAlone, isAdded, add}
-use Rattle.model.proofs.Soundness.{Sound, Counted, tells-sound}
+use Rattle.model.proofs.Soundness.{Sound, Counted, tells-sound, tested-counts}
 use Rattle.model.proofs.Tests.{told}
 use Rattle.memory.specs.Lent.{soundLent}
 use Rattle.memory.proofs.Orientation.{written-first, written-second, writing-refused, writing-sound}
@@ -71,9 +71,6 @@ module _ (s : State) (first second entries : ℕ) (h : soundLent first second en
   pub free-fits : s .«free_head» ≤ s .capacity
   free-fits = lent-sound .free-fits
 
-  pub lent-counts : Counted s
-  lent-counts = record { held-fit = lent-sound .used-fits; capacity-limit = lent-sound .capacity-limit }
-
   old-held : s .rehashing ≡ false → s .«old_used» ≡ keysHeld s
   unfolding keysHeld
   old-held f = let z = lent-sound .resting f .no-keys in omega arith
@@ -120,7 +117,8 @@ module _ (s : State) (first second entries : List ℕ) (key value : ℕ) (a : Ad
 -- The answer.
 
 pub counted : (s : State) (first second entries : ℕ) (t : Bool) → t ≡ soundLent first second entries s → t ≡ true → Counted s
-counted s first second entries t e h = lent-counts s first second entries (sym e ∙ h)
+unfolding soundLent
+counted s first second entries t e h = tested-counts s _ _ entries t e h
 
 pub add-unsound : (s : State) (first second entries : List ℕ) (key value : ℕ) (t : Bool)
     → t ≡ soundLent (length first) (length second) (length entries) s → t ≡ false

@@ -2,14 +2,11 @@
 -- Assumes nothing.
 use Prim.Native.Nat.{ℕ, _+_, _≤_, _<_}
 use mathlib.Core.Path.{_≡_, refl, sym, ap, subst, _∙_}
-use mathlib.Core.Bool.{Bool, true, false, _&&_, not, cond, Bool·beq}
+use mathlib.Core.Bool.{Bool, true, false, not, cond}
 use mathlib.Core.List.{List}
 use native.Mathlib.Omega.{arith}
 use lib.ListN.{length, getD, set}
 use lib.Dec.{eqb}
-use mir.Syntax.{w32}
-use mir.Val.{Fits}
-use borrow.Author.Tests.{eq-eqb, ne-eqb, le-leb, lt-leb}
 use Rattle.model.specs.declared.State.{State}
 use Rattle.model.specs.declared.Table.{Table}
 use Rattle.model.specs.declared.Error.{Error}
@@ -17,309 +14,351 @@ use Rattle.model.specs.declared.Lookup.{Lookup}
 use Rattle.model.specs.declared.AddAnswer.{AddAnswer}
 use Rattle.model.specs.declared.StepAnswer.{StepAnswer}
 use Rattle.model.specs.Keys.{bucketOf}
-use Rattle.model.specs.Limits.{largestCapacity}
-use Rattle.model.specs.Memory.{linkOf, setEntry, sizeOf, bucketsOf, keysHeld}
-use Rattle.model.specs.Calls.{After, oriented, back, changed, lookup, pushed, takeable, target, added, addAlone, rehashStep, isAdded, add}
-use Rattle.model.proofs.StepLeaves.{Follows}
+use Rattle.model.specs.Memory.{linkOf, setEntry, sizeOf, bucketsOf, keysHeld, soundState}
+use Rattle.model.specs.Calls.{After, sound, oriented, checked, back, changed, stateOf, oldNew, retabled, pushed, target, takeable, addAlone, advanced, finished, settled, stepDone, stepped, rehashStep, isAdded, add}
+use Rattle.model.proofs.Soundness.{Sound, Counted, sound-test}
+use Rattle.model.proofs.StepLeaves.{Follows, StepLeaves, step-leaves}
 use Rattle.memory.specs.Lent.{soundLent}
 use Rattle.memory.proofs.Orientation.{writing-sound}
 use Rattle.search.specs.Tables.{lookupLent, Readable}
-use Rattle.search.proofs.Readable.{old-first, old-second, new-first, new-second}
+use Rattle.dict_rehash.specs.declared.rehash.Progress.{Progress}
+use Rattle.dict_rehash.specs.Progress.{stepAnswer}
 use Rattle.after_step.specs.declared.presence.Presence.{Presence}
-use Rattle.after_step.specs.Presence.{presence, presenceAfter, entriesAfter}
+use Rattle.after_step.specs.Presence.{presence, presenceAfter, presenceThen, entriesAfter}
 use Rattle.after_step.specs.Planned.{Planned}
-use Rattle.after_step.proofs.StepFirst.{answerOf, answer-by, is-damaged, is-absent, is-held, then-damaged, then-step, then-sound, then-follows, then-told, then-entries, first-done, first-refused}
-use Rattle.dict_add.specs.Push.{oneMore, pushedLent}
-use Rattle.dict_add.specs.Takes.{Room, Takes}
-use Rattle.dict_add.proofs.Pushing.{entry-readable}
-use Rattle.dict_add.proofs.Adding.{free-fits, lent-counts, taken}
+use Rattle.after_step.proofs.StepFirst.{is-absent, StepTaken, then-damaged, step-taken, first-done, first-refused}
+use Rattle.dict_add.specs.Push.{oneMore}
+use Rattle.dict_add.specs.Moving.{firstOf, secondOf, addMoving, movedState, stepOf, Plan, Room, Takes}
+use Rattle.dict_add.proofs.Adding.{taken}
+use Rattle.dict_add.proofs.Answering.{addAnswer, alone-answer, told-damaged, told-held, absent-full, absent-bad, none-free, bad-link, good-link, pushedLent, alone-pushes}
 
--- What an add alone answers, by what the lookup finds.
+-- ---- the current and the other buffer, and the lent ones
 
-addAnswer : State → List ℕ → Lookup → AddAnswer
-addAnswer s entries Lookup.Damaged = AddAnswer.Refused Error.Damaged
-addAnswer s entries (Lookup.At t before n) = AddAnswer.Refused Error.Present
-addAnswer s entries Lookup.Absent =
-    cond (eqb (keysHeld s) (s .capacity)) (AddAnswer.Refused Error.Full)
-    (cond (takeable s entries) (AddAnswer.Added (oneMore s (target (s .rehashing)) (linkOf entries (s .«free_head»))))
-    (AddAnswer.Refused Error.Damaged))
+module _ {A : Type 0} where
+  lent-of : (f : Bool) (a : A) (c o z : List ℕ) → back f (After.after a c o z) ≡ After.after a (firstOf f c o) (secondOf f c o) z
+  unfolding oriented back
+  lent-of false a c o z = refl
+  lent-of true a c o z = refl
 
-answer-cond : {A : Type 0} (f : Bool) (x y : After A) → answerOf (cond f x y) ≡ cond f (answerOf x) (answerOf y)
-answer-cond true x y = refl
-answer-cond false x y = refl
+  lent-back : (f : Bool) (a : A) (c o z : List ℕ) → After.after a c o z ≡ back f (After.after a (firstOf f c o) (secondOf f c o) z)
+  unfolding oriented back
+  lent-back false a c o z = refl
+  lent-back true a c o z = refl
 
-answer-changed : {A : Type 0} (t : Table) (a : A) (c o b e : List ℕ) → answerOf (changed t a c o b e) ≡ a
-unfolding answerOf changed
-answer-changed Table.Old a c o b e = refl
-answer-changed Table.New a c o b e = refl
+  twice-back : (f : Bool) (m : After A) → back f (back f m) ≡ m
+  unfolding back
+  twice-back false m = refl
+  twice-back true (After.after a x y z) = refl
 
-module _ (s : State) (x y z : List ℕ) (key value : ℕ) where
-  answered : (c o : List ℕ) (l : Lookup) → answerOf (added s c o z key value l) ≡ addAnswer s z l
-  unfolding answerOf added pushed addAnswer oneMore
-  answered c o Lookup.Damaged = refl
-  answered c o (Lookup.At t before n) = refl
-  answered c o Lookup.Absent = simp (answer-cond, answer-changed)
+module _ (s : State) (current other entries : List ℕ) where
+  abbrev pub first : List ℕ
+  first = firstOf (s .«second_is_current») current other
 
-  alone-answer : soundLent (length x) (length y) (length z) s ≡ true
-      → answerOf (addAlone s x y z key value) ≡ addAnswer s z (lookupLent s x y z key)
-  unfolding addAlone
-  alone-answer h =
-      answer-by s x y z key (AddAnswer.Refused Error.BadState) (λ c o l. added s c o z key value l) (addAnswer s z) answered h
+  abbrev pub second : List ℕ
+  second = secondOf (s .«second_is_current») current other
 
--- what was told of the key says as much
+  module _ (h : Sound s (length current) (length other) (length entries)) where
+    lent : soundLent (length first) (length second) (length entries) s ≡ true
+    unfolding soundLent oriented sound
+    lent = pick (s .«second_is_current»)
+      where
+        pick : (f : Bool)
+            → soundState (cond f (length (secondOf f current other)) (length (firstOf f current other)))
+            (cond f (length (firstOf f current other)) (length (secondOf f current other))) (length entries) s
+            ≡ true
+        pick false = sound-test s current other entries h
+        pick true = sound-test s current other entries h
 
-told-damaged : (s : State) (z : List ℕ) (l : Lookup) → Presence.Damaged ≡ presence l
-    → addAnswer s z l ≡ AddAnswer.Refused Error.Damaged
-unfolding addAnswer
-told-damaged s z l e = ap (addAnswer s z) (is-damaged l e)
+    lent-step : back (s .«second_is_current») (stepOf s current other entries) ≡ rehashStep s first second entries
+    unfolding rehashStep oriented
+    lent-step =
+        writing-sound s first second entries true (sym lent) (StepAnswer.Refused Error.BadState)
+        (λ c o. stepped s c o entries (s .rehashing)) _ refl (ap (back (s .«second_is_current»)) (pick (s .«second_is_current»)))
+      where
+        pick : (f : Bool)
+            → stepOf s current other entries
+            ≡ oriented f (λ c o. stepped s c o entries (s .rehashing)) (firstOf f current other) (secondOf f current other)
+        pick false = refl
+        pick true = refl
 
-told-held : (s : State) (z : List ℕ) (l : Lookup) → Presence.Held ≡ presence l
-    → addAnswer s z l ≡ AddAnswer.Refused Error.Present
-unfolding addAnswer
-told-held s z l e = ap (addAnswer s z) (is-held l e .3)
+    lent-entries : entriesAfter (rehashStep s first second entries) ≡ entriesAfter (stepOf s current other entries)
+    unfolding entriesAfter back
+    lent-entries = ap entriesAfter (sym lent-step) ∙ pick (s .«second_is_current») (stepOf s current other entries)
+      where
+        pick : (f : Bool) (a : After StepAnswer) → entriesAfter (back f a) ≡ entriesAfter a
+        pick false a = refl
+        pick true (After.after a x y z) = refl
 
--- The key is absent.
-
-module _ (s : State) (z : List ℕ) where
-  absent-full : keysHeld s ≡ s .capacity → addAnswer s z Lookup.Absent ≡ AddAnswer.Refused Error.Full
-  unfolding addAnswer
-  absent-full e = rw (eq-eqb (keysHeld s) (s .capacity) e)
-
-  module _ (room : keysHeld s ≡ s .capacity → ⊥) where
-    -- there is no first free entry, or its link is out of range
-    absent-bad : takeable s z ≡ false → addAnswer s z Lookup.Absent ≡ AddAnswer.Refused Error.Damaged
-    unfolding addAnswer
-    absent-bad e = rw (ne-eqb (keysHeld s) (s .capacity) room, e)
-
-    absent-taken : takeable s z ≡ true → isAdded (addAnswer s z Lookup.Absent) ≡ true
-    unfolding addAnswer isAdded
-    absent-taken e = rw (ne-eqb (keysHeld s) (s .capacity) room, e)
-
-  none-free : s .«free_head» ≡ 0 → takeable s z ≡ false
-  unfolding takeable
-  none-free e = rw (eq-eqb (s .«free_head») 0 e)
-
-  bad-link : s .capacity < linkOf z (s .«free_head») → takeable s z ≡ false
-  unfolding takeable
-  bad-link l = rw (lt-leb (linkOf z (s .«free_head»)) (s .capacity) l) (none (not (eqb (s .«free_head») 0)))
-    where
-      none : (f : Bool) → (f && false) ≡ false
-      none true = refl
-      none false = refl
-
-  good-link : 0 < s .«free_head» → linkOf z (s .«free_head») ≤ s .capacity → takeable s z ≡ true
-  unfolding takeable
-  good-link p l =
-      let some : s .«free_head» ≡ 0 → ⊥ = λ e. omega arith in
-      rw (ne-eqb (s .«free_head») 0 some, le-leb (linkOf z (s .«free_head»)) (s .capacity) l)
-
--- it takes the first free entry
-module _ (s : State) (x y z : List ℕ) (key value : ℕ) (h : soundLent (length x) (length y) (length z) s ≡ true)
-    (l : lookupLent s x y z key ≡ Lookup.Absent) (room : keysHeld s ≡ s .capacity → ⊥) (some-free : takeable s z ≡ true) where
-  pushes : (c o : List ℕ) (l : Lookup) → l ≡ Lookup.Absent
-      → pushed s c o z key value (target (s .rehashing)) ≡ added s c o z key value l
-  unfolding added
-  pushes c o l e = rw (e, ne-eqb (keysHeld s) (s .capacity) room, some-free)
-
-  alone-pushes : pushedLent s x y z key value ≡ addAlone s x y z key value
-  unfolding addAlone pushedLent lookupLent oriented back
-  alone-pushes =
-      writing-sound s x y z true (sym h) (AddAnswer.Refused Error.BadState) (λ c o. added s c o z key value (lookup s c o z key))
-      (pushedLent s x y z key value) refl (pick (s .«second_is_current») l)
-    where
-      pick : (f : Bool) → oriented f (λ c o. lookup s c o z key) x y ≡ Lookup.Absent
-          → back f (oriented f (λ c o. pushed s c o z key value (target (s .rehashing))) x y)
-          ≡ back f (oriented f (λ c o. added s c o z key value (lookup s c o z key)) x y)
-      pick false e = pushes x y (lookup s x y z key) e
-      pick true e = ap (back true) (pushes y x (lookup s y x z key) e)
-
--- The table that keys are added to: its size, and the lent buffer that it lies in, by the two flags.
-
-module _ (s : State) where
-  pub size-new : s .rehashing ≡ true → s .«new_size» ≡ sizeOf s (target (s .rehashing))
-  unfolding sizeOf target
-  size-new e = ap (λ (f : Bool). sizeOf s (target f)) (sym e)
-
-  pub size-old : s .rehashing ≡ false → s .«old_size» ≡ sizeOf s (target (s .rehashing))
-  unfolding sizeOf target
-  size-old e = ap (λ (f : Bool). sizeOf s (target f)) (sym e)
-
-module _ (s : State) (first second entries : ℕ) (h : soundLent first second entries s ≡ true) (size : ℕ)
-    (e : size ≡ sizeOf s (target (s .rehashing))) where
-  readable : (buckets : ℕ) → Readable (sizeOf s (target (s .rehashing))) buckets (s .capacity) entries
-      → Readable size buckets (s .«free_head») entries
-  readable buckets r = rw e (entry-readable _ buckets (s .capacity) entries (s .«free_head») r (free-fits s first second entries h))
-
-  -- the buffer is the first one where the flags agree, and else the second
-  readable-in : (r f : Bool) → s .rehashing ≡ r → s .«second_is_current» ≡ f
-      → Readable (sizeOf s (target r)) (cond (Bool·beq r f) first second) (s .capacity) entries
-  unfolding sizeOf target
-  readable-in true true re fe = new-first s first second entries h fe re
-  readable-in true false re fe = new-second s first second entries h fe re
-  readable-in false true re fe = old-second s first second entries h fe
-  readable-in false false re fe = old-first s first second entries h fe
-
-  readable-by : (d : Bool) → Bool·beq (s .rehashing) (s .«second_is_current») ≡ d
-      → Readable size (cond d first second) (s .«free_head») entries
-  readable-by d q =
-      readable (cond d first second)
-      (subst (λ (d : Bool). Readable (sizeOf s (target (s .rehashing))) (cond d first second) (s .capacity) entries) q
-      (readable-in (s .rehashing) (s .«second_is_current») refl refl))
-
-  pub readable-first : Bool·beq (s .rehashing) (s .«second_is_current») ≡ true → Readable size first (s .«free_head») entries
-  readable-first q = readable-by true q
-
-  pub readable-second : Bool·beq (s .rehashing) (s .«second_is_current») ≡ false → Readable size second (s .«free_head») entries
-  readable-second q = readable-by false q
-
--- the first free entry there
-
-module _ (s : State) (first second entries : List ℕ) (key value : ℕ) where
-  -- entry n at the head of the key's bucket in the table's buffer, and the entries then
-  abbrev bucketsWith : Table → List ℕ → List ℕ
-  bucketsWith t buckets = set buckets (bucketOf key (sizeOf s t)) (s .«free_head»)
-
-  abbrev entriesWith : Table → List ℕ → List ℕ
-  entriesWith t buckets = setEntry entries (s .«free_head») (getD buckets (bucketOf key (sizeOf s t)) 0) key value
-
-  abbrev addedOne : AddAnswer
-  addedOne = AddAnswer.Added (oneMore s (target (s .rehashing)) (linkOf entries (s .«free_head»)))
-
-  pushed-in : (r f : Bool) → s .rehashing ≡ r → s .«second_is_current» ≡ f
-      → After.after addedOne (cond (Bool·beq r f) (bucketsWith (target r) first) first)
-      (cond (Bool·beq r f) second (bucketsWith (target r) second)) (entriesWith (target r) (cond (Bool·beq r f) first second))
-      ≡ back f (oriented f (λ c o. pushed s c o entries key value (target (s .rehashing))) first second)
-  unfolding oriented back changed bucketsOf target
-  pushed-in true true re fe = ap (back true) (taken s second first entries key value Table.New (ap target re))
-  pushed-in true false re fe = taken s first second entries key value Table.New (ap target re)
-  pushed-in false true re fe = ap (back true) (taken s second first entries key value Table.Old (ap target re))
-  pushed-in false false re fe = taken s first second entries key value Table.Old (ap target re)
-
-  pushed-by : (d : Bool) → Bool·beq (s .rehashing) (s .«second_is_current») ≡ d
-      → After.after addedOne (cond d (bucketsWith (target (s .rehashing)) first) first)
-      (cond d second (bucketsWith (target (s .rehashing)) second)) (entriesWith (target (s .rehashing)) (cond d first second))
-      ≡ pushedLent s first second entries key value
-  unfolding pushedLent
-  pushed-by d q =
-      subst
-      (λ (d : Bool).
-      After.after addedOne (cond d (bucketsWith (target (s .rehashing)) first) first)
-      (cond d second (bucketsWith (target (s .rehashing)) second)) (entriesWith (target (s .rehashing)) (cond d first second))
-      ≡ pushedLent s first second entries key value)
-      q (pushed-in (s .rehashing) (s .«second_is_current») refl refl)
-
-  module _ (size link : ℕ) (t : State) (b e : List ℕ) (se : size ≡ sizeOf s (target (s .rehashing)))
-      (le : link ≡ linkOf entries (s .«free_head»)) (te : t ≡ oneMore s (target (s .rehashing)) link) where
-    pub pushed-first : Bool·beq (s .rehashing) (s .«second_is_current») ≡ true
-        → b ≡ set first (bucketOf key size) (s .«free_head»)
-        → e ≡ setEntry entries (s .«free_head») (getD first (bucketOf key size) 0) key value
-        → After.after (AddAnswer.Added t) b second e ≡ pushedLent s first second entries key value
-    pushed-first q be ee = rw (te, le, be, ee, se) (pushed-by true q)
-
-    pub pushed-second : Bool·beq (s .rehashing) (s .«second_is_current») ≡ false
-        → b ≡ set second (bucketOf key size) (s .«free_head»)
-        → e ≡ setEntry entries (s .«free_head») (getD second (bucketOf key size) 0) key value
-        → After.after (AddAnswer.Added t) first b e ≡ pushedLent s first second entries key value
-    pushed-second q be ee = rw (te, le, be, ee, se) (pushed-by false q)
-
--- The whole call.
+-- ---- refusals
 
 room-then : (s : State) → (s .«old_used» + s .«new_used» ≡ s .capacity → ⊥) → (t : State) → Follows s t
     → keysHeld t ≡ t .capacity → ⊥
 unfolding keysHeld
 room-then s room t o e = room (sym (o .keys) ∙ e ∙ o .capacity)
 
-module _ (s : State) (first second entries : List ℕ) (key value : ℕ) where
-  module _ (h : soundLent (length first) (length second) (length entries) s ≡ true) (f : s .rehashing ≡ true) (v : Presence)
-      (k : v ≡ presenceAfter key (rehashStep s first second entries)) where
+module _ (s : State) (current other entries : List ℕ) (key value : ℕ) where
+  -- the number that the call alone gives on what any answered step leaves
+  refuses-with : (h : Sound s (length current) (length other) (length entries)) → s .rehashing ≡ true → (v : Presence)
+      → v ≡ presenceThen key (s .«second_is_current») (stepOf s current other entries) → (error : Error)
+      → (v ≡ Presence.Damaged → error ≡ Error.Damaged)
+      → ((t : State) (z : List ℕ) (l : Lookup) → Follows s t → z ≡ entriesAfter (stepOf s current other entries) → v ≡ presence l
+      → addAnswer t z l ≡ AddAnswer.Refused error)
+      → After.after (AddAnswer.Refused error) current other entries ≡ addMoving s current other entries key value
+  unfolding addMoving add isAdded presenceThen
+  refuses-with h e v k error damaged each =
+      lent-back (s .«second_is_current») (AddAnswer.Refused error) current other entries
+      ∙ ap (back (s .«second_is_current»))
+      (first-refused AddAnswer.Refused isAdded (λ t x y z. addAlone t x y z key value) s (first s current other entries)
+      (second s current other entries) entries e key v (AddAnswer.Refused error) (lent s current other entries h)
+      (k ∙ ap (presenceAfter key) (lent-step s current other entries h)) (λ d. ap AddAnswer.Refused (damaged d)) refl
+      (λ t x y z p o q w.
+      alone-answer t x y z key value p ∙ each t z (lookupLent t x y z key) o (q ∙ lent-entries s current other entries h) w))
+
+  module _ (h : Sound s (length current) (length other) (length entries)) (e : s .rehashing ≡ true) (v : Presence)
+      (k : v ≡ presenceThen key (s .«second_is_current») (stepOf s current other entries)) where
     pub add-damaged : v ≡ Presence.Damaged
-        → After.after (AddAnswer.Refused Error.Damaged) first second entries ≡ add s first second entries key value
-    unfolding add isAdded
-    add-damaged d =
-        first-refused AddAnswer.Refused isAdded (λ t x y z. addAlone t x y z key value) s first second entries f key v
-        (AddAnswer.Refused Error.Damaged) h k (λ e. refl) refl
-        (λ t x y z p o e w. alone-answer t x y z key value p ∙ told-damaged t z (lookupLent t x y z key) (sym d ∙ w))
+        → After.after (AddAnswer.Refused Error.Damaged) current other entries ≡ addMoving s current other entries key value
+    add-damaged d = refuses-with h e v k Error.Damaged (λ f. refl) (λ t z l o q w. told-damaged t z l (sym d ∙ w))
 
     pub add-present : v ≡ Presence.Held
-        → After.after (AddAnswer.Refused Error.Present) first second entries ≡ add s first second entries key value
-    unfolding add isAdded
+        → After.after (AddAnswer.Refused Error.Present) current other entries ≡ addMoving s current other entries key value
     add-present d =
-        first-refused AddAnswer.Refused isAdded (λ t x y z. addAlone t x y z key value) s first second entries f key v
-        (AddAnswer.Refused Error.Present) h k (λ e. let z : _≡_ {A = ℕ} 0 1 = cc in absurd (omega arith)) refl
-        (λ t x y z p o e w. alone-answer t x y z key value p ∙ told-held t z (lookupLent t x y z key) (sym d ∙ w))
+        refuses-with h e v k Error.Present (λ f. let z : _≡_ {A = ℕ} 0 1 = cc in absurd (omega arith))
+        (λ t z l o q w. told-held t z l (sym d ∙ w))
 
-  module _ (k : Planned s first second entries key Presence.Absent) where
-    pub held-fits : Fits w32 (s .«old_used» + s .«new_used»)
-    unfolding largestCapacity
-    held-fits = let counts = lent-counts s (length first) (length second) (length entries) (k .sound) in omega arith
-
-    -- a refusal for what the step keeps, or for the link that it leaves
+  module _ (k : Plan s current other entries key) where
+    -- for what the step keeps, or for the link that it leaves
     refuses : (error : Error)
         → ((t : State) → Follows s t
-        → addAnswer t (entriesAfter (rehashStep s first second entries)) Lookup.Absent ≡ AddAnswer.Refused error)
-        → After.after (AddAnswer.Refused error) first second entries ≡ add s first second entries key value
-    unfolding add isAdded
+        → addAnswer t (entriesAfter (stepOf s current other entries)) Lookup.Absent ≡ AddAnswer.Refused error)
+        → After.after (AddAnswer.Refused error) current other entries ≡ addMoving s current other entries key value
     refuses error each =
-        first-refused AddAnswer.Refused isAdded (λ t x y z. addAlone t x y z key value) s first second entries (k .rehashing) key
-        Presence.Absent (AddAnswer.Refused error) (k .sound) (k .told)
-        (λ e. let z : _≡_ {A = ℕ} 0 1 = cc in absurd (omega arith)) refl
-        (λ t x y z p o e w.
-        alone-answer t x y z key value p
-        ∙ ap (addAnswer t z) (is-absent (lookupLent t x y z key) w)
-        ∙ ap (λ (z : List ℕ). addAnswer t z Lookup.Absent) e
-        ∙ each t o)
+        refuses-with (k .sound) (k .rehashing) Presence.Absent (k .absent) error
+        (λ f. let z : _≡_ {A = ℕ} 0 1 = cc in absurd (omega arith))
+        (λ t z l o q w.
+        ap (addAnswer t z) (is-absent l w) ∙ ap (λ (y : List ℕ). addAnswer t y Lookup.Absent) q ∙ each t o)
 
     pub add-full : s .«old_used» + s .«new_used» ≡ s .capacity
-        → After.after (AddAnswer.Refused Error.Full) first second entries ≡ add s first second entries key value
+        → After.after (AddAnswer.Refused Error.Full) current other entries ≡ addMoving s current other entries key value
     unfolding keysHeld
     add-full e = refuses Error.Full (λ t o. absent-full t _ (o .keys ∙ e ∙ sym (o .capacity)))
 
     pub add-none-free : (s .«old_used» + s .«new_used» ≡ s .capacity → ⊥) → s .«free_head» ≡ 0
-        → After.after (AddAnswer.Refused Error.Damaged) first second entries ≡ add s first second entries key value
+        → After.after (AddAnswer.Refused Error.Damaged) current other entries ≡ addMoving s current other entries key value
     add-none-free room e = refuses Error.Damaged (λ t o. absent-bad t _ (room-then s room t o) (none-free t _ (o .free ∙ e)))
 
-  module _ (k : Room s first second entries key) where
-    pub free-within : s .«free_head» ≤ s .capacity
-    free-within = free-fits s (length first) (length second) (length entries) (k .planned .sound)
+  pub add-bad-link : Room s current other entries key → (link : ℕ)
+      → link ≡ linkOf (entriesAfter (stepOf s current other entries)) (s .«free_head») → s .capacity < link
+      → After.after (AddAnswer.Refused Error.Damaged) current other entries ≡ addMoving s current other entries key value
+  add-bad-link k link e l =
+      refuses (k .plan) Error.Damaged
+      (λ t o. absent-bad t _ (room-then s (k .not-full) t o) (bad-link t _ (rw (o .capacity, o .free, ← e) l)))
 
-    pub add-bad-link : (link : ℕ) → link ≡ linkOf (entriesAfter (rehashStep s first second entries)) (s .«free_head»)
-        → s .capacity < link
-        → After.after (AddAnswer.Refused Error.Damaged) first second entries ≡ add s first second entries key value
-    add-bad-link link e l =
-        refuses (k .planned) Error.Damaged
-        (λ t o. absent-bad t _ (room-then s (k .not-full) t o) (bad-link t _ (rw (o .capacity, o .free, ← e) l)))
+-- ---- the entry in the other buffer
 
-  module _ (link : ℕ) (k : Takes s first second entries key link) (r : StepAnswer) (x y z : List ℕ)
-      (e : After.after r x y z ≡ rehashStep s first second entries) where
-    -- no step refuses a key that was told to be absent
-    pub add-stopped : (error : Error) (a : After AddAnswer) → r ≡ StepAnswer.Refused error → a ≡ add s first second entries key value
-    add-stopped error a d =
-        let none = then-damaged s first second entries key Presence.Absent (k .room .planned) r x y z e error d in
-        let z : _≡_ {A = ℕ} 0 1 = cc in
-        absurd (omega arith)
+-- (what was told stands first: a search that knows it compares less)
+pub plan-of : (s : State) (current other entries : List ℕ) (key : ℕ) (v : Presence) → v ≡ Presence.Absent
+    → v ≡ presenceThen key (s .«second_is_current») (stepOf s current other entries) → s .rehashing ≡ true
+    → Sound s (length current) (length other) (length entries) → Plan s current other entries key
+plan-of s current other entries key v d k e h = record { sound = h; rehashing = e; absent = sym d ∙ k }
 
-    module _ (count : ℕ) (t : State) (d : r ≡ StepAnswer.Stepped count t) where
-      follows : Follows s t
-      follows = then-follows s first second entries key Presence.Absent (k .room .planned) r x y z e count t d
+-- By the flag before the step and the new table's size: the rehash goes on, or it is over and the flag is turned.
+data Targets (f : Bool) (size : ℕ) (t : State) : Type 0 where
+  goes-on : t .«second_is_current» ≡ f → t .rehashing ≡ true → t .«new_size» ≡ size → Targets f size t
+  is-over : t .«second_is_current» ≡ not f → t .rehashing ≡ false → t .«old_size» ≡ size → Targets f size t
 
-      pub free-then : 0 < t .«free_head»
-      free-then = let same = follows .free in let some = k .room .some-free in omega arith
+settled-targets : (s : State) (count next : ℕ)
+    → Targets (s .«second_is_current») (s .«new_size») (settled (advanced s count next))
+unfolding settled finished advanced retabled stateOf oldNew sizeOf
+settled-targets s count next = by (eqb (advanced s count next .«old_used») 0)
+  where
+    by : (b : Bool)
+        → Targets (s .«second_is_current») (s .«new_size») (cond b (finished (advanced s count next)) (advanced s count next))
+    by true = Targets.is-over refl refl refl
+    by false = Targets.goes-on refl refl refl
 
-      pub link-then : link ≡ linkOf z (t .«free_head»)
-      link-then =
-          rw (then-entries s first second entries key Presence.Absent (k .room .planned) r x y z e count t d, follows .free) (k .link-then)
+module _ (t : State) (c o z : List ℕ) (key value : ℕ) where
+  -- with the first free entry at the head of the key's bucket there, in a table of that size
+  abbrev with-entry : ℕ → After AddAnswer
+  with-entry size =
+      After.after (AddAnswer.Added (oneMore t (target (t .rehashing)) (linkOf z (t .«free_head»)))) c
+      (set o (bucketOf key size) (t .«free_head»))
+      (setEntry z (t .«free_head») (getD o (bucketOf key size) 0) key value)
 
-      pub add-taken : (a : AddAnswer) (p q w : List ℕ) → After.after a p q w ≡ pushedLent t x y z key value
-          → After.after a p q w ≡ add s first second entries key value
-      unfolding add answerOf
-      add-taken a p q w g =
-          let sound = then-sound s first second entries key Presence.Absent (k .room .planned) r x y z e count t d in
-          let absent =
-          is-absent (lookupLent t x y z key) (then-told s first second entries key Presence.Absent (k .room .planned) r x y z e count t d) in
-          let takes = good-link t z free-then (rw (← link-then, follows .capacity) (k .link-fits)) in
-          let alone = g ∙ alone-pushes t x y z key value sound absent (room-then s (k .room .not-full) t follows) takes in
-          first-done AddAnswer.Refused isAdded (λ t x y z. addAlone t x y z key value) s first second entries
-          (k .room .planned .rehashing) count t x y z a p q w
-          (then-step s first second entries key Presence.Absent (k .room .planned) r x y z e count t d) alone
-          (ap isAdded (ap answerOf alone ∙ alone-answer t x y z key value sound ∙ ap (addAnswer t z) absent)
-          ∙ absent-taken t z (room-then s (k .room .not-full) t follows) takes)
+  -- what its table's push leaves, by the flag then
+  lent-push : Bool → List ℕ → List ℕ → After AddAnswer
+  lent-push g x y = back g (oriented g (λ c o. pushed t c o z key value (target (t .rehashing))) x y)
+
+  pushed-on : (f : Bool) → t .rehashing ≡ true
+      → with-entry (t .«new_size») ≡ back f (lent-push f (firstOf f c o) (secondOf f c o))
+  unfolding lent-push oriented back changed bucketsOf target sizeOf
+  pushed-on false r = taken t c o z key value Table.New (ap target r)
+  pushed-on true r = ap (λ (m : After AddAnswer). back true (back true m)) (taken t c o z key value Table.New (ap target r))
+
+  pushed-over : (f : Bool) → t .rehashing ≡ false
+      → with-entry (t .«old_size») ≡ back f (lent-push (not f) (firstOf f c o) (secondOf f c o))
+  unfolding lent-push oriented back changed bucketsOf target sizeOf
+  pushed-over false r = ap (back true) (taken t o c z key value Table.Old (ap target r))
+  pushed-over true r = ap (back true) (taken t o c z key value Table.Old (ap target r))
+
+  pushed-other : (f : Bool) (size : ℕ) → Targets f size t
+      → with-entry size ≡ back f (pushedLent t (firstOf f c o) (secondOf f c o) z key value)
+  unfolding pushedLent lent-push
+  pushed-other f size (Targets.goes-on g r n) =
+      ap with-entry (sym n)
+      ∙ pushed-on f r
+      ∙ ap (λ (g : Bool). back f (lent-push g (firstOf f c o) (secondOf f c o))) (sym g)
+  pushed-other f size (Targets.is-over g r n) =
+      ap with-entry (sym n)
+      ∙ pushed-over f r
+      ∙ ap (λ (g : Bool). back f (lent-push g (firstOf f c o) (secondOf f c o))) (sym g)
+
+  -- as the code has it
+  pushed-with : (f : Bool) (size n link : ℕ) → Targets f size t → n ≡ t .«free_head» → link ≡ linkOf z (t .«free_head»)
+      → After.after (AddAnswer.Added (oneMore t (target (t .rehashing)) link)) c (set o (bucketOf key size) n)
+      (setEntry z n (getD o (bucketOf key size) 0) key value)
+      ≡ back f (pushedLent t (firstOf f c o) (secondOf f c o) z key value)
+  pushed-with f size n link h ne le = rw (ne, le) (pushed-other f size h)
+
+-- ---- the step for real, and the entry
+
+-- the state then, and its counts
+
+pub state-then : (s : State) (count next link : ℕ) (t u : State) → t ≡ settled (advanced s count next)
+    → u ≡ oneMore t (target (t .rehashing)) link → u ≡ movedState s count next link
+unfolding movedState
+state-then s count next link t u te ue = ue ∙ ap (λ (v : State). oneMore v (target (v .rehashing)) link) te
+
+pub counts-before : (s : State) (current other entries : List ℕ) (key link : ℕ) → Takes s current other entries key link → Counted s
+counts-before s current other entries key link k =
+    let h = k .room .plan .sound in record { held-fit = h .used-fits; capacity-limit = h .capacity-limit }
+
+pub counts-then : (s : State) (count next : ℕ) (t : State) → Counted s → count ≤ s .«old_used»
+    → t ≡ settled (advanced s count next) → Counted t
+unfolding settled finished advanced retabled stateOf oldNew
+counts-then s count next t h l e = subst Counted (sym e) (by (eqb (advanced s count next .«old_used») 0))
+  where
+    by : (b : Bool) → Counted (cond b (finished (advanced s count next)) (advanced s count next))
+    by true = record { held-fit = omega (arith, h .held-fit); capacity-limit = h .capacity-limit }
+    by false = record { held-fit = omega (arith, h .held-fit); capacity-limit = h .capacity-limit }
+
+module _ (s : State) (current other entries : List ℕ) (key value link : ℕ) (k : Takes s current other entries key link) (r : Progress)
+    (c o z : List ℕ)
+    (e : After.after (stepAnswer s r) c o z
+    ≡ checked s entries (λ c o. After.after (StepAnswer.Refused Error.BadState) c o entries)
+    (λ c o. stepped s c o entries (s .rehashing)) current other) where
+  abbrev plan : Plan s current other entries key
+  plan = k .room .plan
+
+  taken-step : After.after (stepAnswer s r) c o z ≡ stepOf s current other entries
+  unfolding checked
+  taken-step = e ∙ (rw (sound-test s current other entries (plan .sound)) refl)
+
+  -- the same on the lent buffers
+
+  abbrev x : List ℕ
+  x = firstOf (s .«second_is_current») c o
+
+  abbrev y : List ℕ
+  y = secondOf (s .«second_is_current») c o
+
+  planned : Planned s (first s current other entries) (second s current other entries) entries key Presence.Absent
+  unfolding presenceThen
+  planned =
+      record {
+        sound = lent s current other entries (plan .sound);
+        rehashing = plan .rehashing;
+        told = plan .absent ∙ ap (presenceAfter key) (lent-step s current other entries (plan .sound));
+      }
+
+  lent-taken : After.after (stepAnswer s r) x y z ≡ rehashStep s (first s current other entries) (second s current other entries) entries
+  lent-taken =
+      sym (lent-of (s .«second_is_current») (stepAnswer s r) c o z)
+      ∙ ap (back (s .«second_is_current»)) taken-step
+      ∙ lent-step s current other entries (plan .sound)
+
+  -- no step refuses a key that was told to be absent
+  pub add-stopped : (error : Error) (a : After AddAnswer) → r ≡ Progress.Refused error
+      → a ≡ addMoving s current other entries key value
+  unfolding stepAnswer
+  add-stopped error a d =
+      let none =
+      then-damaged s (first s current other entries) (second s current other entries) entries key Presence.Absent planned
+      (stepAnswer s r) x y z lent-taken error (ap (stepAnswer s) d) in
+      let z : _≡_ {A = ℕ} 0 1 = cc in
+      absurd (omega arith)
+
+  module _ (count next : ℕ) (d : r ≡ Progress.Moved count next) where
+    pub other-readable : Readable (s .«new_size») (length o) (s .«free_head») (length z)
+    unfolding StepLeaves stepAnswer stepDone
+    other-readable =
+        let then : StepLeaves s current other entries (After.after (stepAnswer s (Progress.Moved count next)) c o z) =
+        subst (StepLeaves s current other entries) (sym (rw d at taken-step))
+        (step-leaves s current other entries (plan .sound) (plan .rehashing)) in
+        let new = plan .sound .rehashing (plan .rehashing) in
+        record {
+          size-legal = new .new-legal;
+          buckets-fit = omega (arith, then .1);
+          entries-fit = omega (arith, then .2, plan .sound .entries-fit, plan .sound .free-fits);
+        }
+
+    abbrev t : State
+    t = settled (advanced s count next)
+
+    answered : stepAnswer s r ≡ StepAnswer.Stepped count t
+    unfolding stepAnswer stepDone
+    answered = rw d
+
+    world : StepTaken s (first s current other entries) (second s current other entries) entries key Presence.Absent count t x y z
+    world =
+        step-taken s (first s current other entries) (second s current other entries) entries key Presence.Absent planned
+        (stepAnswer s r) x y z lent-taken count t answered
+
+    link-then : link ≡ linkOf z (t .«free_head»)
+    unfolding entriesAfter
+    link-then = rw (world .follows .free, ap entriesAfter taken-step) (k .link-then)
+
+    takes : takeable t z ≡ true
+    takes =
+        let free = world .follows .free in
+        let some = k .room .some-free in
+        good-link t z (omega arith) (rw (← link-then, world .follows .capacity) (k .link-fits))
+
+    -- an add alone there takes the entry
+    alone : pushedLent t x y z key value ≡ addAlone t x y z key value
+    alone =
+        alone-pushes t x y z key value (world .sound) (is-absent (lookupLent t x y z key) (world .told))
+        (room-then s (k .room .not-full) t (world .follows)) takes
+
+    pub add-taken : (u : State) (b w : List ℕ) → u ≡ movedState s count next link
+        → b ≡ set o (bucketOf key (s .«new_size»)) (s .«free_head»)
+        → w ≡ setEntry z (s .«free_head») (getD o (bucketOf key (s .«new_size»)) 0) key value
+        → After.after (AddAnswer.Added u) c b w ≡ addMoving s current other entries key value
+    unfolding addMoving movedState add isAdded
+    add-taken u b w ue be we =
+        let f = s .«second_is_current» in
+        let here : After.after (AddAnswer.Added u) c b w ≡ back f (pushedLent t x y z key value) =
+        rw (ue, be, we)
+        (pushed-with t c o z key value f (s .«new_size») (s .«free_head») link (settled-targets s count next) (sym (world .follows .free)) link-then) in
+        let there = sym (lent-of f (AddAnswer.Added u) c b w) ∙ ap (back f) here ∙ twice-back f (pushedLent t x y z key value) in
+        lent-back f (AddAnswer.Added u) c b w
+        ∙ ap (back f)
+        (first-done AddAnswer.Refused isAdded (λ t x y z. addAlone t x y z key value) s (first s current other entries)
+        (second s current other entries) entries (plan .rehashing) count t x y z (AddAnswer.Added u) (firstOf f c b) (secondOf f c b) w
+        (world .step) (there ∙ alone) refl)
+
+-- ---- on the lent buffers
+
+module _ (s : State) (first second entries : List ℕ) (key value : ℕ) (a : AddAnswer) (x y z : List ℕ) where
+  pub moving-first : s .«second_is_current» ≡ false → After.after a x y z ≡ addMoving s first second entries key value
+      → After.after a x y z ≡ add s first second entries key value
+  unfolding addMoving oriented back
+  moving-first f h =
+      h ∙ ap (λ (g : Bool). back g (add s (firstOf g first second) (secondOf g first second) entries key value)) f
+
+  pub moving-second : s .«second_is_current» ≡ true → After.after a x y z ≡ addMoving s second first entries key value
+      → After.after a y x z ≡ add s first second entries key value
+  unfolding addMoving oriented back
+  moving-second f h =
+      ap (back true) (h ∙ ap (λ (g : Bool). back g (add s (firstOf g second first) (secondOf g second first) entries key value)) f)
+      ∙ twice-back true (add s first second entries key value)

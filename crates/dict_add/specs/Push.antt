@@ -1,5 +1,5 @@
--- What the functions below add hand up, and what they promise: with no rehash in numbers, of one table, and add makes its
--- answer of it; behind a step on the lent buffers.
+-- What the functions below add hand up with no rehash, and what they promise, in numbers: they know one table and no state.
+-- Add makes its answer of it.
 use Prim.Native.Nat.{ℕ, _+_}
 use mathlib.Core.Bool.{_&&_, not, cond}
 use mathlib.Core.List.{List}
@@ -11,7 +11,7 @@ use Rattle.model.specs.declared.Error.{Error}
 use Rattle.model.specs.declared.AddAnswer.{AddAnswer}
 use Rattle.model.specs.Keys.{bucketOf}
 use Rattle.model.specs.Memory.{linkOf, setEntry, usedOf}
-use Rattle.model.specs.Calls.{After, oriented, back, recounted, withCount, pushed, target}
+use Rattle.model.specs.Calls.{recounted, withCount, target}
 use Rattle.search.specs.declared.found.Found.{Found}
 use Rattle.dict_add.specs.declared.add.Push.{Push}
 
@@ -42,10 +42,3 @@ oneMore s t free = recounted s free (withCount s t (usedOf s t + 1))
 unfoldable pub pushAnswer : State → Push → AddAnswer
 pushAnswer s (Push.Refused e) = AddAnswer.Refused e
 pushAnswer s (Push.Done free) = AddAnswer.Added (oneMore s (target (s .rehashing)) free)
-
--- the first free entry in the table that keys are added to, on the lent buffers
-unfoldable pub pushedLent : State → List ℕ → List ℕ → List ℕ → ℕ → ℕ → After AddAnswer
-pushedLent s first second entries key value =
-    back (s .«second_is_current»)
-    (oriented (s .«second_is_current»)
-    (λ current other. pushed s current other entries key value (target (s .rehashing))) first second)

@@ -1,10 +1,13 @@
 // Add a key that is not held (SPECIFICATION, "Add"). It is a timed call: the state is tested on the lent lengths, then whether
-// a rehash is under way, then, if none is, which buffer is current; below that are functions of numbers. During a rehash a step
-// comes first ("The step that comes first"), and all that can refuse is asked before it.
+// a rehash is under way, then which buffer is current. With no rehash there are functions of numbers below that. During one a
+// step comes first ("The step that comes first"), and all that can refuse is asked before it; `add_moving` has two callers, and
+// so stays a call of its own, off the quick path.
 use after_step::link::link_after_step;
 use after_step::presence::Presence;
-use after_step::presence::presence_after_step;
-use dict_rehash::rehash::rehash_step;
+use after_step::presence::presence_in;
+use dict_rehash::rehash::Progress;
+use dict_rehash::rehash::state_after;
+use dict_rehash::rehash::step_in;
 use memory::entry::link_of;
 use memory::entry::set_entry;
 use memory::state::bucket_index;
@@ -12,7 +15,6 @@ use memory::state::is_sound_lent;
 use model::AddAnswer;
 use model::Error;
 use model::State;
-use model::StepAnswer;
 use search::found::Found;
 use search::found::entry_in;
 ghost use mathlib.Core.Path.{_≡_};
@@ -21,17 +23,15 @@ ghost use Prim.Native.Nat.{_≤_, _<_};
 ghost use lib.ListN.{length, getD, set};
 ghost use Rattle.model.specs.declared.Table.{Table};
 ghost use Rattle.model.specs.Keys.{bucketOf};
-ghost use Rattle.model.specs.Memory.{linkOf, setEntry, sizeOf};
+ghost use Rattle.model.specs.Memory.{setEntry};
 ghost use Rattle.model.specs.Calls as calls;
 ghost use Rattle.model.specs.Calls.After.{after};
-ghost use Rattle.model.proofs.Soundness.{Counted};
+ghost use Rattle.model.proofs.Soundness.{Sound, Counted};
 ghost use Rattle.memory.specs.Lent.{soundLent};
 ghost use Rattle.search.specs.Tables.{searchedIn, Readable};
 ghost use Rattle.search.specs.Found.{foundOf};
-ghost use Rattle.after_step.specs.declared.presence.Presence.the-variants as told;
-ghost use Rattle.after_step.specs.Planned.{Planned};
-ghost use Rattle.dict_add.specs.Push.{pushFree, pushFound, oneMore, pushAnswer, pushedLent};
-ghost use Rattle.dict_add.specs.Takes.{Room, Takes};
+ghost use Rattle.dict_add.specs.Moving.{addMoving, movedState, Plan, Room, Takes};
+ghost use Rattle.dict_add.specs.Push.{pushFree, pushFound, oneMore, pushAnswer};
 ghost use Rattle.dict_add.specs.Push.Left.{left};
 
 // What happened to the buffers, in numbers: the public call makes the answer of it.
@@ -167,76 +167,69 @@ fn one_more(s: State, free: u32) -> State
     }
 }
 
-// The size of that table.
-fn target_size(s: State) -> u32
-    ensures { λ r. ⌜ r ≡ sizeOf s (calls.target (s .rehashing)) ⌝ }
-{
-    if s.rehashing { s.new_size } else { s.old_size }
-}
-
-// The first free entry into that table, in the lent buffer that the two flags name. Its link is known.
-fn push_lent(
-    first: &mut [u32],
-    second: &mut [u32],
+// The first free entry into what a step leaves that moved so many keys: into the new table, which lies in the other buffer
+// whether the rehash goes on or is over.
+fn push_moved(
+    other: &mut [u32],
     entries: &mut [u32],
     s: State,
+    count: u32,
+    next: u32,
     key: u32,
     value: u32,
     link: u32,
-) -> AddAnswer
-    requires { ⌜ soundLent (length (now first)) (length (now second)) (length (now entries)) s ≡ true ⌝ }
-    requires { ⌜ (0 < s .«free_head») × (link ≡ linkOf (now entries) (s .«free_head»)) ⌝ }
-    ensures { λ r. ⌜ after r (now (first .exit)) (now (second .exit)) (now (entries .exit))
-        ≡ pushedLent s (now (first .entry)) (now (second .entry)) (now (entries .entry)) key value ⌝ }
+) -> State
+    requires { ⌜ Readable (s .«new_size») (length (now other)) (s .«free_head») (length (now entries)) ⌝ }
+    requires { ⌜ (0 < s .«free_head») × (count ≤ s .«old_used») ⌝ }
+    requires { ⌜ Counted s ⌝ }
+    ensures { λ r. ⌜ r ≡ movedState s count next link ⌝ }
+    ensures { λ _. ⌜ now (other .exit) ≡ set (now (other .entry)) (bucketOf key (s .«new_size»)) (s .«free_head») ⌝ }
+    ensures { λ _. ⌜ now (entries .exit) ≡ setEntry (now (entries .entry)) (s .«free_head»)
+        (getD (now (other .entry)) (bucketOf key (s .«new_size»)) 0) key value ⌝ }
 {
-    let free = s.free_head;
-    let size = target_size(s);
-    if s.rehashing == s.second_is_current {
-        push_entry(first, entries, size, free, key, value);
-        AddAnswer::Added(one_more(s, link))
-    } else {
-        push_entry(second, entries, size, free, key, value);
-        AddAnswer::Added(one_more(s, link))
-    }
+    push_entry(other, entries, s.new_size, s.free_head, key, value);
+    one_more(state_after(s, count, next), link)
 }
 
-// The step for real, and the entry into what it leaves. What was told says that no test of either fails.
+// The step for real, and the entry. What was told says that no test of either fails.
 fn step_and_push(
-    first: &mut [u32],
-    second: &mut [u32],
+    current: &mut [u32],
+    other: &mut [u32],
     entries: &mut [u32],
     s: State,
     key: u32,
     value: u32,
     link: u32,
 ) -> AddAnswer
-    requires { ⌜ Takes s (now first) (now second) (now entries) key link ⌝ }
-    ensures { λ r. ⌜ after r (now (first .exit)) (now (second .exit)) (now (entries .exit))
-        ≡ calls.add s (now (first .entry)) (now (second .entry)) (now (entries .entry)) key value ⌝ }
+    requires { ⌜ Takes s (now current) (now other) (now entries) key link ⌝ }
+    ensures { λ r. ⌜ after r (now (current .exit)) (now (other .exit)) (now (entries .exit))
+        ≡ addMoving s (now (current .entry)) (now (other .entry)) (now (entries .entry)) key value ⌝ }
 {
-    let stepped = rehash_step(first, second, entries, s);
-    match stepped {
-        StepAnswer::Refused(e) => AddAnswer::Refused(e),
-        StepAnswer::Stepped(_, t) => push_lent(first, second, entries, t, key, value, link),
+    let progress = step_in(current, other, entries, s);
+    match progress {
+        Progress::Refused(e) => AddAnswer::Refused(e),
+        Progress::Moved(count, next) => {
+            AddAnswer::Added(push_moved(other, entries, s, count, next, key, value, link))
+        }
     }
 }
 
 // There is room: the link of the first free entry decides. In damaged memory the step may change it.
 fn take_free(
-    first: &mut [u32],
-    second: &mut [u32],
+    current: &mut [u32],
+    other: &mut [u32],
     entries: &mut [u32],
     s: State,
     key: u32,
     value: u32,
 ) -> AddAnswer
-    requires { ⌜ Room s (now first) (now second) (now entries) key ⌝ }
-    ensures { λ r. ⌜ after r (now (first .exit)) (now (second .exit)) (now (entries .exit))
-        ≡ calls.add s (now (first .entry)) (now (second .entry)) (now (entries .entry)) key value ⌝ }
+    requires { ⌜ Room s (now current) (now other) (now entries) key ⌝ }
+    ensures { λ r. ⌜ after r (now (current .exit)) (now (other .exit)) (now (entries .exit))
+        ≡ addMoving s (now (current .entry)) (now (other .entry)) (now (entries .entry)) key value ⌝ }
 {
-    let link = link_after_step(first, second, entries, s, s.free_head);
+    let link = link_after_step(current, other, entries, s, s.free_head);
     if link <= s.capacity {
-        step_and_push(first, second, entries, s, key, value, link)
+        step_and_push(current, other, entries, s, key, value, link)
     } else {
         AddAnswer::Refused(Error::Damaged)
     }
@@ -244,16 +237,16 @@ fn take_free(
 
 // The key is on no chain once the step is taken. The step keeps the keys held, the capacity and the free head.
 fn add_absent(
-    first: &mut [u32],
-    second: &mut [u32],
+    current: &mut [u32],
+    other: &mut [u32],
     entries: &mut [u32],
     s: State,
     key: u32,
     value: u32,
 ) -> AddAnswer
-    requires { ⌜ Planned s (now first) (now second) (now entries) key told.Absent ⌝ }
-    ensures { λ r. ⌜ after r (now (first .exit)) (now (second .exit)) (now (entries .exit))
-        ≡ calls.add s (now (first .entry)) (now (second .entry)) (now (entries .entry)) key value ⌝ }
+    requires { ⌜ Plan s (now current) (now other) (now entries) key ⌝ }
+    ensures { λ r. ⌜ after r (now (current .exit)) (now (other .exit)) (now (entries .exit))
+        ≡ addMoving s (now (current .entry)) (now (other .entry)) (now (entries .entry)) key value ⌝ }
 {
     if s.old_used + s.new_used == s.capacity {
         return AddAnswer::Refused(Error::Full);
@@ -261,10 +254,32 @@ fn add_absent(
     if s.free_head == 0 {
         return AddAnswer::Refused(Error::Damaged);
     }
-    take_free(first, second, entries, s, key, value)
+    take_free(current, other, entries, s, key, value)
 }
 
 // During a rehash a step comes first, and a refusal leaves all as it was: what is told of the memory after the step decides.
+fn add_moving(
+    current: &mut [u32],
+    other: &mut [u32],
+    entries: &mut [u32],
+    s: State,
+    key: u32,
+    value: u32,
+) -> AddAnswer
+    requires { ⌜ Sound s (length (now current)) (length (now other)) (length (now entries)) ⌝ }
+    requires { ⌜ s .rehashing ≡ true ⌝ }
+    ensures { λ r. ⌜ after r (now (current .exit)) (now (other .exit)) (now (entries .exit))
+        ≡ addMoving s (now (current .entry)) (now (other .entry)) (now (entries .entry)) key value ⌝ }
+{
+    let presence = presence_in(current, other, entries, s, key);
+    match presence {
+        Presence::Damaged => AddAnswer::Refused(Error::Damaged),
+        Presence::Held => AddAnswer::Refused(Error::Present),
+        Presence::Absent => add_absent(current, other, entries, s, key, value),
+    }
+}
+
+// The flag says which lent buffer is the current one.
 fn add_rehashing(
     first: &mut [u32],
     second: &mut [u32],
@@ -278,11 +293,10 @@ fn add_rehashing(
     ensures { λ r. ⌜ after r (now (first .exit)) (now (second .exit)) (now (entries .exit))
         ≡ calls.add s (now (first .entry)) (now (second .entry)) (now (entries .entry)) key value ⌝ }
 {
-    let presence = presence_after_step(first, second, entries, s, key);
-    match presence {
-        Presence::Damaged => AddAnswer::Refused(Error::Damaged),
-        Presence::Held => AddAnswer::Refused(Error::Present),
-        Presence::Absent => add_absent(first, second, entries, s, key, value),
+    if s.second_is_current {
+        add_moving(second, first, entries, s, key, value)
+    } else {
+        add_moving(first, second, entries, s, key, value)
     }
 }
 

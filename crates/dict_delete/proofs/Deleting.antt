@@ -20,7 +20,7 @@ use Rattle.search.specs.Tables.{lookupLent}
 use Rattle.after_step.specs.declared.presence.Presence.{Presence}
 use Rattle.after_step.specs.Presence.{presence, presenceAfter}
 use Rattle.after_step.specs.Planned.{Planned}
-use Rattle.after_step.proofs.StepFirst.{answerOf, answer-by, is-damaged, is-absent, is-held, then-damaged, then-step, then-sound, then-told, first-resting, first-unsound, first-done, first-refused}
+use Rattle.after_step.proofs.StepFirst.{answerOf, answer-by, is-damaged, is-absent, is-held, then-damaged, step-taken, first-resting, first-unsound, first-done, first-refused}
 
 -- Alone, on the lent buffers.
 
@@ -120,7 +120,8 @@ module _ (s : State) (first second entries : List ℕ) (key : ℕ) where
         → After.after a p q w ≡ deleteAlone t x y z key → After.after a p q w ≡ delete s first second entries key
     unfolding delete answerOf
     delete-held count t a p q w d g =
+        let then = step-taken s first second entries key Presence.Held k r x y z e count t d in
         first-done DeleteAnswer.Refused isDeleted (λ t x y z. deleteAlone t x y z key) s first second entries (k .rehashing) count
-        t x y z a p q w (then-step s first second entries key Presence.Held k r x y z e count t d) g
-        (ap isDeleted (ap answerOf g ∙ alone-answer t x y z key (then-sound s first second entries key Presence.Held k r x y z e count t d))
-        ∙ told-held t (lookupLent t x y z key) (then-told s first second entries key Presence.Held k r x y z e count t d))
+        t x y z a p q w (then .step) g
+        (ap isDeleted (ap answerOf g ∙ alone-answer t x y z key (then .sound))
+        ∙ told-held t (lookupLent t x y z key) (then .told))

@@ -23,8 +23,8 @@ ghost use Rattle.model.specs.Calls.After.{after};
 ghost use Rattle.model.proofs.Soundness.{Sound};
 ghost use Rattle.dict_rehash.specs.Progress.{stepAnswer, stepRoom, oldChain, chains, ChainOf, ChainMoved, EntryMoved};
 
-// What happened to the buffers, in numbers: the public call makes the answer of it.
-enum Progress {
+// What happened to the buffers, in numbers: the public call makes the answer of it, and an add makes its own.
+pub enum Progress {
     Refused(Error),
     // So many keys have moved, and this bucket is the next one.
     Moved(u32, u32),
@@ -131,7 +131,7 @@ fn move_next(current: &mut [u32], other: &mut [u32], entries: &mut [u32], s: Sta
 }
 
 // On the current and the other bucket buffer: the tests in the order of the answers.
-fn step_in(current: &mut [u32], other: &mut [u32], entries: &mut [u32], s: State) -> Progress
+pub fn step_in(current: &mut [u32], other: &mut [u32], entries: &mut [u32], s: State) -> Progress
     ensures { λ r. ⌜ after (stepAnswer s r) (now (current .exit)) (now (other .exit)) (now (entries .exit))
         ≡ calls.checked s (now (entries .entry)) (λ c o. after (answer.Refused why.BadState) c o (now (entries .entry)))
         (λ c o. calls.stepped s c o (now (entries .entry)) (s .rehashing)) (now (current .entry)) (now (other .entry)) ⌝ }
@@ -167,7 +167,7 @@ fn step_oriented(first: &mut [u32], second: &mut [u32], entries: &mut [u32], s: 
 
 // The state once so many keys have moved, and that bucket is the next one. With no keys left in the old table the rehash is
 // over: the new table becomes the only one.
-fn state_after(s: State, count: u32, next: u32) -> State
+pub fn state_after(s: State, count: u32, next: u32) -> State
     requires { ⌜ (count ≤ s .«old_used») × (s .«new_used» + count ≤ s .capacity) ⌝ }
     ensures { λ r. ⌜ r ≡ calls.settled (calls.advanced s count next) ⌝ }
 {

@@ -1,7 +1,7 @@
 -- `dict_add::add::add_absent` meets its contract: what the step keeps is tested in the order of the answers.
 -- Assumes nothing.
 use borrow.Author.Needs.{needs}
-use Rattle.dict_add.proofs.AddingAfter.{held-fits, add-full, add-none-free}
+use Rattle.dict_add.proofs.AddingAfter.{add-full, add-none-free}
 use Rattle.dict_add.proofs.add.add_absent.Statement.{statement}
 use Rattle.dict_add.proofs.add.add_absent.Tie as tie
 
@@ -13,7 +13,7 @@ pub add-absent-spec : {M : Type 1} → statement M
 add-absent-spec =
     tie.close
     (tie.spec
-    (λ c. search held-fits)
+    (λ c. search needs)
     returns
     (λ c. search add-none-free)
     (λ c κs. search needs)

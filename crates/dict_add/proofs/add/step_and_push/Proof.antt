@@ -1,8 +1,8 @@
 -- `dict_add::add::step_and_push` meets its contract: the step is answered, and the first free entry goes into what it leaves.
 -- Assumes nothing.
 use borrow.Author.Needs.{needs}
-use Rattle.after_step.proofs.StepFirst.{then-sound}
-use Rattle.dict_add.proofs.AddingAfter.{free-then, link-then, add-stopped, add-taken}
+use Rattle.dict_rehash.proofs.Stepping.{moved-old}
+use Rattle.dict_add.proofs.AddingAfter.{other-readable, counts-before, add-stopped, add-taken}
 use Rattle.dict_add.proofs.add.step_and_push.Statement.{statement}
 use Rattle.dict_add.proofs.add.step_and_push.Tie as tie
 
@@ -17,7 +17,7 @@ step-and-push-spec =
     (λ c κs. search needs)
     (λ c. search needs)
     (λ c. search needs)
-    (λ c κs. (search then-sound, (search free-then, search link-then)))
+    (λ c κs. (search other-readable, ((search needs, search moved-old), search counts-before)))
     (λ c. search needs)
     (λ c. search needs)
     (λ c. search needs)

@@ -1,0 +1,32 @@
+-- `dict_add::add::add_moving` meets its contract: what is told of the memory after the step decides.
+-- Assumes nothing.
+use borrow.Author.Needs.{needs}
+use Rattle.dict_add.proofs.AddingAfter.{plan-of, add-damaged, add-present}
+use Rattle.dict_add.proofs.add.add_moving.Statement.{statement}
+use Rattle.dict_add.proofs.add.add_moving.Tie as tie
+
+-- refused as present, and no step is taken
+returns-2 : tie.Need-returns-2
+returns-2 c = search add-present
+
+pub add-moving-spec : {M : Type 1} → statement M
+add-moving-spec =
+    tie.close
+    (tie.spec
+    (λ c κs. search needs)
+    (λ c. search needs)
+    (λ c. search needs)
+    (λ c. search needs)
+    (λ c κs. search plan-of)
+    (λ c. search needs)
+    (λ c. search needs)
+    (λ c. search needs)
+    (λ c. search add-damaged)
+    (λ c. search needs)
+    (λ c. search needs)
+    (λ c. search needs)
+    returns-2
+    (λ c. search needs)
+    (λ c. search needs)
+    (λ c. search needs)
+    (λ c. search needs))

@@ -7,6 +7,11 @@ use Rattle.after_step.proofs.Deciding.{index-fits, next-below, next-fil
 use Rattle.after_step.proofs.presence.presence_ahead.Statement.{statement}
 use Rattle.after_step.proofs.presence.presence_ahead.Tie as tie
 
+-- the chain that moves is asked for
+returns : tie.Need-returns
+unfolding aheadOf
+returns c = search ahead-filled
+
 look-ahead-requires : tie.Need-look-ahead-requires
 look-ahead-requires c κs = (search index-fits, search needs)
 
@@ -21,10 +26,6 @@ presence-moving-requires c κs =
 
 entry-in-both-requires : tie.Need-entry-in-both-requires
 entry-in-both-requires c κs = (search old-readable, search new-readable)
-
-returns : tie.Need-returns
-unfolding aheadOf
-returns c = search ahead-filled
 
 returns-2 : tie.Need-returns-2
 unfolding aheadOf

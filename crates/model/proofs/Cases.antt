@@ -16,8 +16,8 @@ use Rattle.model.specs.Limits.{largestExponent}
 use Rattle.model.specs.Answers.{Reply}
 use Rattle.model.specs.Memory.{chainAt}
 use Rattle.model.specs.Calls.{suggested}
-use Rattle.model.specs.Sequences.{World, Call, perform}
-use Rattle.model.specs.Cases.{Row, Gives, Walks, EachAnswers, StepsTo, Holds, AllHold, fresh, bucketZero, resting, moving, inBoth, sparse, rehashing, runningInto, linkedOn, counting, freeInBucket, steppers, readers, cases}
+use Rattle.model.specs.Sequences.{World, KeyCall, Call, perform}
+use Rattle.model.specs.Cases.{Row, Gives, Walks, EachAnswers, StepsTo, AddsTo, Holds, AllHold, fresh, bucketZero, resting, moving, inBoth, sparse, rehashing, runningInto, linkedOn, counting, freeInBucket, steppers, after, adding, filled, readers, cases}
 use Rattle.model.proofs.Computing.{computing}
 use Rattle.model.proofs.Tests.{Tells, told, tells-true, tells-same, tells-and, tells-eq, tells-le}
 use Rattle.model.proofs.Suggested.{growing-capped}
@@ -77,6 +77,15 @@ tells-stepping r values next =
     tells-same (λ h. (h .0 .0, h .0 .1, h .1)) (λ h. ((h .0, h .1), h .2))
     (tells-and (tells-and (tells-eq (r .number) 0) (tells-list (r .values) values)) (tells-eq (r .state .«rehash_index») next))
 
+adding-to : Reply State → ℕ → ℕ → Bool
+adding-to r old new = eqb (r .number) 0 && eqb (r .state .«old_size») old && eqb (r .state .«new_size») new
+
+tells-adding : (r : Reply State) (old new : ℕ) → Tells (AddsTo r old new) (adding-to r old new)
+unfolding adding-to AddsTo
+tells-adding r old new =
+    tells-same (λ h. (h .0 .0, h .0 .1, h .1)) (λ h. ((h .0, h .1), h .2))
+    (tells-and (tells-and (tells-eq (r .number) 0) (tells-eq (r .state .«old_size») old)) (tells-eq (r .state .«new_size») new))
+
 reading : Option (List ℕ) → List ℕ → Bool
 reading none entries = false
 reading (some ns) entries = same ns entries
@@ -96,6 +105,7 @@ test (Row.suggests-above growing keys size) =
     growing && leb (2 ^ largestExponent) (keys * 2) && eqb size (2 ^ largestExponent)
 test (Row.answers w cs number) = answering w cs number
 test (Row.steps w values next) = stepping (perform w Call.rehashStep .reply) values next
+test (Row.adds w key old new) = adding-to (perform w (Call.on key (KeyCall.add 30)) .reply) old new
 test (Row.reads w p entries) = reading (chainAt (w .state) (w .first) (w .second) (w .entries) p) entries
 
 -- one bucket: whatever the cursor, the walk ends
@@ -122,6 +132,7 @@ row-true (Row.suggests-above growing keys size) h =
     (growing-capped more (omega (arith, each .0 .1)) ∙ sym (each .1))
 row-true (Row.answers w cs number) h = told (tells-answering w cs number) h
 row-true (Row.steps w values next) h = told (tells-stepping (perform w Call.rehashStep .reply) values next) h
+row-true (Row.adds w key old new) h = told (tells-adding (perform w (Call.on key (KeyCall.add 30)) .reply) old new) h
 row-true (Row.reads w p entries) h = told (tells-reading (chainAt (w .state) (w .first) (w .second) (w .entries) p) entries) h
 
 testAll : List Row → Bool
@@ -136,7 +147,7 @@ all-true (row ∷ rows) h =
     (row-true row (each .0), all-true rows (each .1))
 
 computed : testAll cases ≡ true
-unfolding computing testAll test gives walks answering stepping reading same cases fresh bucketZero resting moving inBoth sparse rehashing runningInto linkedOn counting freeInBucket steppers readers
+unfolding computing testAll test gives walks answering stepping adding-to reading same cases fresh bucketZero resting moving inBoth sparse rehashing runningInto linkedOn counting freeInBucket steppers after adding filled readers
 computed = refl
 
 pub cases-hold : AllHold cases

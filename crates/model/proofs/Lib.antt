@@ -14,5 +14,6 @@ pub mod Moved
 pub mod StepAhead
 pub mod StepLeaves
 pub mod StepFirst
+pub mod AddLeaves
 pub mod Pairs
 pub mod Suggested

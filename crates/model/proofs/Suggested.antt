@@ -1,16 +1,19 @@
--- The suggested size: the smallest power of two that is not below the number asked for, up to the largest size.
+-- The suggested size: the smallest power of two that is not below the number asked for, from the least suggestion up to the
+-- largest size.
 -- Assumes nothing.
-use Prim.Native.Nat.{ℕ, zero, suc, _+_, _*_, _^_, _≤_, _<_}
-use mathlib.Core.Path.{_≡_, refl, ap, subst, _∙_}
+use Prim.Native.Nat.{ℕ, zero, suc, _+_, _*_, _^_, _≤_, _<_, max}
+use mathlib.Core.Path.{_≡_, refl, sym, ap, subst, _∙_}
 use mathlib.Core.Bool.{Bool, true, false, cond}
 use mathlib.Core.Logic.{_⊎_, inl, inr}
+use native.Mathlib.Nat.{le-max-left, le-max-right}
 use native.Mathlib.Decide.{decLt}
 use native.Mathlib.Omega.{arith}
-use lib.Dec.{leb}
+use lib.Dec.{leb, lit≤}
 use lib.Pow.{pow-mono}
 use borrow.Author.Tests.{leb-true, leb-false}
-use Rattle.model.specs.Limits.{largestExponent}
-use Rattle.model.specs.Calls.{powerFrom, suggested}
+use Rattle.model.specs.Limits.{largestExponent, powerUpTo, legalSize, leastSuggestion}
+use Rattle.model.specs.Calls.{powerFrom, sizeFor, suggested}
+use Rattle.model.proofs.Power.{of-power}
 
 -- a power of two from 2^from to 2^to: not below n, or the last of them; and all those before it are below n
 pub record Smallest (from to n size : ℕ) : Type 0 where
@@ -71,16 +74,46 @@ capped e n h =
       | inr last ↦ s .power ∙ ap (λ b. 2 ^ b) (omega (arith, last))
     ]
 
--- growing, for twice the keys; shrinking, for the keys
-pub growing-smallest : (keys : ℕ) → Smallest 0 (0 + largestExponent) (keys * 2) (suggested true keys)
-unfolding suggested
-growing-smallest keys = smallest 0 largestExponent (keys * 2)
+-- ---- growing, for twice the keys; shrinking, for the keys; and neither for less than the least suggestion
+
+abbrev pub SmallestFor : ℕ → ℕ → Type 0
+SmallestFor n size = Smallest 0 (0 + largestExponent) (max leastSuggestion n) size
+
+pub growing-smallest : (keys : ℕ) → SmallestFor (keys * 2) (suggested true keys)
+unfolding suggested sizeFor
+growing-smallest keys = smallest 0 largestExponent (max leastSuggestion (keys * 2))
+
+pub shrinking-smallest : (keys : ℕ) → SmallestFor keys (suggested false keys)
+unfolding suggested sizeFor
+shrinking-smallest keys = smallest 0 largestExponent (max leastSuggestion keys)
 
 -- growing, for more keys than half the largest size
 pub growing-capped : (keys : ℕ) → 2 ^ largestExponent < keys * 2 → suggested true keys ≡ 2 ^ largestExponent
-unfolding suggested
-growing-capped keys h = capped largestExponent (keys * 2) h
+unfolding suggested sizeFor
+growing-capped keys h =
+    capped largestExponent (max leastSuggestion (keys * 2)) (omega (arith, le-max-right leastSuggestion (keys * 2)))
 
-pub shrinking-smallest : (keys : ℕ) → Smallest 0 (0 + largestExponent) keys (suggested false keys)
-unfolding suggested
-shrinking-smallest keys = smallest 0 largestExponent keys
+-- whatever the keys, a size that a resize takes, ..
+any-smallest : (growing : Bool) (keys : ℕ) → (n : ℕ) × SmallestFor n (suggested growing keys)
+any-smallest true keys = (keys * 2, growing-smallest keys)
+any-smallest false keys = (keys, shrinking-smallest keys)
+
+pub suggested-legal : (growing : Bool) (keys : ℕ) → legalSize (suggested growing keys) ≡ true
+unfolding legalSize
+suggested-legal growing keys =
+    let (n, s) = any-smallest growing keys in
+    subst (λ (size : ℕ). powerUpTo largestExponent size ≡ true) (sym (s .power))
+    (of-power largestExponent (s .exponent) (omega (arith, s .at-most)))
+
+-- .. and no smaller one than the least
+least-fits : leastSuggestion ≤ 2 ^ (0 + largestExponent)
+unfolding leastSuggestion largestExponent
+least-fits = lit≤ tt
+
+pub suggested-least : (growing : Bool) (keys : ℕ) → leastSuggestion ≤ suggested growing keys
+suggested-least growing keys =
+    let (n, s) = any-smallest growing keys in
+    elim (s .enough) [
+      | inl h ↦ omega (arith, h, le-max-left leastSuggestion n)
+      | inr last ↦ subst (λ (size : ℕ). leastSuggestion ≤ size) (sym (s .power ∙ ap (λ b. 2 ^ b) last)) least-fits
+    ]

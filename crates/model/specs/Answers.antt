@@ -13,6 +13,7 @@ use Rattle.model.specs.declared.DeleteAnswer.{DeleteAnswer}
 use Rattle.model.specs.declared.ResizeAnswer.{ResizeAnswer}
 use Rattle.model.specs.declared.StepAnswer.{StepAnswer}
 use Rattle.model.specs.declared.SizeAnswer.{SizeAnswer}
+use Rattle.model.specs.declared.AllowAnswer.{AllowAnswer}
 use Rattle.model.specs.declared.ScanAnswer.{ScanAnswer}
 
 -- the number, the values in the program's order, and what comes back: the store's state, or that of a map or an ideal
@@ -68,6 +69,10 @@ stepReply s (StepAnswer.Refused e) = reply (errorNumber e) (0 ∷ 0 ∷ []) s
 unfoldable pub sizeReply : State → SizeAnswer → Reply State
 sizeReply s (SizeAnswer.Suggested size) = reply 0 (size ∷ []) s
 sizeReply s (SizeAnswer.Refused e) = reply (errorNumber e) (0 ∷ []) s
+
+unfoldable pub allowReply : State → AllowAnswer → Reply State
+allowReply s (AllowAnswer.Set t) = reply 0 [] t
+allowReply s (AllowAnswer.Refused e) = reply (errorNumber e) [] s
 
 -- A look answers the live table. A live table has a bucket, so an empty look is a refusal.
 unfoldable pub tableReply : State → List ℕ → Reply State

@@ -1,10 +1,10 @@
 -- SPECIFICATION, "The calls": what each answers and leaves, for any state and any memory.
-use Prim.Native.Nat.{ℕ, zero, suc, _+_, _*_, _-_, _^_}
-use mathlib.Core.Bool.{Bool, true, false, _&&_, not, cond}
+use Prim.Native.Nat.{ℕ, zero, suc, _+_, _*_, _-_, _^_, max}
+use mathlib.Core.Bool.{Bool, true, false, _&&_, _||_, not, cond}
 use mathlib.Core.List.{List, [], _∷_, _++_}
 use mathlib.Core.Option.{Option, none, some}
 use lib.ListN.{length, getD, set, take, drop, replicate}
-use lib.Dec.{leb, eqb}
+use lib.Dec.{leb, ltb, eqb}
 use Rattle.model.specs.declared.State.{State}
 use Rattle.model.specs.declared.Table.{Table}
 use Rattle.model.specs.declared.Error.{Error}
@@ -18,8 +18,9 @@ use Rattle.model.specs.declared.DeleteAnswer.{DeleteAnswer}
 use Rattle.model.specs.declared.ResizeAnswer.{ResizeAnswer}
 use Rattle.model.specs.declared.StepAnswer.{StepAnswer}
 use Rattle.model.specs.declared.SizeAnswer.{SizeAnswer}
+use Rattle.model.specs.declared.AllowAnswer.{AllowAnswer}
 use Rattle.model.specs.Keys.{bucketOf}
-use Rattle.model.specs.Limits.{largestExponent, legalCapacity, legalSize, emptyVisits}
+use Rattle.model.specs.Limits.{largestExponent, legalCapacity, legalSize, emptyVisits, leastSuggestion, forceRatio}
 use Rattle.model.specs.Memory.{linkOf, keyOf, valueOf, setLink, setKey, setValue, setEntry, sizeOf, usedOf, bucketsOf, keysHeld, soundState, Place, keyPlace, chainAt}
 
 -- What a call answers, and the three lent buffers after it: the first bucket buffer, the second, the entry buffer. For a
@@ -60,8 +61,8 @@ changed Table.Old answer current other buckets entries = After.after answer buck
 changed Table.New answer current other buckets entries = After.after answer current buckets entries
 
 -- A state, its sizes and counts by the table.
-unfoldable pub stateOf : Bool → (Table → ℕ) → (Table → ℕ) → Bool → ℕ → ℕ → ℕ → State
-stateOf second size used rehashing index free capacity =
+unfoldable pub stateOf : Bool → (Table → ℕ) → (Table → ℕ) → Bool → ℕ → ℕ → ℕ → Bool → State
+stateOf second size used rehashing index free capacity allowed =
     record {
       «second_is_current» = second;
       «old_size» = size Table.Old;
@@ -72,24 +73,31 @@ stateOf second size used rehashing index free capacity =
       «rehash_index» = index;
       «free_head» = free;
       capacity = capacity;
+      «resize_allowed» = allowed;
     }
 
 unfoldable pub oldNew : ℕ → ℕ → Table → ℕ
 oldNew old new Table.Old = old
 oldNew old new Table.New = new
 
--- The state that a call leaves is one of three: one table with no keys, ..
+-- The state that a call leaves is one of four: one table with no keys, which may grow, ..
 unfoldable pub emptyState : ℕ → ℕ → ℕ → State
-emptyState size free capacity = stateOf false (oldNew size 0) (oldNew 0 0) false 0 free capacity
+emptyState size free capacity = stateOf false (oldNew size 0) (oldNew 0 0) false 0 free capacity true
 
 -- .. another free head and other counts, ..
 unfoldable pub recounted : State → ℕ → (Table → ℕ) → State
 recounted s free used =
-    stateOf (s .«second_is_current») (sizeOf s) used (s .rehashing) (s .«rehash_index») free (s .capacity)
+    stateOf (s .«second_is_current») (sizeOf s) used (s .rehashing) (s .«rehash_index») free (s .capacity) (s .«resize_allowed»)
 
--- .. or other tables: the current buffer, the sizes, the counts, whether a rehash is under way, the next bucket
+-- .. other tables: the current buffer, the sizes, the counts, whether a rehash is under way, the next bucket
 unfoldable pub retabled : State → Bool → (Table → ℕ) → (Table → ℕ) → Bool → ℕ → State
-retabled s second size used rehashing index = stateOf second size used rehashing index (s .«free_head») (s .capacity)
+retabled s second size used rehashing index =
+    stateOf second size used rehashing index (s .«free_head») (s .capacity) (s .«resize_allowed»)
+
+-- .. or another permission to grow
+unfoldable pub permitted : State → Bool → State
+permitted s allowed =
+    stateOf (s .«second_is_current») (sizeOf s) (usedOf s) (s .rehashing) (s .«rehash_index») (s .«free_head») (s .capacity) allowed
 
 -- Start
 
@@ -109,7 +117,7 @@ freeEntries n (suc behind) = freeLink n behind ∷ 0 ∷ 0 ∷ freeEntries (suc 
 
 -- what a refused start hands back
 unfoldable pub noState : State
-noState = emptyState 0 0 0
+noState = stateOf false (oldNew 0 0) (oldNew 0 0) false 0 0 0 false
 
 -- the first bucket buffer and the entry buffer, by their lengths
 unfoldable pub longEnough : ℕ → ℕ → ℕ → ℕ → Bool
@@ -366,8 +374,9 @@ unfoldable pub isAdded : AddAnswer → Bool
 isAdded (AddAnswer.Added t) = true
 isAdded (AddAnswer.Refused e) = false
 
-unfoldable pub add : State → List ℕ → List ℕ → List ℕ → ℕ → ℕ → After AddAnswer
-add s first second entries key value =
+-- add with its step, before any growth
+unfoldable pub addAfterStep : State → List ℕ → List ℕ → List ℕ → ℕ → ℕ → After AddAnswer
+addAfterStep s first second entries key value =
     stepFirst AddAnswer.Refused isAdded (λ t x y z. addAlone t x y z key value) s first second entries
 
 unfoldable pub isDeleted : DeleteAnswer → Bool
@@ -385,14 +394,55 @@ unfoldable pub powerFrom : ℕ → ℕ → ℕ → ℕ
 powerFrom b zero n = 2 ^ b
 powerFrom b (suc left) n = cond (leb n (2 ^ b)) (2 ^ b) (powerFrom (suc b) left n)
 
+-- the smallest table size that is not below n, and no smaller one than is suggested at all
+unfoldable pub sizeFor : ℕ → ℕ
+sizeFor n = powerFrom 0 largestExponent (max leastSuggestion n)
+
 unfoldable pub suggested : Bool → ℕ → ℕ
-suggested true keys = powerFrom 0 largestExponent (keys * 2)
-suggested false keys = powerFrom 0 largestExponent keys
+suggested true keys = sizeFor (keys * 2)
+suggested false keys = sizeFor keys
 
 unfoldable pub suggestedSize : State → List ℕ → List ℕ → List ℕ → Bool → SizeAnswer
 suggestedSize s first second entries growing =
     reading s first second entries (SizeAnswer.Refused Error.BadState)
     (λ current other. SizeAnswer.Suggested (suggested growing (keysHeld s)))
+
+-- Growth: the resize that may follow an add
+
+-- so many keys are too many for a table of that size: as many as it has buckets, where resizing is allowed, or more than so
+-- many times that
+unfoldable pub crowded : Bool → ℕ → ℕ → Bool
+crowded allowed size keys = (allowed && leb size keys) || ltb (size * forceRatio) keys
+
+-- .. and the suggested size is above that one
+unfoldable pub growthDue : Bool → ℕ → ℕ → Bool
+growthDue allowed size keys = crowded allowed size keys && ltb size (suggested true keys)
+
+-- an add is answered, whatever the resize behind it answers
+unfoldable pub grownBy : State → After ResizeAnswer → After AddAnswer
+grownBy s (After.after (ResizeAnswer.Resized t) first second entries) = After.after (AddAnswer.Added t) first second entries
+grownBy s (After.after (ResizeAnswer.Refused e) first second entries) = After.after (AddAnswer.Added s) first second entries
+
+-- on what an answered add left: with one table
+unfoldable pub grown : State → List ℕ → List ℕ → List ℕ → After AddAnswer
+grown s first second entries =
+    cond (not (s .rehashing) && growthDue (s .«resize_allowed») (s .«old_size») (keysHeld s))
+    (grownBy s (resize s first second entries (suggested true (keysHeld s))))
+    (After.after (AddAnswer.Added s) first second entries)
+
+unfoldable pub thenGrown : After AddAnswer → After AddAnswer
+thenGrown (After.after (AddAnswer.Refused e) first second entries) = After.after (AddAnswer.Refused e) first second entries
+thenGrown (After.after (AddAnswer.Added s) first second entries) = grown s first second entries
+
+unfoldable pub add : State → List ℕ → List ℕ → List ℕ → ℕ → ℕ → After AddAnswer
+add s first second entries key value = thenGrown (addAfterStep s first second entries key value)
+
+-- Permission to grow
+
+unfoldable pub allowResize : State → List ℕ → List ℕ → List ℕ → Bool → AllowAnswer
+allowResize s first second entries allowed =
+    reading s first second entries (AllowAnswer.Refused Error.BadState)
+    (λ current other. AllowAnswer.Set (permitted s allowed))
 
 -- Look
 

@@ -1,5 +1,5 @@
 -- SPECIFICATION, "Cases": those that are marked to be proved, as one table with one statement over it, `AllHold cases`.
-use Prim.Native.Nat.{ℕ, _<_}
+use Prim.Native.Nat.{ℕ, zero, suc, _<_}
 use mathlib.Core.Path.{_≡_}
 use mathlib.Core.Bool.{Bool, true, false}
 use mathlib.Core.List.{List, [], _∷_, _++_}
@@ -9,12 +9,13 @@ use Rattle.cursor.specs.Group.{Group, oneTable, twoTables}
 use Rattle.model.specs.declared.State.{State}
 use Rattle.model.specs.Answers.{Reply}
 use Rattle.model.specs.Memory.{Place, chainAt}
-use Rattle.model.specs.Calls.{stateOf, oldNew, emptyState, freeEntries, suggested}
-use Rattle.model.specs.Sequences.{World, world, KeyCall, Call, perform}
+use Rattle.model.specs.Calls.{stateOf, oldNew, emptyState, freeEntries, noState, suggested}
+use Rattle.model.specs.Sequences.{World, world, KeyCall, Call, perform, run}
 
 -- A walk's cursor at one live table, or at two; the cursors of a whole walk; any cursor; the suggested size for some keys,
 -- and for every number of keys above a given one; some calls in a world, each of which answers that number; the values of an
--- answered step, and the next bucket then; the entries of a chain that is sound, where the first buffer is the current one.
+-- answered step, and the next bucket then; the sizes of the old and the new table after an add that is answered, the second 0
+-- where there is none; the entries of a chain that is sound, where the first buffer is the current one.
 pub data Row : Type 0 where
   at-one : (size cursor bucket next : ℕ) → Row
   at-two : (small large cursor bucket : ℕ) (buckets : List ℕ) (next : ℕ) → Row
@@ -24,6 +25,7 @@ pub data Row : Type 0 where
   suggests-above : (growing : Bool) (keys size : ℕ) → Row
   answers : (w : World) (calls : List Call) (number : ℕ) → Row
   steps : (w : World) (values : List ℕ) (next : ℕ) → Row
+  adds : (w : World) (key old new : ℕ) → Row
   reads : (w : World) (p : Place) (entries : List ℕ) → Row
 
 -- the group is that bucket of the smaller table and those of the larger, and that cursor is answered
@@ -43,6 +45,9 @@ EachAnswers w (c ∷ cs) number = (perform w c .reply .number ≡ number) × Eac
 unfoldable pub StepsTo : Reply State → List ℕ → ℕ → Type 0
 StepsTo r values next = (r .number ≡ 0) × (r .values ≡ values) × (r .state .«rehash_index» ≡ next)
 
+unfoldable pub AddsTo : Reply State → ℕ → ℕ → Type 0
+AddsTo r old new = (r .number ≡ 0) × (r .state .«old_size» ≡ old) × (r .state .«new_size» ≡ new)
+
 unfoldable pub Holds : Row → Type 0
 Holds (Row.at-one size cursor bucket next) = Gives (oneTable size cursor) bucket [] next
 Holds (Row.at-two small large cursor bucket buckets next) = Gives (twoTables small large cursor) bucket buckets next
@@ -52,6 +57,7 @@ Holds (Row.suggests growing keys size) = suggested growing keys ≡ size
 Holds (Row.suggests-above growing keys size) = (more : ℕ) → keys < more → suggested growing more ≡ size
 Holds (Row.answers w calls number) = EachAnswers w calls number
 Holds (Row.steps w values next) = StepsTo (perform w Call.rehashStep .reply) values next
+Holds (Row.adds w key old new) = AddsTo (perform w (Call.on key (KeyCall.add 30)) .reply) old new
 Holds (Row.reads w p entries) = chainAt (w .state) (w .first) (w .second) (w .entries) p ≡ some entries
 
 unfoldable pub AllHold : List Row → Type 0
@@ -69,27 +75,27 @@ unfoldable pub bucketZero : ℕ → ℕ → List ℕ
 bucketZero a b = 2 ∷ a ∷ 10 ∷ 0 ∷ b ∷ 20 ∷ 0 ∷ 7 ∷ 70 ∷ []
 
 unfoldable pub resting : ℕ → ℕ → World
-resting a b = world (stateOf false (oldNew 2 0) (oldNew 2 0) false 0 3 3) (1 ∷ 0 ∷ []) [] (bucketZero a b)
+resting a b = world (stateOf false (oldNew 2 0) (oldNew 2 0) false 0 3 3 true) (1 ∷ 0 ∷ []) [] (bucketZero a b)
 
 unfoldable pub moving : ℕ → ℕ → World
-moving a b = world (stateOf false (oldNew 2 4) (oldNew 2 0) true 0 3 3) (1 ∷ 0 ∷ []) (replicate 4 0) (bucketZero a b)
+moving a b = world (stateOf false (oldNew 2 4) (oldNew 2 0) true 0 3 3 true) (1 ∷ 0 ∷ []) (replicate 4 0) (bucketZero a b)
 
 unfoldable pub inBoth : ℕ → World
 inBoth b =
-    world (stateOf false (oldNew 2 4) (oldNew 1 1) true 0 3 3) (1 ∷ 0 ∷ []) (2 ∷ 0 ∷ 0 ∷ 0 ∷ [])
+    world (stateOf false (oldNew 2 4) (oldNew 1 1) true 0 3 3 true) (1 ∷ 0 ∷ []) (2 ∷ 0 ∷ 0 ∷ 0 ∷ [])
     (0 ∷ 2 ∷ 10 ∷ 0 ∷ b ∷ 20 ∷ 0 ∷ 7 ∷ 70 ∷ [])
 
 -- In another one, key b is the only one held, in bucket b of an old table of 16, and `next` is the next bucket to move.
 unfoldable pub sparse : ℕ → ℕ → World
 sparse b next =
-    world (stateOf false (oldNew 16 2) (oldNew 1 0) true next 0 1) (set (replicate 16 0) b 1) (replicate 2 0)
+    world (stateOf false (oldNew 16 2) (oldNew 1 0) true next 0 1 true) (set (replicate 16 0) b 1) (replicate 2 0)
     (0 ∷ b ∷ 10 ∷ [])
 
 -- Stores of five entries during a rehash from size 2 to 4, the first buffer current: the keys that the state counts in each
 -- table, the first free entry, the buckets of each table, the first entries.
 unfoldable pub rehashing : (old new free : ℕ) → List ℕ → List ℕ → List ℕ → World
 rehashing old new free buckets others entries =
-    world (stateOf false (oldNew 2 4) (oldNew old new) true 0 free 5) buckets others (entries ++ replicate 12 0)
+    world (stateOf false (oldNew 2 4) (oldNew old new) true 0 free 5 true) buckets others (entries ++ replicate 12 0)
 
 -- keys 0 and 4 on the chain of the old table's bucket 0, and key 8 on that of the new one's, linked on to that entry; the
 -- state counts two keys in each table
@@ -113,6 +119,21 @@ freeInBucket head = rehashing 1 0 1 (1 ∷ 0 ∷ []) (head ∷ 0 ∷ 0 ∷ 0 ∷
 -- the calls that take a step first: a key deleted, and another one added
 unfoldable pub steppers : ℕ → ℕ → List Call
 steppers key new = Call.on key KeyCall.delete ∷ Call.on new (KeyCall.add 30) ∷ []
+
+-- A store of seven entries after a start of that size and some calls, with so many numbers in the second bucket buffer.
+unfoldable pub after : (size others : ℕ) → List Call → World
+after size others calls =
+    run perform (world (emptyState size 1 7) (replicate size 0) (replicate others 0) (freeEntries 1 7)) calls
+
+-- keys 1 to n added
+unfoldable pub adding : ℕ → List Call
+adding zero = []
+adding (suc n) = adding n ++ Call.on (suc n) (KeyCall.add 30) ∷ []
+
+-- so many keys in one table of that size, added while resizing is not allowed; then it is, or not
+unfoldable pub filled : (size others keys : ℕ) → Bool → World
+filled size others keys allowed =
+    after size others (Call.allowResize false ∷ adding keys ++ Call.allowResize allowed ∷ [])
 
 -- one of each call that reads a bucket's chain, but for a step: on a key, on another one to be added, and a walk call
 unfoldable pub readers : ℕ → ℕ → List Call
@@ -138,6 +159,22 @@ cases =
     ∷ Row.suggests true 5 16
     ∷ Row.suggests false 5 8
     ∷ Row.suggests-above true 32768 65536
+    ∷ Row.suggests true 0 4
+    ∷ Row.suggests false 0 4
+    ∷ Row.suggests true 2 4
+    ∷ Row.suggests true 3 8
+    ∷ Row.suggests false 4 4
+    ∷ Row.adds (filled 4 8 2 true) 0 4 0
+    ∷ Row.adds (filled 4 8 3 true) 0 4 8
+    ∷ Row.adds (filled 4 8 3 false) 0 4 0
+    ∷ Row.adds (filled 4 7 3 true) 0 4 0
+    ∷ Row.adds (filled 2 8 2 true) 0 2 8
+    ∷ Row.adds (filled 1 16 4 false) 0 1 0
+    ∷ Row.adds (filled 1 16 5 false) 0 1 16
+    ∷ Row.adds (after 8 2 (adding 3 ++ Call.resize 2 ∷ [])) 0 8 2
+    ∷ Row.adds (after 8 2 (Call.on 8 (KeyCall.add 30) ∷ Call.resize 2 ∷ [])) 0 2 4
+    ∷ Row.answers (after 4 4 (Call.allowResize false ∷ [])) (Call.allowResize true ∷ []) 0
+    ∷ Row.answers (world noState [] [] []) (Call.allowResize true ∷ []) 1
     ∷ Row.answers (resting 2 4) (readers 2 6) 0
     ∷ Row.answers (resting 2 5) (readers 2 6) 2
     ∷ Row.answers (resting 5 2) (readers 2 6) 2

@@ -26,3 +26,11 @@ legalSize n = powerUpTo largestExponent n
 -- the most empty buckets that a step passes
 unfoldable pub emptyVisits : ℕ
 emptyVisits = 10
+
+-- the smallest size that is suggested
+unfoldable pub leastSuggestion : ℕ
+leastSuggestion = 4
+
+-- with more than so many keys for each bucket a table grows, whether resizing is allowed or not
+unfoldable pub forceRatio : ℕ
+forceRatio = 5

@@ -1,4 +1,4 @@
--- SPECIFICATION, "Sequences of calls": the ten calls as one, histories of them, and the plain map.
+-- SPECIFICATION, "Sequences of calls": the calls as one, histories of them, and the plain map.
 use Prim.Native.Nat.{ℕ, zero, suc}
 use mathlib.Core.Bool.{Bool, cond}
 use mathlib.Core.List.{List, [], _∷_, map}
@@ -6,13 +6,13 @@ use mathlib.Core.Option.{Option, none, some}
 use lib.ListN.{length}
 use lib.Dec.{eqb}
 use Rattle.model.specs.declared.State.{State}
-use Rattle.model.specs.Answers.{Reply, reply, initReply, findReply, updateReply, addReply, deleteReply, resizeReply, stepReply, sizeReply, tableReply, scanReply}
+use Rattle.model.specs.Answers.{Reply, reply, initReply, findReply, updateReply, addReply, deleteReply, resizeReply, stepReply, sizeReply, allowReply, tableReply, scanReply}
 use Rattle.model.specs.Calls.{After}
 use Rattle.model.specs.Calls as calls
 use Rattle.model.specs.Walk.{AfterScan}
 use Rattle.model.specs.Walk as walk
 
--- The ten calls, by what they do: find, change, add and delete name a key, and are what the plain map is fed; suggested size
+-- The calls, by what they do: find, change, add and delete name a key, and are what the plain map is fed; suggested size
 -- and look only read, and so does a walk call, which is lent a list besides the three buffers.
 
 pub data KeyCall : Type 0 where
@@ -32,6 +32,7 @@ pub data Call : Type 0 where
   rehashStep : Call
   scan : (cursor : ℕ) (lent : List ℕ) → Call
   read : ReadCall → Call
+  allowResize : (allowed : Bool) → Call
 
 -- the state that the caller holds, and the three lent buffers
 pub record World : Type 0 where
@@ -78,6 +79,7 @@ perform w (Call.scan cursor lent) = keptScan w (given w walk.scan lent cursor)
 perform w (Call.read (ReadCall.suggestedSize growing)) =
     kept w (sizeReply (w .state) (given w calls.suggestedSize growing)) []
 perform w (Call.read ReadCall.currentTable) = kept w (tableReply (w .state) (given w calls.currentTable)) []
+perform w (Call.allowResize allowed) = kept w (allowReply (w .state) (given w calls.allowResize allowed)) []
 
 -- A history. Each call is lent the buffers as the one before left them, and given the state that came back from the
 -- last call answered 0.

@@ -9,6 +9,12 @@ pub const LARGEST_SIZE: u32 = 65536;
 // The most empty buckets that a step passes.
 pub const EMPTY_VISITS: u32 = 10;
 
+// The smallest size that is suggested.
+pub const LEAST_SUGGESTION: u32 = 4;
+
+// With more than so many keys for each bucket a table grows, whether resizing is allowed or not.
+pub const FORCE_RATIO: u32 = 5;
+
 // What the caller holds between calls (SPECIFICATION, "The memory"), in the order given there.
 pub struct State {
     // Which bucket buffer is the current one: the second, or else the first.
@@ -26,6 +32,8 @@ pub struct State {
     // The first entry of the free list, 0 where there is none.
     pub free_head: u32,
     pub capacity: u32,
+    // Whether a table that is full of keys may grow by itself.
+    pub resize_allowed: bool,
 }
 
 // Why a call refused (SPECIFICATION, "Answers"). A walk that is short of room says so in its own answer.
@@ -98,6 +106,12 @@ pub enum DeleteAnswer {
 
 pub enum ResizeAnswer {
     Resized(State),
+    Refused(Error),
+}
+
+// The state has the new permission.
+pub enum AllowAnswer {
+    Set(State),
     Refused(Error),
 }
 

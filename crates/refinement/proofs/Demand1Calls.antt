@@ -21,7 +21,7 @@ use Rattle.model.specs.declared.DeleteAnswer.{DeleteAnswer}
 use Rattle.model.specs.declared.ResizeAnswer.{ResizeAnswer}
 use Rattle.model.specs.declared.StepAnswer.{StepAnswer}
 use Rattle.model.specs.declared.ScanAnswer.{ScanAnswer}
-use Rattle.model.specs.Answers.{Reply, reply, errorNumber, initReply, findReply, updateReply, addReply, deleteReply, resizeReply, stepReply, sizeReply, tableReply, scanReply}
+use Rattle.model.specs.Answers.{Reply, reply, errorNumber, initReply, findReply, updateReply, addReply, deleteReply, resizeReply, stepReply, sizeReply, allowReply, tableReply, scanReply}
 use Rattle.model.specs.Limits.{largestExponent, legalCapacity, legalSize, emptyVisits}
 use Rattle.model.specs.Memory.{linkOf, bucketsOf, keysHeld, Place, chainAt}
 use Rattle.model.specs.Calls.{After, oriented, reading, writing, changed, lookup, held, found, updated, push, pushed, target, takeable, added, unlinkBucket, unlinkEntry, removed, deleted, longEnough, acceptable, resized, stepDone, movedChain, movedFrom, stepped}
@@ -75,6 +75,26 @@ module _ {w : World} {c : Call} where
       → (t ≡ true → Good w c rs (f x)) → Refuses w c (r .number) (f y) → Good w c (r ∷ rs) (f (cond t x y))
   gated f (Passes.passed n) g r = Good.past n (g refl)
   gated f (Passes.failed p) g r = Good.refused p r
+
+-- demand 1 says of a refusal that it leaves the buffers
+pub leaves-kept : (w : World) (c : Call) (o : Outcome) → LeavesAll w c o
+    → (r : Reply State) × (lent : List ℕ) × (o ≡ kept w r lent)
+unfolding LeavesAll Leaves
+leaves-kept w (Call.init capacity size) o l = (_, _, l)
+leaves-kept w (Call.on key c) o l = (_, _, l)
+leaves-kept w (Call.resize size) o l = (_, _, l)
+leaves-kept w Call.rehashStep o l = (_, _, l)
+leaves-kept w (Call.scan cursor lent) o (count, c, l) = (_, _, l)
+leaves-kept w (Call.read (ReadCall.suggestedSize growing)) o l = (_, _, l)
+leaves-kept w (Call.read ReadCall.currentTable) o l = (_, _, l)
+leaves-kept w (Call.allowResize allowed) o l = (_, _, l)
+
+pub good-lengths : {w : World} {c : Call} {rs : List Row} {o : Outcome} → Good w c rs o → lengthsOf (carry w o) ≡ lengthsOf w
+unfolding carry kept world lengthsOf
+good-lengths {w} {c} {rs} {o} (Good.refused g r) =
+    let (reply, lent, is) = leaves-kept w c o (r .1) in ap (λ (p : Outcome). lengthsOf (carry w p)) is
+good-lengths (Good.past f g) = good-lengths g
+good-lengths (Good.answered n l) = l
 
 -- ---- lengths of what calls write
 
@@ -392,3 +412,9 @@ module _ (w : World) where
       (λ h.
       let sound = sound-facts (w .state) (current w) (other w) (w .entries) h in
       Good.answered (look-number _ _ (legal-pos largestExponent _ (sound .old-legal)) (sound .old-fits)) refl)
+
+  pub allow-good : (allowed : Bool)
+      → Good w (Call.allowResize allowed) (rows w (Call.allowResize allowed)) (perform w (Call.allowResize allowed))
+  unfolding perform rows row given calls.allowResize allowReply reply errorNumber LeavesAll Leaves kept carry lengthsOf world
+  allow-good allowed =
+      read (λ a. kept w (allowReply (w .state) a) []) _ _ (refl, refl) (λ h. Good.answered refl refl)

@@ -1,5 +1,5 @@
 -- The calls that take a step first go by the table too: first by the step's row, and then by their own in the world that the
--- step leaves. With them all ten calls do.
+-- step leaves. So does one that growth follows. With them all calls do.
 -- Assumes nothing.
 use Prim.Native.Nat.{ℕ, suc}
 use mathlib.Core.Path.{_≡_, refl, sym, ap, ap₂, subst, _∙_}
@@ -18,8 +18,9 @@ use Rattle.refinement.specs.Worlds.{takesStep}
 use Rattle.refinement.specs.Demand1.{BadState, StepDamaged, Row, row, keyRows, aloneRows, stepWorld, onRows, rows, Decides, Leaves, keyZeros, LeavesAll}
 use Rattle.refinement.specs.Demand3.{lengthsOf}
 use Rattle.refinement.proofs.Orientation.{soundAt, oriented-read}
-use Rattle.refinement.proofs.HiddenSteps.{alone, Rides, some-number, on-rides, on-alone}
-use Rattle.refinement.proofs.Demand1Calls.{Refuses, Good, decides, alone-good, resized-good, step-good, scan-good, init-good, read-good}
+use Rattle.refinement.proofs.HiddenSteps.{alone, before-growth, Rides, some-number, on-rides, on-alone}
+use Rattle.refinement.proofs.Demand1Calls.{Refuses, Good, decides, alone-good, resized-good, step-good, scan-good, init-good, read-good, allow-good}
+use Rattle.refinement.proofs.Growth.{Follows, grown-lengths, follows}
 
 -- rows of refusals: their numbers are not 0
 unfoldable pub Numbered : List Row → Type 0
@@ -73,7 +74,7 @@ module _ (w : World) where
     step = perform w Call.rehashStep
 
     abbrev o : Outcome
-    o = perform w call
+    o = before-growth w key c
 
     abbrev table : List Row
     table = row 1 (BadState w) ∷ row 2 (StepDamaged w) ∷ aloneRows (stepWorld w) key c
@@ -151,27 +152,53 @@ module _ (w : World) where
             answered-good zero (λ m is′. absurd (omega arith))
             (λ z′. (ap (λ (p : Outcome). p .reply .number) is ∙ z, ap (λ (p : Outcome). lengthsOf (carry w p)) is))
 
-  on-good : (key : ℕ) (c : KeyCall) → Good w (Call.on key c) (rows w (Call.on key c)) (perform w (Call.on key c))
+  pub before-good : (key : ℕ) (c : KeyCall) → Good w (Call.on key c) (rows w (Call.on key c)) (before-growth w key c)
   unfolding rows onRows
-  on-good key c = by (takesStep c) (w .state .rehashing) refl refl
+  before-good key c = by (takesStep c) (w .state .rehashing) refl refl
     where
       plain : (takesStep c && w .state .rehashing) ≡ false
-          → Good w (Call.on key c) (row 1 (BadState w) ∷ onRows w key c (takesStep c && w .state .rehashing)) (perform w (Call.on key c))
+          → Good w (Call.on key c) (row 1 (BadState w) ∷ onRows w key c (takesStep c && w .state .rehashing)) (before-growth w key c)
       plain none =
-          subst (λ (b : Bool). Good w (Call.on key c) (row 1 (BadState w) ∷ onRows w key c b) (perform w (Call.on key c))) (sym none)
+          subst (λ (b : Bool). Good w (Call.on key c) (row 1 (BadState w) ∷ onRows w key c b) (before-growth w key c)) (sym none)
           (subst (λ (p : Outcome). Good w (Call.on key c) (row 1 (BadState w) ∷ aloneRows w key c) p) (sym (on-alone w key c none))
           (alone-good w key c))
 
       by : (t f : Bool) → takesStep c ≡ t → w .state .rehashing ≡ f
-          → Good w (Call.on key c) (row 1 (BadState w) ∷ onRows w key c (takesStep c && w .state .rehashing)) (perform w (Call.on key c))
+          → Good w (Call.on key c) (row 1 (BadState w) ∷ onRows w key c (takesStep c && w .state .rehashing)) (before-growth w key c)
       by true true t f =
-          subst (λ (b : Bool). Good w (Call.on key c) (row 1 (BadState w) ∷ onRows w key c b) (perform w (Call.on key c)))
+          subst (λ (b : Bool). Good w (Call.on key c) (row 1 (BadState w) ∷ onRows w key c b) (before-growth w key c))
           (sym (ap₂ _&&_ t f)) (stepping-good key c t f)
       by true false t f = plain (ap₂ _&&_ t f)
       by false true t f = plain (ap₂ _&&_ t f)
       by false false t f = plain (ap₂ _&&_ t f)
 
--- the ten calls
+  -- growth changes no number, and no length
+  rows-numbered : (key : ℕ) (c : KeyCall) → Numbered (rows w (Call.on key c))
+  unfolding Numbered rows onRows row
+  rows-numbered key c = (0, refl, by (takesStep c && w .state .rehashing))
+    where
+      by : (t : Bool) → Numbered (onRows w key c t)
+      by true = (1, refl, key-numbered (stepWorld w) key c)
+      by false = key-numbered w key c
+
+  on-good : (key : ℕ) (c : KeyCall) → Good w (Call.on key c) (rows w (Call.on key c)) (perform w (Call.on key c))
+  on-good key c = by (follows w key c)
+    where
+      same : perform w (Call.on key c) ≡ before-growth w key c
+          → Good w (Call.on key c) (rows w (Call.on key c)) (perform w (Call.on key c))
+      same is =
+          subst (λ (p : Outcome). Good w (Call.on key c) (rows w (Call.on key c)) p) (sym is) (before-good key c)
+
+      by : Follows w c (before-growth w key c) (perform w (Call.on key c))
+          → Good w (Call.on key c) (rows w (Call.on key c)) (perform w (Call.on key c))
+      by (Follows.never f is) = same is
+      by (Follows.refused n f is) = same is
+      by (Follows.answered t before zero values grew) =
+          carried w w (Call.on key c) (perform w (Call.on key c)) (before-growth w key c) refl (λ n f. absurd (omega arith))
+          (λ z. (zero, ap lengthsOf grew ∙ grown-lengths (carry w (before-growth w key c)))) (rows w (Call.on key c))
+          (rows-numbered key c) (before-good key c)
+
+-- all calls
 pub good : (w : World) (c : Call) → Good w c (rows w c) (perform w c)
 good w (Call.init capacity size) = init-good w capacity size
 good w (Call.on key c) = on-good w key c
@@ -179,3 +206,4 @@ good w (Call.resize size) = resized-good w size
 good w Call.rehashStep = step-good w
 good w (Call.scan cursor lent) = scan-good w cursor lent
 good w (Call.read c) = read-good w c
+good w (Call.allowResize allowed) = allow-good w allowed

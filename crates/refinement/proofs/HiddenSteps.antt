@@ -1,4 +1,4 @@
--- Add and delete as a step and the call alone: what the two come to, in any world.
+-- Add and delete as a step and the call alone, and no growth behind it: what the two come to, in any world.
 -- Assumes nothing.
 use Prim.Native.Nat.{ℕ, suc}
 use mathlib.Core.Path.{_≡_, refl, sym, ap, subst, _∙_}
@@ -23,6 +23,13 @@ alone w key KeyCall.find = perform w (Call.on key KeyCall.find)
 alone w key (KeyCall.update value) = perform w (Call.on key (KeyCall.update value))
 alone w key (KeyCall.add value) = left (addReply (w .state)) (given w calls.addAlone key value)
 alone w key KeyCall.delete = left (deleteReply (w .state)) (given w calls.deleteAlone key)
+
+-- a call on a key with its step, before any growth
+unfoldable pub before-growth : World → ℕ → KeyCall → Outcome
+before-growth w key KeyCall.find = perform w (Call.on key KeyCall.find)
+before-growth w key (KeyCall.update value) = perform w (Call.on key (KeyCall.update value))
+before-growth w key (KeyCall.add value) = left (addReply (w .state)) (given w calls.addAfterStep key value)
+before-growth w key KeyCall.delete = perform w (Call.on key KeyCall.delete)
 
 -- What a call comes to that takes a step first: the step refused, or the call on what it left, with all as it was; or both
 -- answered.
@@ -130,8 +137,8 @@ module _ (w : World) (key : ℕ) where
   deletes s first second entries = calls.deleteAlone s first second entries key
 
   pub on-rides : (c : KeyCall) → takesStep c ≡ true → w .state .rehashing ≡ true
-      → Rides w (perform w Call.rehashStep) (λ v. alone v key c) (perform w (Call.on key c))
-  unfolding takesStep alone perform given calls.add calls.delete addReply deleteReply reply
+      → Rides w (perform w Call.rehashStep) (λ v. alone v key c) (before-growth w key c)
+  unfolding takesStep alone before-growth perform given calls.addAfterStep calls.delete addReply deleteReply reply
   on-rides KeyCall.find t e = let z : _≡_ {A = ℕ} 0 1 = cc in absurd (omega arith)
   on-rides (KeyCall.update value) t e = let z : _≡_ {A = ℕ} 0 1 = cc in absurd (omega arith)
   on-rides (KeyCall.add value) t e =
@@ -140,8 +147,8 @@ module _ (w : World) (key : ℕ) where
       rides DeleteAnswer.Refused isDeleted deleteReply (λ s error. refl) deleted-kind deletes w e
 
   -- and else it is the call alone
-  pub on-alone : (c : KeyCall) → (takesStep c && w .state .rehashing) ≡ false → perform w (Call.on key c) ≡ alone w key c
-  unfolding takesStep alone perform given calls.add calls.delete addReply deleteReply reply
+  pub on-alone : (c : KeyCall) → (takesStep c && w .state .rehashing) ≡ false → before-growth w key c ≡ alone w key c
+  unfolding takesStep alone before-growth perform given calls.addAfterStep calls.delete addReply deleteReply reply
   on-alone KeyCall.find e = refl
   on-alone (KeyCall.update value) e = refl
   on-alone (KeyCall.add value) e =

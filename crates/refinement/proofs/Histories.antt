@@ -17,7 +17,7 @@ use Rattle.refinement.proofs.GroupEntries.{hands-out}
 use Rattle.refinement.proofs.WalkCalls.{scan-predicted}
 use Rattle.refinement.proofs.Agreement.{Agrees, Steps, agrees-undamaged, agrees-matches}
 use Rattle.refinement.proofs.SteppedKeys.{on-steps}
-use Rattle.refinement.proofs.TableSteps.{init-steps, resize-steps, read-steps, look-values}
+use Rattle.refinement.proofs.TableSteps.{init-steps, resize-steps, read-steps, look-values, allow-steps}
 use Rattle.refinement.proofs.RehashSteps.{step-steps}
 use Rattle.refinement.proofs.LiveTables.{Legal, tables-legal}
 use Rattle.refinement.proofs.Walks.{walks-hold}
@@ -57,7 +57,7 @@ module _ (w : World) (i : Ideal) (a : Agrees w i) (l : Lengths) (same : lengthsO
   any-call (Call.init capacity size) =
       plain l w i _ (init-steps w i a l same capacity size) (λ cursor lent e. let z : _≡_ {A = ℕ} 0 1 = cc in omega arith)
   any-call (Call.on key c) =
-      plain l w i _ (on-steps w i a key c l) (λ cursor lent e. let z : _≡_ {A = ℕ} 0 1 = cc in omega arith)
+      plain l w i _ (on-steps w i a key c l same) (λ cursor lent e. let z : _≡_ {A = ℕ} 0 1 = cc in omega arith)
   any-call (Call.resize size) =
       plain l w i _ (resize-steps w i a l same size) (λ cursor lent e. let z : _≡_ {A = ℕ} 0 1 = cc in omega arith)
   any-call Call.rehashStep =
@@ -71,6 +71,8 @@ module _ (w : World) (i : Ideal) (a : Agrees w i) (l : Lengths) (same : lengthsO
       }
   any-call (Call.read c) =
       plain l w i _ (read-steps w i a l c) (λ cursor lent e. let z : _≡_ {A = ℕ} 0 1 = cc in omega arith)
+  any-call (Call.allowResize allowed) =
+      plain l w i _ (allow-steps w i a l allowed) (λ cursor lent e. let z : _≡_ {A = ℕ} 0 1 = cc in omega arith)
 
 -- along the calls, and at their end
 record Kept (l : Lengths) (w : World) (i : Ideal) (calls : List Call) : Type 0 where

@@ -15,13 +15,13 @@ use Rattle.model.specs.Keys.{bucketOf}
 use Rattle.model.specs.Limits.{emptyVisits}
 use Rattle.model.specs.Calls.{acceptable}
 use Rattle.model.specs.Walk.{Tables}
-use Rattle.model.specs.Sequences.{ReadCall, Call, PlainMap, keysOf, mapDoes}
+use Rattle.model.specs.Sequences.{KeyCall, ReadCall, Call, PlainMap, keysOf, mapDoes}
 use Rattle.model.proofs.Tests.{told}
 use Rattle.refinement.specs.Worlds.{takesStep}
-use Rattle.refinement.specs.Demand3.{Lengths, Ideal, ideal, among, begun, startNumber, startAnswer, keyAnswer, resizeAnswer, afterStep, stepAnswer, stepsFirst, onAnswer, groupPairs, scanAnswer, readAnswer, predict}
+use Rattle.refinement.specs.Demand3.{Lengths, Ideal, ideal, among, begun, startNumber, startAnswer, keyAnswer, resizeAnswer, afterStep, stepAnswer, stepsFirst, onAnswer, thenGrows, groupPairs, scanAnswer, readAnswer, predict}
 use Rattle.refinement.specs.RehashesEnd.{isStep}
 use Rattle.invariant.proofs.Lists.{of-keep}
-use Rattle.refinement.proofs.IdealSteps.{either, one-not-two, any-step, any-first, one-stays}
+use Rattle.refinement.proofs.IdealSteps.{either, one-not-two, any-step, any-growth, any-first, one-stays}
 use Rattle.refinement.proofs.PlainMaps.{tells-among}
 use Rattle.refinement.proofs.MovedKeys.{lowestOf, lowest-reached, lowest-below}
 use Rattle.refinement.proofs.CalledBuckets.{stepsLeft, in-table, rest-sub, rest-behind, moving-less, passing-less, fewer-less}
@@ -33,7 +33,7 @@ pub record JustBegun (i : Ideal) : Type 0 where
   pub unmoved : i .unmoved ≡ keysOf (i .plain .pairs)
   pub index : i .index ≡ 0
 
--- only with a resize
+-- with a resize
 module _ (l : Lengths) (i : Ideal) (size old new : ℕ) (resting : i .tables ≡ Tables.one size) where
   abbrev Begins : Reply Ideal → Type 0
   Begins r = r .state .tables ≡ Tables.two old new → JustBegun (r .state)
@@ -47,30 +47,43 @@ module _ (l : Lengths) (i : Ideal) (size old new : ℕ) (resting : i .tables ≡
   resize-begins n (Tables.one a) =
       either Begins (acceptable a _ n) _ _ (λ e. record { unmoved = refl; index = refl }) still-one
 
-  step-begins : (t : Tables) → t ≡ Tables.one size → Begins (stepAnswer i t (i .unmoved))
-  unfolding stepAnswer reply
-  step-begins (Tables.one a) e = still-one
-  step-begins (Tables.two a b) e = absurd (one-not-two (sym e))
-
-  pub begins : (c : Call) → Begins (predict l i c)
-  unfolding predict onAnswer keyAnswer startAnswer begun scanAnswer readAnswer reply ideal
-  begins (Call.init capacity n) = by (startNumber l capacity n)
-    where
-      by : (m : ℕ) → Begins (startAnswer i capacity n m)
-      by zero e = absurd (one-not-two e)
-      by (suc m) e = still-one e
-  begins (Call.on key c) =
-      λ e.
+-- only with that, be it one that follows an add
+module _ (l : Lengths) (i : Ideal) (size old new : ℕ) (resting : i .tables ≡ Tables.one size) where
+  on-begins : (key : ℕ) (c : KeyCall) → Begins l i size old new resting (predict l i (Call.on key c))
+  unfolding predict onAnswer keyAnswer reply ideal
+  on-begins key c =
+      any-growth l (λ (j : Ideal). j .tables ≡ Tables.two old new → JustBegun j) c r
+      (λ a n e. resize-begins l (r .state) a old new e n (Tables.one a))
+      (λ e.
       absurd
       (any-first i (λ (j : Ideal). j .tables ≡ Tables.two old new → ⊥) c (mapDoes (i .plain) key c .number)
       (λ f. one-not-two (sym resting ∙ ap (λ (j : Ideal). j .tables) (sym (one-stays i size resting)) ∙ f))
-      (λ f. one-not-two (sym resting ∙ f)) e)
-  begins (Call.resize n) = resize-begins n (i .tables)
+      (λ f. one-not-two (sym resting ∙ f)) e))
+    where
+      r : Reply Ideal
+      r = onAnswer i c (mapDoes (i .plain) key c)
+
+  step-begins : (t : Tables) → t ≡ Tables.one size → Begins l i size old new resting (stepAnswer i t (i .unmoved))
+  unfolding stepAnswer reply
+  step-begins (Tables.one a) e = still-one l i size old new resting
+  step-begins (Tables.two a b) e = absurd (one-not-two (sym e))
+
+  pub begins : (c : Call) → Begins l i size old new resting (predict l i c)
+  unfolding predict startAnswer begun scanAnswer readAnswer reply ideal
+  begins (Call.init capacity n) = by (startNumber l capacity n)
+    where
+      by : (m : ℕ) → Begins l i size old new resting (startAnswer i capacity n m)
+      by zero e = absurd (one-not-two e)
+      by (suc m) e = still-one l i size old new resting e
+  begins (Call.on key c) = on-begins key c
+  begins (Call.resize n) = resize-begins l i size old new resting n (i .tables)
   begins Call.rehashStep = step-begins (i .tables) resting
   begins (Call.scan cursor lent) =
-      either Begins (leb (length (groupPairs i cursor) * 2) (length lent)) _ _ still-one still-one
-  begins (Call.read (ReadCall.suggestedSize growing)) = still-one
-  begins (Call.read ReadCall.currentTable) = still-one
+      either (Begins l i size old new resting) (leb (length (groupPairs i cursor) * 2) (length lent)) _ _
+      (still-one l i size old new resting) (still-one l i size old new resting)
+  begins (Call.read (ReadCall.suggestedSize growing)) = still-one l i size old new resting
+  begins (Call.read ReadCall.currentTable) = still-one l i size old new resting
+  begins (Call.allowResize allowed) = still-one l i size old new resting
 
 -- ---- and goes on
 
@@ -177,6 +190,13 @@ pub record Kept (i j : Ideal) : Type 0 where
 same : (i : Ideal) → Kept i i
 same i = record { tables = refl; turned = refl; index = refl; only = λ k h. h; held = λ f. f }
 
+-- a resize leaves the current buffer
+resize-turned : (l : Lengths) (i : Ideal) (size : ℕ) (t : Tables) → resizeAnswer l i size t .state .turned ≡ i .turned
+unfolding resizeAnswer reply ideal
+resize-turned l i size (Tables.two old new) = refl
+resize-turned l i size (Tables.one old) =
+    either (λ (r : Reply Ideal). r .state .turned ≡ i .turned) (acceptable old _ size) _ _ refl refl
+
 key-keeps : (i : Ideal) (r : Reply PlainMap) → Kept i (keyAnswer i r .state)
 unfolding keyAnswer reply ideal
 key-keeps i r =
@@ -189,10 +209,12 @@ key-keeps i r =
       held = λ g k h. told (tells-among k keys) (of-keep (λ j. among j keys) k (i .unmoved) h .1);
     }
 
--- So a call takes a step, and leaves what that leaves; or it takes none.
+-- So a call takes a step, and leaves what that leaves; or it takes none. Or its step ends the rehash, and the next one begins
+-- with the same call.
 pub data Passes (i : Ideal) (c : Call) (j : Ideal) : Type 0 where
   stepped : Kept (stepAnswer i (i .tables) (i .unmoved) .state) j → Passes i c j
   stayed : isStep c ≡ false → Kept i j → Passes i c j
+  renewed : JustBegun j → j .turned ≡ not (i .turned) → Passes i c j
 
 module _ (l : Lengths) (i : Ideal) (size new : ℕ) (moving : i .tables ≡ Tables.two size new) (a b : ℕ) where
   -- (or else it starts anew)
@@ -204,20 +226,56 @@ module _ (l : Lengths) (i : Ideal) (size new : ℕ) (moving : i .tables ≡ Tabl
   resize-passes n (Tables.one a) e = absurd (one-not-two e)
   resize-passes n (Tables.two a b) e = λ f. Passes.stayed refl (same i)
 
+  -- a step that ends it turns the buffers
+  over-turned : (n : ℕ) → stepAnswer i (i .tables) (i .unmoved) .state .tables ≡ Tables.one n
+      → stepAnswer i (i .tables) (i .unmoved) .state .turned ≡ not (i .turned)
+  unfolding reply afterStep ideal
+  over-turned n =
+      any-step i (λ r. r .state .tables ≡ Tables.one n → r .state .turned ≡ not (i .turned)) (i .tables) (i .unmoved)
+      (λ m f e. absurd (one-not-two (sym e ∙ moving))) (λ old m f. done old m)
+    where
+      done : (old m count : ℕ) (ks : List ℕ) (next : ℕ) → afterStep i old m count ks next .state .tables ≡ Tables.one n
+          → afterStep i old m count ks next .state .turned ≡ not (i .turned)
+      done old m count [] next e = refl
+      done old m count (k ∷ ks) next e = absurd (one-not-two (sym e))
+
+  on-passes : (key : ℕ) (c : KeyCall) → GoesOn (Call.on key c) (predict l i (Call.on key c))
+  unfolding predict onAnswer stepsFirst reply isStep
+  on-passes key c = by (takesStep c && eqb (map .number) 0)
+    where
+      map : Reply PlainMap
+      map = mapDoes (i .plain) key c
+
+      stepped : Ideal
+      stepped = stepAnswer i (i .tables) (i .unmoved) .state
+
+      -- growth behind it, where one table is left
+      grown : (j : Ideal) → ((n : ℕ) → j .tables ≡ Tables.one n → j .turned ≡ not (i .turned))
+          → (n m : ℕ) → j .tables ≡ Tables.one n → GoesOn (Call.on key c) (resizeAnswer l j m (Tables.one n))
+      grown j turned n m e f =
+          Passes.renewed (resize-begins l j n a b e m (Tables.one n) f)
+          (resize-turned l j m (Tables.one n) ∙ turned n e)
+
+      by : (t : Bool) → GoesOn (Call.on key c) (thenGrows l c (keyAnswer (cond t stepped i) map))
+      by true =
+          let kept = key-keeps stepped map in
+          any-growth l (λ (j : Ideal). j .tables ≡ Tables.two a b → Passes i (Call.on key c) j) c (keyAnswer stepped map)
+          (grown (keyAnswer stepped map .state) (λ n e. kept .turned ∙ over-turned n (sym (kept .tables) ∙ e)))
+          (λ e. Passes.stepped kept)
+      by false =
+          let kept = key-keeps i map in
+          any-growth l (λ (j : Ideal). j .tables ≡ Tables.two a b → Passes i (Call.on key c) j) c (keyAnswer i map)
+          (grown (keyAnswer i map .state) (λ n e. absurd (one-not-two (sym e ∙ kept .tables ∙ moving))))
+          (λ e. Passes.stayed refl kept)
+
   pub passes : (c : Call) → GoesOn c (predict l i c)
-  unfolding predict onAnswer stepsFirst startAnswer begun scanAnswer readAnswer reply ideal isStep
+  unfolding predict startAnswer begun scanAnswer readAnswer reply ideal isStep
   passes (Call.init capacity n) = by (startNumber l capacity n)
     where
       by : (m : ℕ) → GoesOn (Call.init capacity n) (startAnswer i capacity n m)
       by zero e = absurd (one-not-two e)
       by (suc m) e = Passes.stayed refl (same i)
-  passes (Call.on key c) = λ e. by (takesStep c && eqb (mapDoes (i .plain) key c .number) 0)
-    where
-      by : (t : Bool)
-          → Passes i (Call.on key c)
-          (keyAnswer (cond t (stepAnswer i (i .tables) (i .unmoved) .state) i) (mapDoes (i .plain) key c) .state)
-      by true = Passes.stepped (key-keeps _ (mapDoes (i .plain) key c))
-      by false = Passes.stayed refl (key-keeps i (mapDoes (i .plain) key c))
+  passes (Call.on key c) = on-passes key c
   passes (Call.resize n) = resize-passes n (i .tables) moving
   passes Call.rehashStep = λ e. Passes.stepped (same _)
   passes (Call.scan cursor lent) =
@@ -225,9 +283,12 @@ module _ (l : Lengths) (i : Ideal) (size new : ℕ) (moving : i .tables ≡ Tabl
       (λ e. Passes.stayed refl (same i)) (λ e. Passes.stayed refl (same i))
   passes (Call.read (ReadCall.suggestedSize growing)) = λ e. Passes.stayed refl (same i)
   passes (Call.read ReadCall.currentTable) = λ e. Passes.stayed refl (same i)
+  passes (Call.allowResize allowed) =
+      λ e. Passes.stayed refl (record { tables = refl; turned = refl; index = refl; only = λ k h. h; held = λ f. f })
 
-  -- the current buffer stays the same, with a step too
-  pub still-turned : (c : Call) → predict l i c .state .tables ≡ Tables.two a b → predict l i c .state .turned ≡ i .turned
+  -- the current buffer stays the same, with a step too; or another rehash has just begun
+  pub still-turned : (c : Call) → predict l i c .state .tables ≡ Tables.two a b
+      → (predict l i c .state .turned ≡ i .turned) ⊎ JustBegun (predict l i c .state)
   unfolding reply afterStep ideal
   still-turned c e = by (passes c e)
     where
@@ -236,12 +297,14 @@ module _ (l : Lengths) (i : Ideal) (size new : ℕ) (moving : i .tables ≡ Tabl
       done old n count [] next e = absurd (one-not-two e)
       done old n count (k ∷ ks) next e = refl
 
-      by : Passes i c (predict l i c .state) → predict l i c .state .turned ≡ i .turned
+      by : Passes i c (predict l i c .state) → (predict l i c .state .turned ≡ i .turned) ⊎ JustBegun (predict l i c .state)
       by (Passes.stepped k) =
-          k .turned
+          inl
+          (k .turned
           ∙ any-step i (λ r. r .state .tables ≡ Tables.two a b → r .state .turned ≡ i .turned) (i .tables) (i .unmoved)
-          (λ n f e. refl) (λ old n f. done old n) (sym (k .tables) ∙ e)
-      by (Passes.stayed f k) = k .turned
+          (λ n f e. refl) (λ old n f. done old n) (sym (k .tables) ∙ e))
+      by (Passes.stayed f k) = inl (k .turned)
+      by (Passes.renewed just turned) = inr just
 
 -- While it is under way: a step, and what leaves it.
 module _ (size : ℕ) (i : Ideal) (d : During size i) where

@@ -1,18 +1,21 @@
--- The ideal's step: refused, or so many keys moved and the rest unmoved. And the step that a call takes first, or none.
+-- The ideal's step: refused, or so many keys moved and the rest unmoved. The step that a call takes first, or none; and the
+-- growth that follows it, or none.
 -- Assumes nothing.
 use Prim.Native.Nat.{ℕ, _+_, _≤_}
 use mathlib.Core.Path.{_≡_, refl, sym, ap, _∙_}
 use mathlib.Core.Bool.{Bool, true, false, _&&_, cond}
 use mathlib.Core.List.{List, [], _∷_}
 use native.Mathlib.Omega.{arith}
+use lib.ListN.{length}
 use lib.Dec.{ltb, eqb}
 use Rattle.model.specs.Keys.{bucketOf}
 use Rattle.model.specs.Limits.{emptyVisits}
 use Rattle.model.specs.Answers.{Reply, reply}
+use Rattle.model.specs.Calls.{acceptable, suggested, growthDue}
 use Rattle.model.specs.Walk.{Tables}
 use Rattle.model.specs.Sequences.{KeyCall}
-use Rattle.refinement.specs.Worlds.{takesStep}
-use Rattle.refinement.specs.Demand3.{Ideal, ideal, lowest, afterStep, stepAnswer, stepsFirst}
+use Rattle.refinement.specs.Worlds.{takesStep, mayGrow}
+use Rattle.refinement.specs.Demand3.{Lengths, Ideal, ideal, resizeAnswer, lowest, afterStep, stepAnswer, stepsFirst, grows, thenGrows}
 
 -- what holds of both answers of a test holds of the one given
 pub either : {A : Type 0} (P : A → Type 0) (t : Bool) (x y : A) → P x → P y → P (cond t x y)
@@ -36,6 +39,29 @@ module _ (i : Ideal) (P : Reply Ideal → Type 0) where
   any-step (Tables.two old new) (k ∷ ks) refused done =
       either P (ltb (lowest old (bucketOf k old) ks) (i .index + emptyVisits)) _ _ (done old new refl _ _ _)
       (done old new refl _ _ _)
+
+-- what holds of what a call leaves, and of a resize then, holds of what growth leaves
+pub any-growth : (l : Lengths) (P : Ideal → Type 0) (c : KeyCall) (r : Reply Ideal)
+    → ((old size : ℕ) → r .state .tables ≡ Tables.one old → P (resizeAnswer l (r .state) size (Tables.one old) .state))
+    → P (r .state) → P (thenGrows l c r .state)
+unfolding thenGrows grows reply
+any-growth l P c r resized p =
+    either P (mayGrow c && eqb (r .number) 0) _ _ (by (r .state .tables) refl) p
+  where
+    by : (t : Tables) → r .state .tables ≡ t → P (grows l (r .state) t)
+    by (Tables.two old new) e = p
+    by (Tables.one old) e =
+        let keys = length (r .state .plain .pairs) in
+        either P (growthDue (r .state .allowed) old keys) _ _ (resized old (suggested true keys) e) p
+
+-- growth leaves the pairs
+pub growth-plain : (l : Lengths) (c : KeyCall) (r : Reply Ideal) → thenGrows l c r .state .plain ≡ r .state .plain
+unfolding resizeAnswer reply ideal
+growth-plain l c r =
+    any-growth l (λ (j : Ideal). j .plain ≡ r .state .plain) c r
+    (λ old size e.
+    either (λ (q : Reply Ideal). q .state .plain ≡ r .state .plain) (acceptable old _ size) _ _ refl refl)
+    refl
 
 module _ (i : Ideal) where
   abbrev stepped : Ideal

@@ -61,7 +61,7 @@ module _ (w : World) (i : Ideal) (a : Agrees w i) where
   still qs = keep (λ k. among k (keysOf qs)) (i .unmoved)
 
   abbrev with-pairs : List Pair → Ideal
-  with-pairs qs = ideal (withPairs (i .plain) qs) (i .tables) (i .turned) (still qs) (i .index)
+  with-pairs qs = ideal (withPairs (i .plain) qs) (i .tables) (i .turned) (still qs) (i .index) (i .allowed)
 
   -- an unmoved key has a pair
   unmoved-held : (k : ℕ) → In k (i .unmoved) → In k (keysOf ps)
@@ -103,6 +103,7 @@ module _ (w : World) (i : Ideal) (a : Agrees w i) where
         tables = a .tables;
         turned = a .turned;
         next = a .index;
+        allowed = a .allowed;
         in-map = p .in-map;
         in-store = p .in-store;
         in-unmoved =
@@ -133,7 +134,7 @@ module _ (w : World) (i : Ideal) (a : Agrees w i) where
           number = number;
           values = values;
           agrees =
-              subst (λ (ks : List ℕ). Agrees (carry w o) (ideal (i .plain) (i .tables) (i .turned) ks (i .index))) (sym all-still)
+              subst (λ (ks : List ℕ). Agrees (carry w o) (ideal (i .plain) (i .tables) (i .turned) ks (i .index) (i .allowed))) (sym all-still)
               (subst (λ (v : World). Agrees v i) (sym world) a);
         })
 

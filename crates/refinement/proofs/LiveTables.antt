@@ -16,11 +16,11 @@ use Rattle.model.specs.Memory.{Place, sizeOf}
 use Rattle.model.specs.Answers.{Reply, reply}
 use Rattle.model.specs.Calls.{oldNew, longEnough, acceptable}
 use Rattle.model.specs.Walk.{Tables, tablesBy, tablesOf}
-use Rattle.model.specs.Sequences.{Call, ReadCall, mapDoes}
+use Rattle.model.specs.Sequences.{KeyCall, Call, ReadCall, mapDoes}
 use Rattle.model.proofs.Soundness.{Sound}
 use Rattle.refinement.specs.Demand3.{Lengths, Ideal, ideal, begun, startNumber, startAnswer, keyAnswer, resizeAnswer, afterStep, stepAnswer, onAnswer, groupPairs, scanAnswer, readAnswer, predict}
 use Rattle.invariant.proofs.Resize.{allowed}
-use Rattle.refinement.proofs.IdealSteps.{any-step, any-first}
+use Rattle.refinement.proofs.IdealSteps.{any-step, any-growth, any-first}
 
 -- legal sizes, which differ
 unfoldable pub Legal : Tables → Type 0
@@ -75,20 +75,20 @@ legal-either : (t : Bool) (r q : Reply Ideal) → (t ≡ true → Legal (r .stat
 legal-either true r q h k = h refl
 legal-either false r q h k = k
 
+after-resize : (l : Lengths) (i : Ideal) → Legal (i .tables) → (size : ℕ) (t : Tables) → Legal t → Legal (resizeAnswer l i size t .state .tables)
+unfolding resizeAnswer reply ideal Legal
+after-resize l i legal size (Tables.two old new) h = legal
+after-resize l i legal size (Tables.one old) h =
+    let other = cond (i .turned) (l .first) (l .second) in
+    let grown : acceptable old other size ≡ true → Legal (Tables.two old size) =
+    λ t. let a = allowed old other size t in (h, a .0, a .1) in
+    legal-either (acceptable old other size) _ _ grown legal
+
 module _ (l : Lengths) (i : Ideal) (legal : Legal (i .tables)) where
   after-start : (capacity size n : ℕ) → startNumber l capacity size ≡ n → Legal (startAnswer i capacity size n .state .tables)
   unfolding startAnswer reply begun ideal Legal
   after-start capacity size zero e = start-legal l capacity size e
   after-start capacity size (suc n) e = legal
-
-  after-resize : (size : ℕ) (t : Tables) → Legal t → Legal (resizeAnswer l i size t .state .tables)
-  unfolding resizeAnswer reply ideal Legal
-  after-resize size (Tables.two old new) h = legal
-  after-resize size (Tables.one old) h =
-      let other = cond (i .turned) (l .first) (l .second) in
-      let grown : acceptable old other size ≡ true → Legal (Tables.two old size) =
-      λ t. let a = allowed old other size t in (h, a .0, a .1) in
-      legal-either (acceptable old other size) _ _ grown legal
 
   after-step : (old new : ℕ) → Legal (Tables.two old new) → (count : ℕ) (unmoved : List ℕ) (next : ℕ)
       → Legal (afterStep i old new count unmoved next .state .tables)
@@ -102,14 +102,26 @@ module _ (l : Lengths) (i : Ideal) (legal : Legal (i .tables)) where
       any-step i (λ r. Legal (r .state .tables)) (i .tables) (i .unmoved) (λ size e. legal)
       (λ old new e. after-step old new (subst Legal e legal))
 
+  on-legal : (key : ℕ) (c : KeyCall) → Legal (predict l i (Call.on key c) .state .tables)
+  unfolding predict onAnswer keyAnswer reply ideal
+  on-legal key c =
+      any-growth l (λ (j : Ideal). Legal (j .tables)) c r
+      (λ old size e. after-resize l (r .state) before size (Tables.one old) (subst Legal e before)) before
+    where
+      r : Reply Ideal
+      r = onAnswer i c (mapDoes (i .plain) key c)
+
+      before : Legal (r .state .tables)
+      before = any-first i (λ (j : Ideal). Legal (j .tables)) c (mapDoes (i .plain) key c .number) step-legal legal
+
   pub predict-legal : (c : Call) → Legal (predict l i c .state .tables)
-  unfolding predict onAnswer keyAnswer scanAnswer readAnswer reply ideal
+  unfolding predict scanAnswer readAnswer reply ideal
   predict-legal (Call.init capacity size) = after-start capacity size (startNumber l capacity size) refl
-  predict-legal (Call.on key c) =
-      any-first i (λ (j : Ideal). Legal (j .tables)) c (mapDoes (i .plain) key c .number) step-legal legal
-  predict-legal (Call.resize size) = after-resize size (i .tables) legal
+  predict-legal (Call.on key c) = on-legal key c
+  predict-legal (Call.resize size) = after-resize l i legal size (i .tables) legal
   predict-legal Call.rehashStep = step-legal
   predict-legal (Call.scan cursor lent) =
       legal-either (leb (length (groupPairs i cursor) * 2) (length lent)) _ _ (λ t. legal) legal
   predict-legal (Call.read (ReadCall.suggestedSize growing)) = legal
   predict-legal (Call.read ReadCall.currentTable) = legal
+  predict-legal (Call.allowResize allowed) = legal

@@ -17,7 +17,7 @@ use Rattle.model.specs.Walk.{Tables}
 use Rattle.model.specs.Sequences.{World, KeyCall, ReadCall, Call, Outcome, carry, run, Event, events, PlainMap, valueFor, mapAnswer, mapDoes}
 use Rattle.refinement.specs.Worlds.{UndamagedAt}
 use Rattle.refinement.specs.Demand1.{SoundChain}
-use Rattle.refinement.specs.Demand3.{Lengths, lengthsOf, Ideal, begun, startNumber, startAnswer, keyAnswer, onAnswer, resizeAnswer, afterStep, groupPairs, scanAnswer, readAnswer, predict, Answered, Demand3}
+use Rattle.refinement.specs.Demand3.{Lengths, lengthsOf, Ideal, begun, startNumber, startAnswer, keyAnswer, onAnswer, thenGrows, resizeAnswer, afterStep, groupPairs, scanAnswer, readAnswer, predict, Answered, Demand3}
 use Rattle.refinement.proofs.IdealSteps.{either, any-step}
 use Rattle.refinement.proofs.Demand1Chains.{AtPlace, place-read, place-sound}
 
@@ -67,7 +67,7 @@ module _ (l : Lengths) (i : Ideal) where
   done-other old new count (k ∷ ks) next = other 0 refl
 
   predicted-other : (c : Call) → Other (predict l i c)
-  unfolding predict onAnswer keyAnswer mapDoes scanAnswer readAnswer startNumber reply
+  unfolding predict thenGrows onAnswer keyAnswer mapDoes scanAnswer readAnswer startNumber reply
   predicted-other (Call.init capacity size) =
       start-other capacity size _
       (limits-other (legalCapacity capacity && legalSize size) (longEnough capacity size (l .first) (l .entries)))
@@ -79,6 +79,7 @@ module _ (l : Lengths) (i : Ideal) where
       either Other (leb (length (groupPairs i cursor) * 2) (length lent)) _ _ (other 0 refl) (other 9 refl)
   predicted-other (Call.read (ReadCall.suggestedSize growing)) = other 0 refl
   predicted-other (Call.read ReadCall.currentTable) = other 0 refl
+  predicted-other (Call.allowResize allowed) = other 0 refl
 
 -- of none of these calls the number is 2
 unfoldable pub NoneDamaged : List Event → Type 0

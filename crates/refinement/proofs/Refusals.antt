@@ -13,9 +13,10 @@ use Rattle.model.specs.Calls as calls
 use Rattle.model.specs.Walk.{AfterScan}
 use Rattle.model.specs.Walk as walk
 use Rattle.model.specs.Sequences.{World, world, KeyCall, ReadCall, Call, Outcome, kept, keptScan, given, perform, carriedState, carry}
-use Rattle.refinement.specs.Demand1.{Leaves, LeavesAll}
-use Rattle.refinement.proofs.HiddenSteps.{alone}
-use Rattle.refinement.proofs.Demand1Calls.{leaves, alone-good}
+use Rattle.refinement.specs.Demand1.{LeavesAll}
+use Rattle.refinement.proofs.HiddenSteps.{alone, before-growth}
+use Rattle.refinement.proofs.Demand1Calls.{leaves, leaves-kept, alone-good}
+use Rattle.refinement.proofs.Demand1Steps.{before-good}
 use Rattle.refinement.proofs.Demand1.{demand1}
 
 -- the buffers stay, and the state if the call is answered
@@ -26,18 +27,6 @@ kept-carried w r lent e = ap (λ (s : State). world s (w .first) (w .second) (w 
     by : (n : ℕ) → (n ≡ 0 → r .state ≡ w .state) → carriedState n (w .state) (r .state) ≡ w .state
     by zero e = e refl
     by (suc n) e = refl
-
--- demand 1 says of a refusal that it leaves the buffers
-pub leaves-kept : (w : World) (c : Call) (o : Outcome) → LeavesAll w c o
-    → (r : Reply State) × (lent : List ℕ) × (o ≡ kept w r lent)
-unfolding LeavesAll Leaves
-leaves-kept w (Call.init capacity size) o l = (_, _, l)
-leaves-kept w (Call.on key c) o l = (_, _, l)
-leaves-kept w (Call.resize size) o l = (_, _, l)
-leaves-kept w Call.rehashStep o l = (_, _, l)
-leaves-kept w (Call.scan cursor lent) o (count, c, l) = (_, _, l)
-leaves-kept w (Call.read (ReadCall.suggestedSize growing)) o l = (_, _, l)
-leaves-kept w (Call.read ReadCall.currentTable) o l = (_, _, l)
 
 module _ (w : World) where
   -- where the number is not 0, the world is as before
@@ -52,6 +41,10 @@ module _ (w : World) where
 
   pub alone-keeps : (key : ℕ) (c : KeyCall) → ¬ (alone w key c .reply .number ≡ 0) → carry w (alone w key c) ≡ w
   alone-keeps key c n = left-keeps (Call.on key c) (alone w key c) (leaves (alone-good w key c) n) n
+
+  pub before-keeps : (key : ℕ) (c : KeyCall) → ¬ (before-growth w key c .reply .number ≡ 0)
+      → carry w (before-growth w key c) ≡ w
+  before-keeps key c n = left-keeps (Call.on key c) (before-growth w key c) (leaves (before-good w key c) n) n
 
   -- find, a walk call, the suggested size and a look leave it whatever they answer
 

@@ -83,10 +83,10 @@ module _ {s : State} {current other entries : List ℕ} (h : Shape s current oth
 finished-on : {s : State} {current other entries : List ℕ} {i : Ideal} (a : AgreesOn s current other entries i)
     → s .rehashing ≡ true → s .«old_used» ≡ 0
     → AgreesOn (finished s) other current entries
-    (ideal (i .plain) (Tables.one (s .«new_size»)) (not (s .«second_is_current»)) [] 0)
+    (ideal (i .plain) (Tables.one (s .«new_size»)) (not (s .«second_is_current»)) [] 0 (i .allowed))
 unfolding finished retabled stateOf oldNew keysHeld tablesOf tablesBy
 finished-on a rehashing none-left =
-    retabled-agrees a (finished-shape (a .shape) rehashing none-left) refl (omega arith)
+    retabled-agrees a (finished-shape (a .shape) rehashing none-left) refl (omega arith) refl
     (finished-before (a .shape) rehashing none-left) (finished-after (a .shape) rehashing none-left)
     [] (λ key j. absurd j) (λ again key k. let z : _≡_ {A = ℕ} 0 1 = cc in absurd (omega arith)) tt
 
@@ -105,7 +105,7 @@ stored l i says = subst (AgreesAfter i) (sym (l .is)) (after-agrees l i says)
 passed-on : {s : State} {current other entries : List ℕ} {i : Ideal} (a : AgreesOn s current other entries i)
     → s .rehashing ≡ true → (b : ℕ) → b ≤ s .«old_size» → ((c : ℕ) → c < b → getD current c 0 ≡ 0)
     → AgreesOn (advanced s 0 b) current other entries
-    (ideal (i .plain) (Tables.two (s .«old_size») (s .«new_size»)) (i .turned) (i .unmoved) b)
+    (ideal (i .plain) (Tables.two (s .«old_size») (s .«new_size»)) (i .turned) (i .unmoved) b (i .allowed))
 unfolding ideal tablesOf tablesBy Live IsBucket sizeOf
 passed-on {s} a rehashing b fits empty =
     stored (passed-store (a .shape) rehashing b fits empty) _
@@ -116,6 +116,7 @@ passed-on {s} a rehashing b fits empty =
       tables = ap (λ (t : Bool). tablesBy t (s .«old_size») (s .«new_size»)) rehashing;
       turned = a .turned;
       next = refl;
+      allowed = a .allowed;
       in-map = λ t l c k v h. a .in-map k v (record { place = t; live = l; bucket = c; held = h });
       in-store = λ k v e. let h = a .in-store k v e in (h .place, h .live, h .bucket, h .held);
       in-unmoved = λ t c k v l h. a .in-unmoved t k (record { value = v; index = c; live = l; held = h });
@@ -149,7 +150,7 @@ module _ {s : State} {current other entries : List ℕ} {i : Ideal} (a : AgreesO
 
   -- the chain of this one moved
   moved-on : AgreesOn (advanced s (length (a .shape .at from)) (suc b)) (set current b 0) (goneTo .buckets) (goneTo .entries)
-      (ideal (i .plain) (Tables.two (s .«old_size») (s .«new_size»)) (i .turned) (keep stays (i .unmoved)) (suc b))
+      (ideal (i .plain) (Tables.two (s .«old_size») (s .«new_size»)) (i .turned) (keep stays (i .unmoved)) (suc b) (i .allowed))
   unfolding keyPlace Live IsBucket sizeOf LiveTable tablesOf tablesBy ideal
   moved-on =
       stored (moved-store (a .shape) rehashing b (before .live) no-head) _
@@ -160,6 +161,7 @@ module _ {s : State} {current other entries : List ℕ} {i : Ideal} (a : AgreesO
         tables = ap (λ (t : Bool). tablesBy t (s .«old_size») (s .«new_size»)) rehashing;
         turned = a .turned;
         next = refl;
+        allowed = a .allowed;
         in-map = in-map;
         in-store = in-store;
         in-unmoved = λ t c k v l h. old-only c k v l h;
@@ -269,14 +271,14 @@ module _ (w : World) (i : Ideal) (a : Agrees w i) where
   -- over, else it goes on.
   module _ (count next : ℕ) (c o e ks : List ℕ)
       (is : call (current w) (other w) ≡ After.after (stepDone s count next) c o e)
-      (then : AgreesOn (advanced s count next) c o e (ideal (i .plain) (Tables.two old new) (i .turned) ks next)) where
+      (then : AgreesOn (advanced s count next) c o e (ideal (i .plain) (Tables.two old new) (i .turned) ks next (i .allowed))) where
     abbrev t : State
     t = advanced s count next
 
     over : t .«old_used» ≡ 0 → Steps w Call.rehashStep (afterStep i old new count ks next)
     unfolding stepDone settled advanced finished retabled stateOf sizeOf ideal afterStep
     over z =
-        let j : Bool → Ideal = λ f. ideal (i .plain) (Tables.one new) (not f) [] 0 in
+        let j : Bool → Ideal = λ f. ideal (i .plain) (Tables.one new) (not f) [] 0 (i .allowed) in
         subst (λ (js : List ℕ). Steps w Call.rehashStep (afterStep i old new count js next)) (sym (none-unmoved then z))
         (step-answered count (finished t) c o e (j (i .turned))
         (is ∙ ap (λ (b : Bool). After.after (StepAnswer.Stepped count (cond b (finished t) t)) c o e) (eq-eqb (t .«old_used») 0 z))
@@ -288,7 +290,7 @@ module _ (w : World) (i : Ideal) (a : Agrees w i) where
     on f = by ks (λ e. f (none-left then refl e)) then
       where
         by : (js : List ℕ) → js ≢ []
-            → AgreesOn t c o e (ideal (i .plain) (Tables.two old new) (i .turned) js next)
+            → AgreesOn t c o e (ideal (i .plain) (Tables.two old new) (i .turned) js next (i .allowed))
             → Steps w Call.rehashStep (afterStep i old new count js next)
         by [] g h = absurd (g refl)
         by (k ∷ js) g h =

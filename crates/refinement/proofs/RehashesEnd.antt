@@ -3,7 +3,7 @@
 use Prim.Native.Nat.{ℕ, suc, _+_, _<_, _≤_}
 use mathlib.Core.Path.{_≡_, refl, sym, ap, subst, subst₃, _∙_}
 use mathlib.Core.Logic.{_⊎_, inl, inr}
-use mathlib.Core.Bool.{Bool, true, false, _&&_, cond}
+use mathlib.Core.Bool.{Bool, true, false, _&&_, not, cond}
 use mathlib.Core.List.{List, [], _∷_, _++_}
 use mathlib.Core.Option.{some}
 use native.Mathlib.Decide.{ℕ-discrete}
@@ -189,10 +189,19 @@ module _ (l : Lengths) (w : World) (i : Ideal) (beside : Beside l w i) where
 
 -- ---- while it goes on
 
-now : (does : World → Call → Outcome) (began w : World) (calls : List Call) → UnderWay does began w calls → w .state .rehashing ≡ true
-unfolding UnderWay Ongoing
-now does began w [] u = u .0
-now does began w (c ∷ cs) u = u .0 .0
+now : (does : World → Call → Outcome) (began w : World) (calls : List Call) → UnderWay does began w calls → Ongoing began w
+unfolding UnderWay
+now does began w [] u = u
+now does began w (c ∷ cs) u = u .0
+
+moving : (did : World → Call → Outcome) (began w : World) (calls : List Call) → UnderWay did began w calls
+    → w .state .rehashing ≡ true
+unfolding Ongoing
+moving does began w calls u = now does began w calls u .0
+
+not-itself : (b : Bool) → b ≡ not b → ⊥
+not-itself true e = true-not-false e
+not-itself false e = true-not-false (sym e)
 
 no-step : (w : World) (c : Call) (o : Outcome) → isStep c ≡ false
     → carry w o .state .«rehash_index» ≡ w .state .«rehash_index» → answeredStep w c o ≡ false
@@ -212,10 +221,10 @@ record OneCall (size : ℕ) (w : World) (i : Ideal) (c : Call) (o : Outcome) (j 
   onward : answeredStep w c o ≡ true → Onward size (i .unmoved) (i .index) (j .index)
 
 module _ (does : World → Call → Outcome) (l : Lengths) (size : ℕ) (pos : 0 < size) where
-  goes : (w : World) (i : Ideal) → Along does l w i → During size i → (c : Call) → carry w (does w c) .state .rehashing ≡ true
-      → OneCall size w i c (does w c) (predict l i c .state)
-  unfolding run replay
-  goes w i along d c u = by (passes l i size (d .new) (d .tables) _ _ c tables)
+  goes : (began w : World) (i : Ideal) → Along does l w i → During size i → (c : Call) → Ongoing began w
+      → Ongoing began (carry w (does w c)) → OneCall size w i c (does w c) (predict l i c .state)
+  unfolding run replay Ongoing
+  goes began w i along d c before after = by (passes l i size (d .new) (d .tables) _ _ c tables)
     where
       w′ : World
       w′ = carry w (does w c)
@@ -227,7 +236,7 @@ module _ (does : World → Call → Outcome) (l : Lengths) (size : ℕ) (pos : 0
       then = along (c ∷ [])
 
       tables : i′ .tables ≡ Tables.two (w′ .state .«old_size») (w′ .state .«new_size»)
-      tables = moving-tables l w′ i′ then u
+      tables = moving-tables l w′ i′ then (after .0)
 
       by : Passes i c i′ → OneCall size w i c (does w c) i′
       by (Passes.stepped kept) =
@@ -248,13 +257,17 @@ module _ (does : World → Call → Outcome) (l : Lengths) (size : ℕ) (pos : 0
             only = kept .only;
             onward = λ t. absurd (true-not-false (sym t ∙ none));
           }
+      by (Passes.renewed just turned) =
+          absurd
+          (not-itself (i .turned)
+          (sym (along [] .matches .turned) ∙ before .1 ∙ sym (after .1) ∙ then .matches .turned ∙ turned))
 
   bounded : (began : World) (calls : List Call) (w : World) (i : Ideal) → Along does l w i → During size i
       → UnderWay does began w calls → answeredSteps does w calls < left size i
   unfolding answeredSteps UnderWay run replay
   bounded began [] w i along d u = some-steps size (i .unmoved) (i .index)
   bounded began (c ∷ cs) w i along d u =
-      let g = goes w i along d c (now does began (carry w (does w c)) cs (u .1)) in
+      let g = goes began w i along d c (u .0) (now does began (carry w (does w c)) cs (u .1)) in
       omega
       (arith, g .less, bounded began cs (carry w (does w c)) (predict l i c .state) (λ ds. along (c ∷ ds)) (g .during) (u .1))
 
@@ -265,15 +278,15 @@ module _ (does : World → Call → Outcome) (l : Lengths) (size : ℕ) (pos : 0
   unfolding UnderWay run replay Moves
   last-moves began [] w i along d c u t =
       let at = along [] in
-      let e = now does began w (c ∷ []) u in
+      let e = moving does began w (c ∷ []) u in
       let same = same-size l w i at e size d in
-      let onward = goes w i along d c (now does began (carry w (does w c)) [] (u .1)) .onward t in
+      let onward = goes began w i along d c (u .0) (now does began (carry w (does w c)) [] (u .1)) .onward t in
       subst (λ (n : ℕ). Moves n (i .unmoved) w (carry w (does w c))) (sym same)
       (moves l w i at e (subst (λ (n : ℕ). During n i) same d) (carry w (does w c))
       (subst₃ (λ (n now then : ℕ). Onward n (i .unmoved) now then) same (sym (at .matches .index))
       (sym (along (c ∷ []) .matches .index)) onward))
   last-moves began (e ∷ cs) w i along d c u t =
-      let g = goes w i along d e (now does began (carry w (does w e)) (cs ++ c ∷ []) (u .1)) in
+      let g = goes began w i along d e (u .0) (now does began (carry w (does w e)) (cs ++ c ∷ []) (u .1)) in
       elim (last-moves began cs (carry w (does w e)) (predict l i e .state) (λ ds. along (e ∷ ds)) (g .during) c (u .1) t) [
         | inl far ↦ inl far
         | inr (k, h, first, is) ↦ inr (k, g .only k h, first, is)
@@ -331,21 +344,20 @@ module _ (does : World → Call → Outcome) (l : Lengths) where
           subst (λ (k : Ideal). k .tables ≡ Tables.two (w′ .state .«old_size») (w′ .state .«new_size»))
           (replay-last before i first) (moving-tables l w′ i′ at e)
 
-      -- there was none before
-      resting : w′ .state .rehashing ≡ true → v .state .rehashing ≡ false
-      resting e = by (v .state .rehashing) refl
+      -- there was none before, or another one
+      just : w′ .state .rehashing ≡ true → JustBegun i′
+      just e = subst JustBegun (sym (replay-last before i first)) (by (v .state .rehashing) refl)
         where
-          by : (t : Bool) → v .state .rehashing ≡ t → v .state .rehashing ≡ false
-          by false r = r
-          by true r =
-              let still = still-turned l j _ _ (moving-tables l v j (along before) r) _ _ first (then e) in
+          other-one : (predict l j first .state .turned ≡ j .turned) ⊎ JustBegun (predict l j first .state)
+              → v .state .rehashing ≡ true → JustBegun (predict l j first .state)
+          other-one (inr new) r = new
+          other-one (inl still) r =
               let last = ap (λ (k : Ideal). k .turned) (replay-last before i first) in
               absurd (not-before (r, along before .matches .turned ∙ sym (at .matches .turned ∙ last ∙ still)))
 
-      just : w′ .state .rehashing ≡ true → JustBegun i′
-      just e =
-          subst JustBegun (sym (replay-last before i first))
-          (begins l j _ _ _ (resting-tables l v j (along before) (resting e)) first (then e))
+          by : (t : Bool) → v .state .rehashing ≡ t → JustBegun (predict l j first .state)
+          by false r = begins l j _ _ _ (resting-tables l v j (along before) r) first (then e)
+          by true r = other-one (still-turned l j _ _ (moving-tables l v j (along before) r) _ _ first (then e)) r
 
       during : w′ .state .rehashing ≡ true → During (w′ .state .«old_size») i′
       during e =
@@ -358,7 +370,7 @@ module _ (does : World → Call → Outcome) (l : Lengths) where
 
       most : UnderWay does w′ w′ calls → answeredSteps does w′ calls < mostSteps (w′ .state .«old_size») (filledBuckets w′)
       most u =
-          let e = now does w′ w′ calls u in
+          let e = moving does w′ w′ calls u in
           let fewer = bounded does l (w′ .state .«old_size») some w′ calls w′ i′ along′ (during e) u in
           omega (
             arith,
@@ -371,7 +383,7 @@ module _ (does : World → Call → Outcome) (l : Lengths) where
           → answeredStep (run does w′ calls) c (does (run does w′ calls) c) ≡ true
           → Advances w′ (run does w′ calls) (run does w′ (calls ++ c ∷ []))
       advances c u t =
-          let e = now does w′ w′ (calls ++ c ∷ []) u in
+          let e = moving does w′ w′ (calls ++ c ∷ []) u in
           elim (last-moves does l (w′ .state .«old_size») some w′ calls w′ i′ along′ (during e) c u t) [
             | inl far ↦ inl far
             | inr (k, h, filled, is) ↦

@@ -1,4 +1,4 @@
--- One call on a store that agrees with the ideal: the suggested size, a look, a start, a resize.
+-- One call on a store that agrees with the ideal: the suggested size, a look, a start, a resize, the permission.
 -- Assumes nothing.
 use Prim.Native.Nat.{ℕ, zero, suc, _<_}
 use mathlib.Core.Path.{_≡_, refl, sym, ap, subst, subst₂, _∙_}
@@ -12,10 +12,11 @@ use Rattle.model.specs.declared.Error.{Error}
 use Rattle.model.specs.declared.InitAnswer.{InitAnswer}
 use Rattle.model.specs.declared.ResizeAnswer.{ResizeAnswer}
 use Rattle.model.specs.declared.SizeAnswer.{SizeAnswer}
-use Rattle.model.specs.Answers.{Reply, reply, errorNumber, initReply, resizeReply, sizeReply, tableReply}
+use Rattle.model.specs.declared.AllowAnswer.{AllowAnswer}
+use Rattle.model.specs.Answers.{Reply, reply, errorNumber, initReply, resizeReply, sizeReply, allowReply, tableReply}
 use Rattle.model.specs.Limits.{largestExponent, legalCapacity, legalSize}
-use Rattle.model.specs.Memory.{Place, Live, sizeOf, keysHeld}
-use Rattle.model.specs.Calls.{After, oriented, stateOf, oldNew, emptyState, retabled, suggested, cleared, noState, longEnough, acceptable, resizing, resized}
+use Rattle.model.specs.Memory.{Place, Live, sizeOf, usedOf, keysHeld}
+use Rattle.model.specs.Calls.{After, oriented, stateOf, oldNew, emptyState, retabled, permitted, suggested, cleared, noState, longEnough, acceptable, resizing, resized}
 use Rattle.model.specs.Calls as calls
 use Rattle.model.specs.Walk.{Tables, tablesBy, tablesOf}
 use Rattle.model.specs.Sequences.{World, world, Outcome, ReadCall, Call, kept, left, given, perform, carriedState, carry, keysOf, valueFor}
@@ -26,6 +27,7 @@ use Rattle.invariant.proofs.Shape.{IsBucket, Shape, shape-sound, facts}
 use Rattle.invariant.proofs.StoreAfter.{HeldIn, held-as}
 use Rattle.invariant.proofs.Init.{startedAt, startedEntries, started-shape, started-at}
 use Rattle.invariant.proofs.Resize.{resizedAt, resized-shape, resized-at}
+use Rattle.invariant.proofs.Permission.{live-before, live-after, permitted-shape, permitted-at}
 use Rattle.refinement.proofs.Orientation.{firstBy, secondBy, worldBy, soundAt, reads-sound, left-reply, left-world}
 use Rattle.refinement.proofs.Refusals.{refused-keeps, read-keeps}
 use Rattle.refinement.proofs.PlainMaps.{value-key, key-value}
@@ -170,6 +172,7 @@ module _ (w : World) (capacity size : ℕ) where
         tables = refl;
         turned = refl;
         index = refl;
+        allowed = refl;
         unmoved-in = λ key f. absurd f;
         in-unmoved = λ rehashing key k. let z : _≡_ {A = ℕ} 0 1 = cc in absurd (omega arith);
         unmoved-once = tt;
@@ -255,11 +258,11 @@ module _ {s : State} {current other entries : List ℕ} (h : Shape s current oth
 resized-on : (s : State) (current other entries : List ℕ) (i : Ideal) → AgreesOn s current other entries i → (size : ℕ)
     → s .rehashing ≡ false → acceptable (s .«old_size») (length other) size ≡ true
     → AgreesOn (resizing s size) current (cleared size other) entries
-    (ideal (i .plain) (Tables.two (s .«old_size») size) (s .«second_is_current») (keysOf (i .plain .pairs)) 0)
+    (ideal (i .plain) (Tables.two (s .«old_size») size) (s .«second_is_current») (keysOf (i .plain .pairs)) 0 (i .allowed))
 unfolding resizing retabled stateOf oldNew sizeOf keysHeld tablesOf tablesBy Live IsBucket
 resized-on s current other entries i a size resting accepted =
     retabled-agrees a (resized-shape (a .shape) size resting accepted) refl
-    (omega (arith, facts (a .shape) .resting resting .no-keys))
+    (omega (arith, facts (a .shape) .resting resting .no-keys)) refl
     (resized-before (a .shape) size resting accepted) (resized-after (a .shape) size resting accepted)
     (keysOf (i .plain .pairs))
     (λ key j.
@@ -333,7 +336,7 @@ resize-steps w i a l same size =
         (λ f. ap (λ (r : Reply State). r .values) replied)
 
     then : Bool → Ideal
-    then t = ideal (i .plain) (Tables.two (s .«old_size») size) t (keysOf (i .plain .pairs)) 0
+    then t = ideal (i .plain) (Tables.two (s .«old_size») size) t (keysOf (i .plain .pairs)) 0 (i .allowed)
 
     answered : s .rehashing ≡ false → accept ≡ true → Steps w c (reply 0 [] (then (i .turned)))
     answered e f =
@@ -367,3 +370,82 @@ resize-steps w i a l same size =
     by : (t : Bool) → s .rehashing ≡ t → Steps w c (resizeAnswer l i size (tablesBy t (s .«old_size») (s .«new_size»)))
     by true e = refused Error.Rehashing 6 refl (ap (resized s (current w) (other w) (w .entries) size) e)
     by false e = by-test e _ (sym tested)
+
+-- The permission.
+
+module _ (w : World) (i : Ideal) (a : Agrees w i) (allowed : Bool) where
+  abbrev then : State
+  then = permitted (w .state) allowed
+
+  abbrev meant : Ideal
+  meant = ideal (i .plain) (i .tables) (i .turned) (i .unmoved) (i .index) allowed
+
+  held-before : (key value : ℕ) → HeldAt then (w .entries) (permitted-shape (a .shape) allowed .at) key value
+      → HeldAt (w .state) (w .entries) (a .shape .at) key value
+  held-before key value h =
+      record {
+        place = h .place;
+        live = live-before (a .shape) allowed (h .place) (h .live);
+        bucket = h .bucket;
+        held = held-as (permitted-at (a .shape) allowed (h .place)) (h .held);
+      }
+
+  held-after : (key value : ℕ) → HeldAt (w .state) (w .entries) (a .shape .at) key value
+      → HeldAt then (w .entries) (permitted-shape (a .shape) allowed .at) key value
+  held-after key value h =
+      record {
+        place = h .place;
+        live = live-after (a .shape) allowed (h .place) (h .live);
+        bucket = h .bucket;
+        held = held-as (sym (permitted-at (a .shape) allowed (h .place))) (h .held);
+      }
+
+  permitted-on : AgreesOn then (current w) (other w) (w .entries) meant
+  unfolding permitted stateOf ideal keysHeld tablesOf tablesBy sizeOf usedOf
+  permitted-on =
+      record {
+        shape = permitted-shape (a .shape) allowed;
+        capacity = a .capacity;
+        count = a .count;
+        distinct = a .distinct;
+        in-map = λ key value h. a .in-map key value (held-before key value h);
+        in-store = λ key value e. held-after key value (a .in-store key value e);
+        tables = a .tables;
+        turned = a .turned;
+        index = a .index;
+        allowed = refl;
+        unmoved-in =
+            λ key j.
+            let h = a .unmoved-in key j in
+            record {
+              value = h .value;
+              index = h .index;
+              live = h .live;
+              held = held-as (sym (permitted-at (a .shape) allowed (Place.bucket Table.Old (h .index)))) (h .held);
+            };
+        in-unmoved =
+            λ rehashing key h.
+            a .in-unmoved rehashing key
+            (record {
+              value = h .value;
+              index = h .index;
+              live = h .live;
+              held = held-as (permitted-at (a .shape) allowed (Place.bucket Table.Old (h .index))) (h .held);
+            });
+        unmoved-once = a .unmoved-once;
+      }
+
+  allowed-outcome : perform w (Call.allowResize allowed) ≡ kept w (reply 0 [] then) []
+  unfolding perform given calls.allowResize allowReply reply
+  allowed-outcome =
+      ap (λ (r : AllowAnswer). kept w (allowReply (w .state) r) [])
+      (reads-sound w (AllowAnswer.Refused Error.BadState) (λ c o. AllowAnswer.Set then) (shape-sound (a .shape)))
+
+  pub allow-steps : (l : Lengths) → Steps w (Call.allowResize allowed) (predict l i (Call.allowResize allowed))
+  unfolding predict reply kept carry carriedState world current other oriented permitted stateOf
+  allow-steps l =
+      record {
+        number = ap (λ (o : Outcome). o .reply .number) allowed-outcome;
+        values = λ f. ap (λ (o : Outcome). o .reply .values) allowed-outcome;
+        agrees = subst (λ (o : Outcome). Agrees (carry w o) meant) (sym allowed-outcome) permitted-on;
+      }

@@ -13,10 +13,10 @@ use Rattle.model.specs.Answers.{Reply, reply}
 use Rattle.model.specs.Memory.{keysHeld}
 use Rattle.model.specs.Calls.{acceptable}
 use Rattle.model.specs.Walk.{Tables}
-use Rattle.model.specs.Sequences.{World, KeyCall, ReadCall, Call, Outcome, carry, run, Event, event, events, keysOf, valueFor, withPairs, mapAnswer, mapDoes}
+use Rattle.model.specs.Sequences.{World, KeyCall, ReadCall, Call, Outcome, carry, run, Event, event, events, PlainMap, keysOf, valueFor, withPairs, mapAnswer, mapDoes}
 use Rattle.cursor.specs.Next.{next}
-use Rattle.refinement.specs.Demand3.{Lengths, lengthsOf, Ideal, ideal, begun, startNumber, startAnswer, keyAnswer, onAnswer, resizeAnswer, afterStep, groupPairs, scanAnswer, readAnswer, predict, replay, Answered, Demand3}
-use Rattle.refinement.proofs.IdealSteps.{either, any-step}
+use Rattle.refinement.specs.Demand3.{Lengths, lengthsOf, Ideal, ideal, begun, startNumber, startAnswer, keyAnswer, onAnswer, thenGrows, resizeAnswer, afterStep, groupPairs, scanAnswer, readAnswer, predict, replay, Answered, Demand3}
+use Rattle.refinement.proofs.IdealSteps.{either, any-step, growth-plain}
 use Rattle.refinement.proofs.PlainMaps.{length-changed, length-taken}
 
 -- the keys held after a call that was answered 0
@@ -30,6 +30,7 @@ keysAfter (Call.resize size) keys = keys
 keysAfter Call.rehashStep keys = keys
 keysAfter (Call.scan cursor lent) keys = keys
 keysAfter (Call.read c) keys = keys
+keysAfter (Call.allowResize allowed) keys = keys
 
 -- over the events; a refused call changes nothing
 unfoldable pub tally : ℕ → List Event → ℕ
@@ -68,19 +69,20 @@ module _ (i : Ideal) where
       by KeyCall.delete (some held) e = omega (arith, length-taken key held (i .plain .pairs) e)
 
   counted : (l : Lengths) (c : Call) → Counted i c (predict l i c)
-  unfolding predict startAnswer begun ideal reply resizeAnswer afterStep scanAnswer readAnswer keysAfter
+  unfolding predict thenGrows startAnswer begun ideal reply resizeAnswer afterStep scanAnswer readAnswer keysAfter
   counted l (Call.init capacity size) = by (startNumber l capacity size)
     where
       by : (n : ℕ) → Counted i (Call.init capacity size) (startAnswer i capacity size n)
       by zero = refl
       by (suc n) = rw (eqb·suc-zero n)
-  counted l (Call.on key c) = keyed key c
+  counted l (Call.on key c) =
+      ap (λ (m : PlainMap). length (m .pairs)) (growth-plain l c (onAnswer i c (mapDoes (i .plain) key c))) ∙ keyed key c
   counted l (Call.resize size) = by (i .tables)
     where
       by : (t : Tables) → Counted i (Call.resize size) (resizeAnswer l i size t)
       by (Tables.one old) =
           either (Counted i (Call.resize size)) (acceptable old (cond (i .turned) (l .first) (l .second)) size)
-          (reply 0 [] (ideal (i .plain) (Tables.two old size) (i .turned) (keysOf (i .plain .pairs)) 0)) (reply 6 [] i) refl refl
+          (reply 0 [] (ideal (i .plain) (Tables.two old size) (i .turned) (keysOf (i .plain .pairs)) 0 (i .allowed))) (reply 6 [] i) refl refl
       by (Tables.two old new) = refl
   counted l Call.rehashStep = any-step i (Counted i Call.rehashStep) (i .tables) (i .unmoved) (λ size e. refl)
       (λ old new e. done old new)
@@ -92,6 +94,7 @@ module _ (i : Ideal) where
       either (Counted i (Call.scan cursor lent)) (leb (length (groupPairs i cursor) * 2) (length lent)) _ _ refl refl
   counted l (Call.read (ReadCall.suggestedSize growing)) = refl
   counted l (Call.read ReadCall.currentTable) = refl
+  counted l (Call.allowResize allowed) = refl
 
 -- along a sequence whose answers are the ideal's
 tallied : (does : World → Call → Outcome) (l : Lengths) (w : World) (i : Ideal) (calls : List Call)

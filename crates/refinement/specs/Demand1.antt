@@ -1,4 +1,4 @@
--- Demand 1: the table of answers (SPECIFICATION, "Answers"), for any meaning of the ten calls, any state and any lent memory.
+-- Demand 1: the table of answers (SPECIFICATION, "Answers"), for any meaning of the calls, any state and any lent memory.
 -- The table goes by conditions, and they are said here in its words. How model defines the calls plays no part in them, but
 -- that add and delete during a rehash go by the world after a step, which is the step of model.
 use Prim.Native.Nat.{ℕ, zero, suc, _*_, _≤_, _<_, _+_}
@@ -163,6 +163,7 @@ rows w Call.rehashStep = row 1 (BadState w) ∷ row 8 (w .state .rehashing ≡ f
 rows w (Call.scan cursor lent) =
     row 1 (BadState w) ∷ row 2 (GroupDamaged w cursor) ∷ row 9 (Short w cursor lent) ∷ []
 rows w (Call.read c) = row 1 (BadState w) ∷ []
+rows w (Call.allowResize allowed) = row 1 (BadState w) ∷ []
 
 -- the number is that of the first row whose condition holds, and 0 if none does
 unfoldable pub Decides : ℕ → List Row → Type 0
@@ -195,6 +196,7 @@ LeavesAll w (Call.scan cursor lent) o =
     (count : ℕ) × RefusedCount w cursor (o .reply .number) count × Leaves w o (w .state) (0 ∷ count ∷ []) lent
 LeavesAll w (Call.read (ReadCall.suggestedSize growing)) o = Leaves w o (w .state) (0 ∷ []) []
 LeavesAll w (Call.read ReadCall.currentTable) o = Leaves w o (w .state) [] []
+LeavesAll w (Call.allowResize allowed) o = Leaves w o (w .state) [] []
 
 pub record Demand1 (does : World → Call → Outcome) : Type 0 where
   pub numbers : (w : World) (c : Call) → Decides (does w c .reply .number) (rows w c)

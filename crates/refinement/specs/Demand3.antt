@@ -1,4 +1,4 @@
--- Demand 3, one claim about a whole sequence of calls, for any meaning of the ten calls. An ideal store is fed the same
+-- Demand 3, one claim about a whole sequence of calls, for any meaning of the calls. An ideal store is fed the same
 -- calls; from their arguments and the lengths of the lent buffers alone it says what each answers (but for what a look shows,
 -- which is said of the memory) and where each key is.
 use Prim.Native.Nat.{ℕ, zero, suc, _+_, _*_, _≤_, _<_, max, min}
@@ -14,10 +14,10 @@ use Rattle.model.specs.Keys.{bucketOf}
 use Rattle.model.specs.Limits.{legalCapacity, legalSize, emptyVisits}
 use Rattle.model.specs.Memory.{Place}
 use Rattle.model.specs.Answers.{Reply, reply}
-use Rattle.model.specs.Calls.{longEnough, acceptable, suggested, oldNew}
+use Rattle.model.specs.Calls.{longEnough, acceptable, suggested, growthDue, oldNew}
 use Rattle.model.specs.Walk.{Tables, tablesOf, smallerOf, groupPlaces}
 use Rattle.model.specs.Sequences.{World, KeyCall, ReadCall, Call, Outcome, carry, run, Event, events, Pair, PlainMap, keysOf, mapDoes}
-use Rattle.refinement.specs.Worlds.{current, UndamagedAt, Held, Holds, takesStep}
+use Rattle.refinement.specs.Worlds.{current, UndamagedAt, Held, Holds, takesStep, mayGrow}
 use Rattle.refinement.specs.Demand2.{nextCursor, HandsOut}
 
 -- The lengths of the lent buffers.
@@ -30,8 +30,8 @@ pub record Lengths : Type 0 where
 unfoldable pub lengthsOf : World → Lengths
 lengthsOf w = record { first = length (w .first); second = length (w .second); entries = length (w .entries) }
 
--- The ideal: the plain map, the live tables, whether the second bucket buffer is the current one; and during a rehash the keys
--- still in the old table, and the next bucket to move.
+-- The ideal: the plain map, the live tables, whether the second bucket buffer is the current one; during a rehash the keys
+-- still in the old table, and the next bucket to move; and whether resizing is allowed.
 
 pub record Ideal : Type 0 where
   pub plain : PlainMap
@@ -39,14 +39,15 @@ pub record Ideal : Type 0 where
   pub turned : Bool
   pub unmoved : List ℕ
   pub index : ℕ
+  pub allowed : Bool
 
-unfoldable pub ideal : PlainMap → Tables → Bool → List ℕ → ℕ → Ideal
-ideal plain tables turned unmoved index =
-    record { plain = plain; tables = tables; turned = turned; unmoved = unmoved; index = index }
+unfoldable pub ideal : PlainMap → Tables → Bool → List ℕ → ℕ → Bool → Ideal
+ideal plain tables turned unmoved index allowed =
+    record { plain = plain; tables = tables; turned = turned; unmoved = unmoved; index = index; allowed = allowed }
 
 -- after a start
 unfoldable pub begun : ℕ → ℕ → Ideal
-begun capacity size = ideal (record { capacity = capacity; pairs = [] }) (Tables.one size) false [] 0
+begun capacity size = ideal (record { capacity = capacity; pairs = [] }) (Tables.one size) false [] 0 true
 
 unfoldable pub among : ℕ → List ℕ → Bool
 among key keys = any (λ k. eqb k key) keys
@@ -79,14 +80,15 @@ startAnswer i capacity size (suc number) = reply (suc number) [] i
 unfoldable pub keyAnswer : Ideal → Reply PlainMap → Reply Ideal
 keyAnswer i r =
     reply (r .number) (r .values)
-    (ideal (r .state) (i .tables) (i .turned) (keep (λ k. among k (keysOf (r .state .pairs))) (i .unmoved)) (i .index))
+    (ideal (r .state) (i .tables) (i .turned) (keep (λ k. among k (keysOf (r .state .pairs))) (i .unmoved)) (i .index)
+    (i .allowed))
 
 -- A resize is refused during a rehash, and else goes by its size.
 unfoldable pub resizeAnswer : Lengths → Ideal → ℕ → Tables → Reply Ideal
 resizeAnswer l i size (Tables.two old new) = reply 7 [] i
 resizeAnswer l i size (Tables.one old) =
     cond (acceptable old (cond (i .turned) (l .first) (l .second)) size)
-    (reply 0 [] (ideal (i .plain) (Tables.two old size) (i .turned) (keysOf (i .plain .pairs)) 0))
+    (reply 0 [] (ideal (i .plain) (Tables.two old size) (i .turned) (keysOf (i .plain .pairs)) 0 (i .allowed)))
     (reply 6 [] i)
 
 -- A step moves all the keys of the lowest bucket that an unmoved key calls for. But it passes only so many empty buckets: if
@@ -99,9 +101,10 @@ lowest size b (k ∷ ks) = lowest size (min b (bucketOf k size)) ks
 
 -- so many moved, these keys still unmoved, that bucket the next one; with none unmoved the rehash is over
 unfoldable pub afterStep : Ideal → ℕ → ℕ → ℕ → List ℕ → ℕ → Reply Ideal
-afterStep i old new count [] next = reply 0 (count ∷ 0 ∷ []) (ideal (i .plain) (Tables.one new) (not (i .turned)) [] 0)
+afterStep i old new count [] next =
+    reply 0 (count ∷ 0 ∷ []) (ideal (i .plain) (Tables.one new) (not (i .turned)) [] 0 (i .allowed))
 afterStep i old new count (k ∷ ks) next =
-    reply 0 (count ∷ 1 ∷ []) (ideal (i .plain) (Tables.two old new) (i .turned) (k ∷ ks) next)
+    reply 0 (count ∷ 1 ∷ []) (ideal (i .plain) (Tables.two old new) (i .turned) (k ∷ ks) next (i .allowed))
 
 unfoldable pub stepAnswer : Ideal → Tables → List ℕ → Reply Ideal
 stepAnswer i (Tables.one size) unmoved = reply 8 (0 ∷ 0 ∷ []) i
@@ -119,6 +122,18 @@ stepsFirst i c number = cond (takesStep c && eqb number 0) (stepAnswer i (i .tab
 
 unfoldable pub onAnswer : Ideal → KeyCall → Reply PlainMap → Reply Ideal
 onAnswer i c r = keyAnswer (stepsFirst i c (r .number)) r
+
+-- Growth is a resize, if it is due by the keys held then. Refused or not, the call that it follows is answered.
+unfoldable pub grows : Lengths → Ideal → Tables → Ideal
+grows l i (Tables.two old new) = i
+grows l i (Tables.one size) =
+    let keys = length (i .plain .pairs) in
+    cond (growthDue (i .allowed) size keys) (resizeAnswer l i (suggested true keys) (Tables.one size) .state) i
+
+unfoldable pub thenGrows : Lengths → KeyCall → Reply Ideal → Reply Ideal
+thenGrows l c r =
+    reply (r .number) (r .values)
+    (cond (mayGrow c && eqb (r .number) 0) (grows l (r .state) (r .state .tables)) (r .state))
 
 -- A walk call's pairs are those whose bucket, in the table that has the key, is one of the group's.
 
@@ -148,11 +163,13 @@ readAnswer i ReadCall.currentTable = reply 0 [] i
 
 unfoldable pub predict : Lengths → Ideal → Call → Reply Ideal
 predict l i (Call.init capacity size) = startAnswer i capacity size (startNumber l capacity size)
-predict l i (Call.on key c) = onAnswer i c (mapDoes (i .plain) key c)
+predict l i (Call.on key c) = thenGrows l c (onAnswer i c (mapDoes (i .plain) key c))
 predict l i (Call.resize size) = resizeAnswer l i size (i .tables)
 predict l i Call.rehashStep = stepAnswer i (i .tables) (i .unmoved)
 predict l i (Call.scan cursor lent) = scanAnswer i cursor (length (groupPairs i cursor)) (length lent)
 predict l i (Call.read c) = readAnswer i c
+predict l i (Call.allowResize allowed) =
+    reply 0 [] (ideal (i .plain) (i .tables) (i .turned) (i .unmoved) (i .index) allowed)
 
 unfoldable pub replay : Lengths → Ideal → List Call → Ideal
 replay l i [] = i
@@ -243,13 +260,14 @@ pub record WalkHolds (visits : List Visit) (ended : Bool) : Type 0 where
   pub bound-so-far : ended ≡ false → 0 < length visits → length visits < largest visits
   pub covers : ended ≡ true → (key : ℕ) → HeldAtEach key visits → In key (keysHanded visits)
 
--- The store has what the ideal has: the pairs, the live tables, the current buffer, the next bucket to move, and each key in
--- the table that the ideal says; and the buffers are as long as they were.
+-- The store has what the ideal has: the pairs, the live tables, the current buffer, the next bucket to move, the permission,
+-- and each key in the table that the ideal says; and the buffers are as long as they were.
 pub record Matches (l : Lengths) (w : World) (i : Ideal) : Type 0 where
   pub contents : Holds w (i .plain)
   pub tables : tablesOf (w .state) ≡ i .tables
   pub turned : w .state .«second_is_current» ≡ i .turned
   pub index : w .state .«rehash_index» ≡ i .index
+  pub allowed : w .state .«resize_allowed» ≡ i .allowed
   pub each-table : (key value : ℕ) (h : Held w key value) → h .table ≡ tableOf (i .tables) (i .unmoved) key
   pub lengths : lengthsOf w ≡ l
 

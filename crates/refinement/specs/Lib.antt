@@ -1,4 +1,4 @@
--- What is proved of the store, as statements about any meaning of the ten calls.
+-- What is proved of the store, as statements about any meaning of the calls.
 pub mod Worlds
 pub mod Demand1
 pub mod Demand2

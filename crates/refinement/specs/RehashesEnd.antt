@@ -1,4 +1,4 @@
--- How soon a rehash ends: for any meaning of the ten calls, of every rehash of every sequence (SPECIFICATION, "How soon a
+-- How soon a rehash ends: for any meaning of the calls, of every rehash of every sequence (SPECIFICATION, "How soon a
 -- move ends"). That a step is answered, which keys it moves and that none is lost is said by demands 1 and 3.
 use Prim.Native.Nat.{ℕ, suc, _+_, _-_, _/_, _<_, max}
 use mathlib.Core.Path.{_≡_}
@@ -33,6 +33,7 @@ isStep (Call.on key c) = false
 isStep (Call.resize size) = false
 isStep (Call.scan cursor lent) = false
 isStep (Call.read c) = false
+isStep (Call.allowResize allowed) = false
 
 unfoldable pub answeredStep : World → Call → Outcome → Bool
 answeredStep w c o =

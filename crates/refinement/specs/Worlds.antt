@@ -1,5 +1,5 @@
 -- A store at one moment: its live tables by the state's flag, whether it is undamaged, and the pairs that it holds; and
--- which calls take a step first.
+-- which calls take a step first, and which growth may follow.
 use Prim.Native.Nat.{ℕ, _<_}
 use mathlib.Core.Path.{_≡_}
 use mathlib.Core.Bool.{Bool, true, false}
@@ -46,3 +46,10 @@ takesStep KeyCall.find = false
 takesStep (KeyCall.update value) = false
 takesStep (KeyCall.add value) = true
 takesStep KeyCall.delete = true
+
+-- if it leaves one table, growth may follow this call
+unfoldable pub mayGrow : KeyCall → Bool
+mayGrow KeyCall.find = false
+mayGrow (KeyCall.update value) = false
+mayGrow (KeyCall.add value) = true
+mayGrow KeyCall.delete = false

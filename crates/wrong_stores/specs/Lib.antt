@@ -1,4 +1,4 @@
--- Stores that the statements exclude: each is a meaning of the ten calls, most of them ours but for one call.
+-- Stores that the statements exclude: each is a meaning of the calls, most of them ours but for one call.
 pub mod OneCall
 pub mod Starts
 pub mod KeyCalls

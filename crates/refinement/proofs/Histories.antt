@@ -72,7 +72,7 @@ module _ (w : World) (i : Ideal) (a : Agrees w i) (l : Lengths) (same : lengthsO
   any-call (Call.read c) =
       plain l w i _ (read-steps w i a l c) (λ cursor lent e. let z : _≡_ {A = ℕ} 0 1 = cc in omega arith)
   any-call (Call.allowResize allowed) =
-      plain l w i _ (allow-steps w i a l allowed) (λ cursor lent e. let z : _≡_ {A = ℕ} 0 1 = cc in omega arith)
+      plain l w i _ (allow-steps w i a allowed l) (λ cursor lent e. let z : _≡_ {A = ℕ} 0 1 = cc in omega arith)
 
 -- along the calls, and at their end
 record Kept (l : Lengths) (w : World) (i : Ideal) (calls : List Call) : Type 0 where

@@ -83,7 +83,7 @@ module _ (l : Lengths) (i : Ideal) (size old new : ℕ) (resting : i .tables ≡
       (still-one l i size old new resting) (still-one l i size old new resting)
   begins (Call.read (ReadCall.suggestedSize growing)) = still-one l i size old new resting
   begins (Call.read ReadCall.currentTable) = still-one l i size old new resting
-  begins (Call.allowResize allowed) = still-one l i size old new resting
+  begins (Call.allowResize allowed) = λ e. absurd (one-not-two (sym resting ∙ e))
 
 -- ---- and goes on
 

@@ -209,14 +209,14 @@ module _ (w : World) (i : Ideal) (a : Agrees w i) (key : ℕ) (c : KeyCall) wher
     -- none follows
     unchanged : O ≡ o → (mayGrow c && eqb (meant .number) 0) ≡ false → Comes w O (thenGrows l c meant)
     unfolding thenGrows reply
-    unchanged is none =
+    unchanged is no-growth =
         subst (λ (p : Outcome). Comes w p (thenGrows l c meant)) (sym is)
         (record {
           number = comes .number;
           values = comes .values;
           agrees =
               subst (λ (t : Bool). Agrees (carry w o) (cond t (grows l (meant .state) (meant .state .tables)) (meant .state)))
-              (sym none) (comes .agrees);
+              (sym no-growth) (comes .agrees);
         })
 
     grown-comes : Comes w O (thenGrows l c meant)
@@ -234,10 +234,10 @@ module _ (w : World) (i : Ideal) (a : Agrees w i) (key : ℕ) (c : KeyCall) wher
             (ap (λ (m : ℕ). mayGrow c && eqb m 0) (sym (comes .number) ∙ f)
             ∙ ap (λ (t : Bool). mayGrow c && t) (eqb·suc-zero n)
             ∙ and-false (mayGrow c))
-        by (Follows.answered may before zero values grew) =
+        by (Follows.answered may before after values grew) =
             let meant-zero : meant .number ≡ 0 = sym (comes .number) ∙ before in
             record {
-              number = zero ∙ sym meant-zero;
+              number = after ∙ sym meant-zero;
               values = values ∙ comes .values;
               agrees =
                   subst₂ (λ (v : World) (t : Bool). Agrees v (cond t (grows l (meant .state) (meant .state .tables)) (meant .state)))

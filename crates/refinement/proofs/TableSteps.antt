@@ -374,13 +374,13 @@ resize-steps w i a l same size =
 -- The permission.
 
 module _ (w : World) (i : Ideal) (a : Agrees w i) (allowed : Bool) where
-  abbrev then : State
-  then = permitted (w .state) allowed
+  abbrev given-it : State
+  given-it = permitted (w .state) allowed
 
   abbrev meant : Ideal
   meant = ideal (i .plain) (i .tables) (i .turned) (i .unmoved) (i .index) allowed
 
-  held-before : (key value : ℕ) → HeldAt then (w .entries) (permitted-shape (a .shape) allowed .at) key value
+  held-before : (key value : ℕ) → HeldAt given-it (w .entries) (permitted-shape (a .shape) allowed .at) key value
       → HeldAt (w .state) (w .entries) (a .shape .at) key value
   held-before key value h =
       record {
@@ -391,7 +391,7 @@ module _ (w : World) (i : Ideal) (a : Agrees w i) (allowed : Bool) where
       }
 
   held-after : (key value : ℕ) → HeldAt (w .state) (w .entries) (a .shape .at) key value
-      → HeldAt then (w .entries) (permitted-shape (a .shape) allowed .at) key value
+      → HeldAt given-it (w .entries) (permitted-shape (a .shape) allowed .at) key value
   held-after key value h =
       record {
         place = h .place;
@@ -400,7 +400,7 @@ module _ (w : World) (i : Ideal) (a : Agrees w i) (allowed : Bool) where
         held = held-as (sym (permitted-at (a .shape) allowed (h .place))) (h .held);
       }
 
-  permitted-on : AgreesOn then (current w) (other w) (w .entries) meant
+  permitted-on : AgreesOn given-it (current w) (other w) (w .entries) meant
   unfolding permitted stateOf ideal keysHeld tablesOf tablesBy sizeOf usedOf
   permitted-on =
       record {
@@ -435,11 +435,11 @@ module _ (w : World) (i : Ideal) (a : Agrees w i) (allowed : Bool) where
         unmoved-once = a .unmoved-once;
       }
 
-  allowed-outcome : perform w (Call.allowResize allowed) ≡ kept w (reply 0 [] then) []
+  allowed-outcome : perform w (Call.allowResize allowed) ≡ kept w (reply 0 [] given-it) []
   unfolding perform given calls.allowResize allowReply reply
   allowed-outcome =
       ap (λ (r : AllowAnswer). kept w (allowReply (w .state) r) [])
-      (reads-sound w (AllowAnswer.Refused Error.BadState) (λ c o. AllowAnswer.Set then) (shape-sound (a .shape)))
+      (reads-sound w (AllowAnswer.Refused Error.BadState) (λ c o. AllowAnswer.Set given-it) (shape-sound (a .shape)))
 
   pub allow-steps : (l : Lengths) → Steps w (Call.allowResize allowed) (predict l i (Call.allowResize allowed))
   unfolding predict reply kept carry carriedState world current other oriented permitted stateOf

@@ -17,17 +17,17 @@ use Rattle.model.specs.declared.Table.{Table}
 use Rattle.model.specs.Memory.{keyOf, valueOf, setLink, Place, Live}
 use Rattle.model.specs.declared.State.{State}
 use Rattle.model.specs.Answers.{Reply}
-use Rattle.model.specs.Calls.{oriented, back, changed, oldNew, emptyState, recounted}
-use Rattle.model.specs.Sequences.{World, world, ReadCall, Call, Outcome, left, perform, run, events}
+use Rattle.model.specs.Calls.{oriented, back, changed, oldNew, emptyState, recounted, permitted}
+use Rattle.model.specs.Sequences.{World, world, ReadCall, Call, Outcome, left, perform, run, Event, events}
 use Rattle.refinement.specs.Worlds.{current, UndamagedAt}
 use Rattle.refinement.specs.Demand1.{Demand1}
 use Rattle.refinement.specs.Demand2.{HandsOut, Demand2}
-use Rattle.refinement.specs.Demand3.{lengthsOf, begun, replay, Matches, SequenceHolds, Demand3}
+use Rattle.refinement.specs.Demand3.{lengthsOf, replay, Matches, SequenceHolds, Demand3}
 use Rattle.wrong_stores.specs.OneCall as one
 use Rattle.wrong_stores.specs.OneCall.{butAdd, butFind, ifDone}
 use Rattle.wrong_stores.specs.KeyCalls as wrong
 use Rattle.wrong_stores.specs.KeyCalls.{relinked, reordering, addsAtEnd, findsToFront}
-use Rattle.wrong_stores.proofs.Start.{zeros, computing, started, find, add, at, apart}
+use Rattle.wrong_stores.proofs.Start.{zeros, computing, alike, started, startedIdeal, find, add, at, apart}
 use Rattle.wrong_stores.proofs.Reordered.{SameAt, Reordered, reordered-undamaged, reordered-matches}
 use Rattle.wrong_stores.proofs.SameNumbers.{Near, near-demand1, near-done, near-keys}
 
@@ -52,7 +52,7 @@ twoKeys = add 1 10 ∷ add 2 20 ∷ []
 
 ours : World
 ours =
-    world (recounted (emptyState 1 1 3) 3 (oldNew 2 0)) (2 ∷ replicate 15 0) (replicate 16 0)
+    world (permitted (recounted (emptyState 1 1 3) 3 (oldNew 2 0)) false) (2 ∷ replicate 15 0) (replicate 16 0)
     (0 ∷ 1 ∷ 10 ∷ 1 ∷ 2 ∷ 20 ∷ 0 ∷ 0 ∷ 0 ∷ [])
 
 -- the first before the second
@@ -101,7 +101,7 @@ module _ (does : World → Call → Outcome) (calls : List Call) (left : run doe
     (seen : events does (started perform 1) calls ≡ events perform (started perform 1) calls)
     (scans : (cursor : ℕ) (lent : List ℕ) → does turned (Call.scan cursor lent) ≡ perform turned (Call.scan cursor lent))
     (looks : does turned (Call.read ReadCall.currentTable) ≡ perform turned (Call.read ReadCall.currentTable))
-    (d : Demand2 perform) (h : SequenceHolds perform (lengthsOf zeros) (started perform 1) (begun 3 1) calls) where
+    (d : Demand2 perform) (h : SequenceHolds perform (lengthsOf zeros) (started perform 1) (startedIdeal 1) calls) where
   turned-undamaged : UndamagedAt turned
   unfolding turned
   turned-undamaged = reordered-undamaged ours _ _ _ turned-reordered (rw left-ours at (h .undamaged))
@@ -112,11 +112,11 @@ module _ (does : World → Call → Outcome) (calls : List Call) (left : run doe
   turned-exact cursor lent done =
       scans cursor lent ∙ d .hands-out turned turned-undamaged cursor lent (rw scans at done)
 
-  turned-matches : Matches (lengthsOf zeros) turned (replay (lengthsOf zeros) (begun 3 1) calls)
+  turned-matches : Matches (lengthsOf zeros) turned (replay (lengthsOf zeros) (startedIdeal 1) calls)
   unfolding turned
   turned-matches = reordered-matches ours _ _ _ turned-reordered (rw left-ours at (h .matches))
 
-  turned-passes : SequenceHolds does (lengthsOf zeros) (started perform 1) (begun 3 1) calls
+  turned-passes : SequenceHolds does (lengthsOf zeros) (started perform 1) (startedIdeal 1) calls
   turned-passes =
       record {
         undamaged = rw left turned-undamaged;
@@ -127,16 +127,23 @@ module _ (does : World → Call → Outcome) (calls : List Call) (left : run doe
         look = rw (left, looks) turned-look;
       }
 
-pub addsAtEnd-passes : Demand2 perform → Demand3 perform → SequenceHolds addsAtEnd (lengthsOf zeros) (started addsAtEnd 1) (begun 3 1) twoKeys
+pub addsAtEnd-passes : Demand2 perform → Demand3 perform → SequenceHolds addsAtEnd (lengthsOf zeros) (started addsAtEnd 1) (startedIdeal 1) twoKeys
 unfolding computing addsAtEnd reordering relinked wrong.head wrong.toEnd ours turned
 addsAtEnd-passes d2 d =
     turned-passes addsAtEnd twoKeys refl refl refl (λ cursor lent. refl) refl d2 (at d 1 refl twoKeys)
 
 pub findsToFront-passes : Demand2 perform → Demand3 perform
-    → SequenceHolds findsToFront (lengthsOf zeros) (started findsToFront 1) (begun 3 1) (add 1 10 ∷ add 2 20 ∷ find 1 ∷ [])
+    → SequenceHolds findsToFront (lengthsOf zeros) (started findsToFront 1) (startedIdeal 1) (add 1 10 ∷ add 2 20 ∷ find 1 ∷ [])
 unfolding computing findsToFront reordering relinked wrong.head wrong.toFront ours turned
 findsToFront-passes d2 d =
-    turned-passes findsToFront (add 1 10 ∷ add 2 20 ∷ find 1 ∷ []) refl refl refl (λ cursor lent. refl) refl d2 (at d 1 refl _)
+    turned-passes findsToFront (add 1 10 ∷ add 2 20 ∷ find 1 ∷ []) refl refl (alike seen refl refl) (λ cursor lent. refl) refl d2
+    (at d 1 refl _)
+  where
+    answered : Call → List ℕ → Event
+    answered c values = record { call = c; number = 0; values = values; lent = [] }
+
+    seen : List Event
+    seen = answered (add 1 10) [] ∷ answered (add 2 20) [] ∷ answered (find 1) (10 ∷ []) ∷ []
 
 -- Demand 1.
 

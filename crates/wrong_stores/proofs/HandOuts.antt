@@ -10,11 +10,11 @@ use lib.Dec.{lit≤}
 use borrow.Author.Tests.{eqb-false}
 use native.Mathlib.Omega.{arith}
 use Rattle.model.specs.Sequences.{Call, perform, events}
-use Rattle.refinement.specs.Demand3.{lengthsOf, begun, Visit, Walk, Walk.over, Walk.other, Walk.onward, Walk.last, largest}
+use Rattle.refinement.specs.Demand3.{lengthsOf, Visit, Walk, Walk.over, Walk.other, Walk.onward, Walk.last, largest}
 use Rattle.refinement.specs.ExactlyOnce.{times, shrinks, least, HandOuts, ExactlyOnce}
 use Rattle.wrong_stores.specs.Walks as wrong
 use Rattle.wrong_stores.specs.Walks.{leavesOut, handsLargerTwice, startsOver, neverEnds, passesOver, upwards}
-use Rattle.wrong_stores.proofs.Start.{computing, zeros, started, room, add, walk-at}
+use Rattle.wrong_stores.proofs.Start.{computing, zeros, started, startedIdeal, room, add, walk-at}
 use Rattle.wrong_stores.proofs.Walks.{handing}
 
 -- a visit at a cursor and a smaller live size, with the keys held and those handed out
@@ -138,7 +138,7 @@ upwards-excluded-by-later d =
 abbrev pub threeTimes : List Visit
 threeTimes = zeroAt 0 4 ∷ zeroAt 2 2 ∷ zeroAt 1 1 ∷ []
 
-pub three-visits : Walk (lengthsOf zeros) 0 (begun 3 4)
+pub three-visits : Walk (lengthsOf zeros) 0 (startedIdeal 4)
     (events perform (started perform 4)
     (add 0 10 ∷ Call.scan 0 room
     ∷ Call.resize 2 ∷ Call.rehashStep ∷ Call.scan 2 room

@@ -20,7 +20,7 @@ use Rattle.refinement.proofs.HiddenSteps.{alone}
 use Rattle.wrong_stores.specs.Rehashes as rehashes
 use Rattle.wrong_stores.specs.HiddenSteps as wrong
 use Rattle.wrong_stores.specs.HiddenSteps.{addsUnmoved, deletesUnmoved, addsThenSteps, deletesThenSteps, addsAfterTwo, addsPassingOne, addStepStays, deleteStepStays, findsStepping, updatesStepping, walksStepping, looksBefore}
-use Rattle.wrong_stores.proofs.Start.{computing, started, room, find, update, add, delete, at, rehash-at, apart, neither}
+use Rattle.wrong_stores.proofs.Start.{computing, alike, started, room, find, update, add, delete, at, rehash-at, apart, neither}
 
 unfoldable stepping : Unit {0}
 unfolding computing alone rehashes.goingOn wrong.thenSteps addsThenSteps deletesThenSteps wrong.stepped wrong.alsoSteps addsUnmoved deletesUnmoved addsAfterTwo addsPassingOne addStepStays deleteStepStays findsStepping updatesStepping walksStepping looksBefore
@@ -145,4 +145,4 @@ pub ends-inside : UnderWay perform twoFilled twoFilled (add 2 12 ∷ [])
     × (answeredSteps perform twoFilled (add 2 12 ∷ []) ≡ 1)
     × (run perform twoFilled (add 2 12 ∷ delete 2 ∷ []) .state .rehashing ≡ false)
 unfolding computing
-ends-inside = (((refl, refl), (refl, refl)), refl, refl)
+ends-inside = (((refl, refl), (refl, alike false refl refl)), refl, refl)

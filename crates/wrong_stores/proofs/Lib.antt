@@ -7,6 +7,7 @@ pub mod HandOuts
 pub mod Rehashes
 pub mod StepRules
 pub mod HiddenSteps
+pub mod Growth
 pub mod ReadCalls
 pub mod Refusals
 pub mod Strays

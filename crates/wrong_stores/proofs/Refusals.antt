@@ -3,7 +3,7 @@
 -- Assumes nothing.
 use Prim.Native.Nat.{ℕ, zero, suc, _<_, _≤_}
 use mathlib.Core.Path.{_≡_, refl, ap, subst}
-use mathlib.Core.Bool.{true}
+use mathlib.Core.Bool.{true, false}
 use mathlib.Core.Logic.{inl, inr}
 use mathlib.Core.List.{List, [], _∷_}
 use lib.ListN.{getD, replicate}
@@ -110,7 +110,7 @@ overlooksDamage-excluded d =
 miscounted : World
 miscounted =
     let w = run perform (started perform 2) (add 0 10 ∷ add 1 11 ∷ []) in
-    world (stateOf true (oldNew 1 2) (oldNew 0 1) true 0 (w .state .«free_head») (w .state .capacity)) (w .first) (w .second)
+    world (stateOf true (oldNew 1 2) (oldNew 0 1) true 0 (w .state .«free_head») (w .state .capacity) false) (w .first) (w .second)
     (w .entries)
 
 -- a chain of one entry

@@ -10,11 +10,11 @@ use Rattle.model.specs.declared.Table.{Table}
 use Rattle.model.specs.Calls.{oldNew}
 use Rattle.model.specs.Sequences.{Call, Event, events}
 use Rattle.refinement.specs.Demand3 as demand3
-use Rattle.refinement.specs.Demand3.{Lengths, Ideal, lengthsOf, begun, predict, Answered, Demand3}
+use Rattle.refinement.specs.Demand3.{Lengths, Ideal, lengthsOf, predict, Answered, Demand3}
 use Rattle.wrong_stores.specs.Rehashes as wrong
 use Rattle.wrong_stores.specs.Rehashes.{cutsBuffer, stepsNowhere, countsOneMore, keepsIndex, stepsAhead, movesAll, movesQuietly}
 use Rattle.wrong_stores.specs.Walks as walks
-use Rattle.wrong_stores.proofs.Start.{computing, zeros, started, add, held, at, apart, differ, isScan, no-look, no-scan}
+use Rattle.wrong_stores.proofs.Start.{computing, zeros, started, startedIdeal, add, held, at, apart, differ, isScan, no-look, no-scan}
 
 -- `matches`, `lengths`: the buffers stay as long as they were
 pub cutsBuffer-excluded : Demand3 cutsBuffer → ⊥
@@ -98,8 +98,8 @@ plainly l i (e ∷ es) p = (
 abbrev wholeRehash : List Event
 wholeRehash = events movesQuietly (started movesQuietly 4) (threeKeys (Call.rehashStep ∷ Call.rehashStep ∷ []))
 
-pub movesQuietly-answers : Answered (lengthsOf zeros) (begun 3 4) wholeRehash
+pub movesQuietly-answers : Answered (lengthsOf zeros) (startedIdeal 4) wholeRehash
 unfolding computing movesQuietly lying Plainly
 movesQuietly-answers =
-    plainly (lengthsOf zeros) (begun 3 4) wholeRehash
+    plainly (lengthsOf zeros) (startedIdeal 4) wholeRehash
     (refl, refl, refl, (refl, refl, refl, (refl, refl, refl, (refl, refl, refl, (refl, refl, refl, (refl, refl, refl, (refl, refl, refl, tt)))))))

@@ -89,6 +89,7 @@ module _ (w : World) (first second entries : List ℕ) (r : Reordered w (world (
         tables = m .tables;
         turned = m .turned;
         index = m .index;
+        allowed = m .allowed;
         each-table = λ key value h. m .each-table key value (held-back h);
         lengths = r .lengths ∙ m .lengths;
       }

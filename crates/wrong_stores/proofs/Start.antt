@@ -24,7 +24,7 @@ use Rattle.refinement.specs.Worlds.{current, other, Held}
 use Rattle.refinement.specs.Demand1 as demand1
 use Rattle.refinement.specs.Demand2 as demand2
 use Rattle.refinement.specs.Demand3 as demand3
-use Rattle.refinement.specs.Demand3.{Demand3, SequenceHolds, lengthsOf, begun, startNumber, Visit, Walk}
+use Rattle.refinement.specs.Demand3.{Demand3, SequenceHolds, Ideal, lengthsOf, begun, startNumber, replay, Visit, Walk}
 use Rattle.refinement.specs.ExactlyOnce as once
 use Rattle.refinement.specs.ExactlyOnce.{ExactlyOnce, HandOuts}
 use Rattle.refinement.specs.RehashesEnd as ends
@@ -36,9 +36,17 @@ use Rattle.wrong_stores.specs.OneCall.{byCall, byReadCall}
 unfoldable pub zeros : World
 zeros = sequences.world calls.noState (replicate 16 0) (replicate 16 0) (replicate 9 0)
 
--- after a start of three entries and that size
+-- After a start of three entries and that size. Then growth is forbidden, so that in a history of few keys and few buckets a
+-- rehash begins where it has a resize, and else not.
+
+abbrev pub forbid : Call
+forbid = Call.allowResize false
+
 unfoldable pub started : (World → Call → Outcome) → ℕ → World
-started does size = carry zeros (does zeros (Call.init 3 size))
+started does size = run does (carry zeros (does zeros (Call.init 3 size))) (forbid ∷ [])
+
+unfoldable pub startedIdeal : ℕ → Ideal
+startedIdeal size = replay (lengthsOf zeros) (begun 3 size) (forbid ∷ [])
 
 -- a lent list with room for every key
 unfoldable pub room : List ℕ
@@ -61,39 +69,49 @@ delete key = Call.on key KeyCall.delete
 -- 1 for a look, and for a walk call; else 0
 
 unfoldable pub isLook : Call → ℕ
-isLook = byCall (λ capacity size. 0) (λ key c. 0) (λ size. 0) 0 (λ cursor lent. 0) (byReadCall (λ growing. 0) 1)
+isLook = byCall (λ capacity size. 0) (λ key c. 0) (λ size. 0) 0 (λ cursor lent. 0) (byReadCall (λ growing. 0) 1) (λ allowed. 0)
 
 unfoldable pub isScan : Call → ℕ
-isScan = byCall (λ capacity size. 0) (λ key c. 0) (λ size. 0) 0 (λ cursor lent. 1) (λ c. 0)
+isScan = byCall (λ capacity size. 0) (λ key c. 0) (λ size. 0) 0 (λ cursor lent. 1) (λ c. 0) (λ allowed. 0)
 
 -- All that a refutation computes with, opened by one name, `computing`: what a history computes with, and these.
 
 -- ours but for one call
 unfoldable pub theStores : Unit {0}
-unfolding one.none one.byCall one.byKeyCall one.byReadCall one.but one.butInit one.butOn one.butResize one.butStep one.butScan one.butRead one.butFind one.butUpdate one.butAdd one.butDelete one.butSuggestedSize one.butLook one.byNumber one.ifDone one.ifRefused one.ifDamaged one.replying one.answering one.handingBack one.listing one.leaving
+unfolding one.none one.byCall one.byKeyCall one.byReadCall one.but one.butInit one.butOn one.butResize one.butStep one.butScan one.butRead one.butAllow one.butFind one.butUpdate one.butAdd one.butDelete one.butSuggestedSize one.butLook one.byNumber one.ifDone one.ifRefused one.ifDamaged one.replying one.answering one.handingBack one.listing one.leaving
 theStores = tt
 
 -- the demands, and what they say of a world
 unfoldable pub theStatements : Unit {0}
-unfolding worlds.current worlds.other worlds.UndamagedAt worlds.takesStep demand1.BadState demand1.nth demand1.headOf demand1.ChainAt demand1.SoundChain demand1.Damaged demand1.liveTables demand1.keyPlaces demand1.OnChain demand1.KeyHeld demand1.Full demand1.FreeListDamaged demand1.EmptyFrom demand1.EndFirst demand1.StepDamaged demand1.places demand1.KeysOn demand1.TooMany demand1.GroupDamaged demand1.Short demand1.row demand1.keyRows demand1.aloneRows demand1.stepWorld demand1.onRows demand1.rows demand1.Decides demand1.Leaves demand1.keyZeros demand1.LeavesAll demand2.groupEntries demand2.nextCursor demand2.HandsOut demand3.lengthsOf demand3.ideal demand3.begun demand3.among demand3.tableOf demand3.sizeIn demand3.startNumber demand3.startAnswer demand3.keyAnswer demand3.resizeAnswer demand3.lowest demand3.afterStep demand3.stepAnswer demand3.stepsFirst demand3.onAnswer demand3.isBucket demand3.inGroup demand3.groupPairs demand3.scanAnswer demand3.readAnswer demand3.predict demand3.replay demand3.pairsIn demand3.handedOut demand3.visit demand3.Answered demand3.largest demand3.HeldAtEach demand3.keysHanded once.times once.NotShrinking once.shrinks once.least ends.Ongoing ends.UnderWay ends.isStep ends.answeredStep ends.answeredSteps ends.filledBuckets ends.mostSteps ends.Advances
+unfolding worlds.current worlds.other worlds.UndamagedAt worlds.takesStep worlds.mayGrow demand1.BadState demand1.nth demand1.headOf demand1.ChainAt demand1.SoundChain demand1.Damaged demand1.liveTables demand1.keyPlaces demand1.OnChain demand1.KeyHeld demand1.Full demand1.FreeListDamaged demand1.EmptyFrom demand1.EndFirst demand1.StepDamaged demand1.places demand1.KeysOn demand1.TooMany demand1.GroupDamaged demand1.Short demand1.row demand1.keyRows demand1.aloneRows demand1.stepWorld demand1.onRows demand1.rows demand1.Decides demand1.Leaves demand1.keyZeros demand1.LeavesAll demand2.groupEntries demand2.nextCursor demand2.HandsOut demand3.lengthsOf demand3.ideal demand3.begun demand3.among demand3.tableOf demand3.sizeIn demand3.startNumber demand3.startAnswer demand3.keyAnswer demand3.resizeAnswer demand3.lowest demand3.afterStep demand3.stepAnswer demand3.stepsFirst demand3.onAnswer demand3.grows demand3.thenGrows demand3.isBucket demand3.inGroup demand3.groupPairs demand3.scanAnswer demand3.readAnswer demand3.predict demand3.replay demand3.pairsIn demand3.handedOut demand3.visit demand3.Answered demand3.largest demand3.HeldAtEach demand3.keysHanded once.times once.NotShrinking once.shrinks once.least ends.Ongoing ends.UnderWay ends.isStep ends.answeredStep ends.answeredSteps ends.filledBuckets ends.mostSteps ends.Advances
 theStatements = tt
 
 unfoldable pub computing : Unit {0}
-unfolding zeros started room isLook isScan model.computing theStores theStatements
+unfolding zeros started startedIdeal room isLook isScan model.computing theStores theStatements
 computing = tt
 
 -- demand 3 at a history that begins with that start, for a size that it accepts
 pub at : {does : World → Call → Outcome} → Demand3 does → (size : ℕ) → startNumber (lengthsOf zeros) 3 size ≡ 0
-    → (calls : List Call) → SequenceHolds does (lengthsOf zeros) (started does size) (begun 3 size) calls
-unfolding zeros started
-at d size fits calls = d .sequence zeros 3 size (d .begins zeros 3 size ∙ fits) calls
+    → (calls : List Call) → SequenceHolds does (lengthsOf zeros) (started does size) (startedIdeal size) calls
+unfolding zeros started startedIdeal demand3.replay demand3.Answered sequences.run sequences.event sequences.events
+at d size fits calls =
+    let all = d .sequence zeros 3 size (d .begins zeros 3 size ∙ fits) (forbid ∷ calls) in
+    record {
+      undamaged = all .undamaged;
+      matches = all .matches;
+      answers = all .answers .1;
+      walks = λ visits ended w. all .walks visits ended (Walk.other w);
+      exact = all .exact;
+      look = all .look;
+    }
 
 -- and so for a walk of that history
 pub walk-at : {does : World → Call → Outcome} → ExactlyOnce does → (size : ℕ) → does zeros (Call.init 3 size) .reply .number ≡ 0
     → (calls : List Call) {visits : List Visit} {ended : Bool}
-    → Walk (lengthsOf zeros) 0 (begun 3 size) (events does (started does size) calls) visits ended → HandOuts visits ended
-unfolding started
-walk-at d size answered calls {visits} {ended} w = d .walks zeros 3 size answered calls visits ended w
+    → Walk (lengthsOf zeros) 0 (startedIdeal size) (events does (started does size) calls) visits ended → HandOuts visits ended
+unfolding started startedIdeal demand3.replay sequences.run sequences.event sequences.events
+walk-at d size answered calls {visits} {ended} w =
+    d .walks zeros 3 size answered (forbid ∷ calls) visits ended (Walk.other w)
 
 -- and for a rehash of that history, which a call begins after some others
 pub rehash-at : {does : World → Call → Outcome} → RehashesEnd does → (size : ℕ) → does zeros (Call.init 3 size) .reply .number ≡ 0
@@ -101,7 +119,11 @@ pub rehash-at : {does : World → Call → Outcome} → RehashesEnd does → (si
     → RehashEnds does (run does (started does size) (before ++ first ∷ [])) calls
 unfolding started sequences.run ends.Ongoing
 rehash-at d size answered before first resting calls =
-    d .rehashes zeros 3 size answered before first (λ on. true-not-false (sym (on .0) ∙ resting)) calls
+    d .rehashes zeros 3 size answered (forbid ∷ before) first (λ on. true-not-false (sym (on .0) ∙ resting)) calls
+
+-- Two things that are both this one: each is computed by itself.
+pub alike : {A : Type 0} (this : A) {x y : A} → x ≡ this → y ≡ this → x ≡ y
+alike this e f = e ∙ sym f
 
 -- Two things that some number tells apart; two lists, by the number at a place.
 

@@ -23,7 +23,7 @@ use Rattle.wrong_stores.specs.StepRules as wrong
 use Rattle.wrong_stores.specs.StepRules.{passesEleven, passesNine, passesOne, passesFilled, passesToEnd, endsLate, neverDone, endsAtOnce}
 use Rattle.wrong_stores.specs.Rehashes as rehashes
 use Rattle.wrong_stores.specs.Rehashes.{stepsAhead}
-use Rattle.wrong_stores.proofs.Start.{computing, started, find, add, at, rehash-at, differ, neither, must-step-damaged, no-look}
+use Rattle.wrong_stores.proofs.Start.{computing, alike, started, find, add, at, rehash-at, differ, neither, must-step-damaged, no-look}
 
 -- Demand 3, `answers`, `values`. One key in a table of 16, and a rehash to 8: the tenth bucket is in reach, the eleventh not.
 
@@ -146,7 +146,8 @@ stepsAhead-excluded-by-each-step d =
     neither (λ far. omega (arith, far .1))
     (λ (b, first, filled, is).
     let one : 1 ≡ b = omega arith in filled (subst (λ (n : ℕ). _≡_ {A = ℕ} (getD heads n 0) 0) one refl))
-    (rehash-at d 4 refl (add 0 10 ∷ add 2 12 ∷ []) (Call.resize 8) refl [] .each-step Call.rehashStep ((refl, refl), (refl, refl)) refl)
+    (rehash-at d 4 refl (add 0 10 ∷ add 2 12 ∷ []) (Call.resize 8) refl [] .each-step Call.rehashStep
+    ((refl, refl), (refl, alike false refl refl)) refl)
 
 -- .. and the buckets passed are empty
 pub passesFilled-excluded-by-each-step : RehashesEnd passesFilled → ⊥
@@ -174,4 +175,8 @@ EndsWith w most =
 pub steps-met : EndsWith twoOfTwo (twoOfTwo .state .«old_size»)
     × EndsWith lastOfSixteen (mostSteps (lastOfSixteen .state .«old_size») (filledBuckets lastOfSixteen))
 unfolding computing EndsWith
-steps-met = ((((refl, refl), (refl, refl)), refl, refl), (((refl, refl), (refl, refl)), refl, refl))
+steps-met =
+    (
+      (((refl, refl), (refl, alike false refl refl)), refl, refl),
+      (((refl, refl), (refl, alike false refl refl)), refl, refl),
+    )

@@ -6,6 +6,7 @@ pub mod Walks
 pub mod Rehashes
 pub mod StepRules
 pub mod HiddenSteps
+pub mod Growth
 pub mod ReadCalls
 pub mod Refusals
 pub mod Strays

@@ -9,13 +9,14 @@ use Rattle.model.specs.Sequences.{World, KeyCall, ReadCall, Call, Outcome, perf
 
 -- Something for each class of calls, ..
 unfoldable pub byCall : {A : Type 0} → (ℕ → ℕ → A) → (ℕ → KeyCall → A) → (ℕ → A) → A → (ℕ → List ℕ → A) → (ReadCall → A)
-    → Call → A
-byCall init on resize step scan read (Call.init capacity size) = init capacity size
-byCall init on resize step scan read (Call.on key c) = on key c
-byCall init on resize step scan read (Call.resize size) = resize size
-byCall init on resize step scan read Call.rehashStep = step
-byCall init on resize step scan read (Call.scan cursor lent) = scan cursor lent
-byCall init on resize step scan read (Call.read c) = read c
+    → (Bool → A) → Call → A
+byCall init on resize step scan read allow (Call.init capacity size) = init capacity size
+byCall init on resize step scan read allow (Call.on key c) = on key c
+byCall init on resize step scan read allow (Call.resize size) = resize size
+byCall init on resize step scan read allow Call.rehashStep = step
+byCall init on resize step scan read allow (Call.scan cursor lent) = scan cursor lent
+byCall init on resize step scan read allow (Call.read c) = read c
+byCall init on resize step scan read allow (Call.allowResize allowed) = allow allowed
 
 -- .. for each call on a key, ..
 unfoldable pub byKeyCall : {A : Type 0} → (find : ℕ → A) (update add : ℕ → ℕ → A) (delete : ℕ → A) → ℕ → KeyCall → A
@@ -42,22 +43,26 @@ but change w c = change c w (perform w c)
 
 -- of one class
 unfoldable pub butInit : (ℕ → ℕ → Change) → World → Call → Outcome
-butInit init = but (byCall init (λ key c. none) (λ size. none) none (λ cursor lent. none) (λ c. none))
+butInit init = but (byCall init (λ key c. none) (λ size. none) none (λ cursor lent. none) (λ c. none) (λ allowed. none))
 
 unfoldable pub butOn : (ℕ → KeyCall → Change) → World → Call → Outcome
-butOn on = but (byCall (λ capacity size. none) on (λ size. none) none (λ cursor lent. none) (λ c. none))
+butOn on = but (byCall (λ capacity size. none) on (λ size. none) none (λ cursor lent. none) (λ c. none) (λ allowed. none))
 
 unfoldable pub butResize : (ℕ → Change) → World → Call → Outcome
-butResize resize = but (byCall (λ capacity size. none) (λ key c. none) resize none (λ cursor lent. none) (λ c. none))
+butResize resize = but (byCall (λ capacity size. none) (λ key c. none) resize none (λ cursor lent. none) (λ c. none) (λ allowed. none))
 
 unfoldable pub butStep : Change → World → Call → Outcome
-butStep step = but (byCall (λ capacity size. none) (λ key c. none) (λ size. none) step (λ cursor lent. none) (λ c. none))
+butStep step = but (byCall (λ capacity size. none) (λ key c. none) (λ size. none) step (λ cursor lent. none) (λ c. none) (λ allowed. none))
 
 unfoldable pub butScan : (ℕ → List ℕ → Change) → World → Call → Outcome
-butScan scan = but (byCall (λ capacity size. none) (λ key c. none) (λ size. none) none scan (λ c. none))
+butScan scan = but (byCall (λ capacity size. none) (λ key c. none) (λ size. none) none scan (λ c. none) (λ allowed. none))
 
 unfoldable pub butRead : (ReadCall → Change) → World → Call → Outcome
-butRead read = but (byCall (λ capacity size. none) (λ key c. none) (λ size. none) none (λ cursor lent. none) read)
+butRead read = but (byCall (λ capacity size. none) (λ key c. none) (λ size. none) none (λ cursor lent. none) read (λ allowed. none))
+
+unfoldable pub butAllow : (Bool → Change) → World → Call → Outcome
+butAllow allow =
+    but (byCall (λ capacity size. none) (λ key c. none) (λ size. none) none (λ cursor lent. none) (λ c. none) allow)
 
 -- of one call on a key, or one that reads
 unfoldable pub butFind : (ℕ → Change) → World → Call → Outcome

@@ -2,14 +2,13 @@
 -- Assumes nothing.
 use Prim.Native.Nat.{ℕ}
 use mathlib.Core.Path.{_≡_, refl, sym, _∙_}
-use mathlib.Core.Bool.{Bool, true, false}
+use mathlib.Core.Bool.{Bool, true}
 use mathlib.Core.List.{List}
 use lib.ListN.{length}
 use Rattle.model.specs.declared.State.{State}
 use Rattle.model.specs.declared.Table.{Table}
 use Rattle.model.specs.Memory.{Place, Live, headAt, sizeOf, usedOf, bucketsOf, soundState, sum}
 use Rattle.model.specs.Calls.{stateOf, permitted}
-use Rattle.model.proofs.Soundness.{Resting, Rehashing}
 use Rattle.model.proofs.Linked.{Linked}
 use Rattle.invariant.proofs.Shape.{Shape, facts}
 use Rattle.invariant.proofs.States.{sound-again, live-kept, home-kept}

@@ -1,13 +1,13 @@
 -- An add as the call before any growth, and the resize that follows it: what the two come to, in any world.
 -- Assumes nothing.
 use Prim.Native.Nat.{ℕ, suc}
-use mathlib.Core.Path.{_≡_, refl, ap, subst, sym}
+use mathlib.Core.Path.{_≡_, refl, sym, ap}
 use mathlib.Core.Bool.{Bool, true, false, _&&_, not, cond}
 use mathlib.Core.List.{List, []}
 use Rattle.model.specs.declared.State.{State}
 use Rattle.model.specs.declared.AddAnswer.{AddAnswer}
 use Rattle.model.specs.declared.ResizeAnswer.{ResizeAnswer}
-use Rattle.model.specs.Answers.{reply, errorNumber, addReply, resizeReply}
+use Rattle.model.specs.Answers.{reply, addReply, resizeReply}
 use Rattle.model.specs.Memory.{keysHeld}
 use Rattle.model.specs.Calls.{After, suggested, growthDue, grownBy, grown, thenGrown}
 use Rattle.model.specs.Calls as calls

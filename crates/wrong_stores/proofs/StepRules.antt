@@ -175,8 +175,7 @@ EndsWith w most =
 pub steps-met : EndsWith twoOfTwo (twoOfTwo .state .«old_size»)
     × EndsWith lastOfSixteen (mostSteps (lastOfSixteen .state .«old_size») (filledBuckets lastOfSixteen))
 unfolding computing EndsWith
-steps-met =
-    (
-      (((refl, refl), (refl, alike false refl refl)), refl, refl),
-      (((refl, refl), (refl, alike false refl refl)), refl, refl),
-    )
+steps-met = (
+  (((refl, refl), (refl, alike false refl refl)), refl, refl),
+  (((refl, refl), (refl, alike false refl refl)), refl, refl),
+)

@@ -10,7 +10,6 @@ use Rattle.model.specs.Memory.{keysHeld}
 use Rattle.model.specs.Answers.{reply}
 use Rattle.model.specs.Calls.{permitted, suggested, crowded}
 use Rattle.model.specs.Sequences.{World, KeyCall, Call, Outcome, kept, perform, carry}
-use Rattle.refinement.specs.Worlds.{other}
 use Rattle.refinement.proofs.HiddenSteps.{before-growth}
 use Rattle.wrong_stores.specs.OneCall.{butInit, butAdd, butDelete, butStep, butAllow, ifDone, replying, handingBack, leaving}
 

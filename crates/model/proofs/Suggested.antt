@@ -3,17 +3,18 @@
 -- Assumes nothing.
 use Prim.Native.Nat.{ℕ, zero, suc, _+_, _*_, _^_, _≤_, _<_, max}
 use mathlib.Core.Path.{_≡_, refl, sym, ap, subst, _∙_}
-use mathlib.Core.Bool.{Bool, true, false, cond}
+use mathlib.Core.Bool.{Bool, true, false, _&&_, _||_, cond}
 use mathlib.Core.Logic.{_⊎_, inl, inr}
 use native.Mathlib.Nat.{le-max-left, le-max-right}
 use native.Mathlib.Decide.{decLt}
 use native.Mathlib.Omega.{arith}
-use lib.Dec.{leb, lit≤}
+use lib.Dec.{leb, ltb, lit≤}
 use lib.Pow.{pow-mono}
-use borrow.Author.Tests.{leb-true, leb-false}
-use Rattle.model.specs.Limits.{largestExponent, powerUpTo, legalSize, leastSuggestion}
-use Rattle.model.specs.Calls.{powerFrom, sizeFor, suggested}
+use borrow.Author.Tests.{leb-true, leb-false, ltb-true}
+use Rattle.model.specs.Limits.{largestExponent, powerUpTo, legalSize, leastSuggestion, forceRatio}
+use Rattle.model.specs.Calls.{powerFrom, sizeFor, suggested, crowded}
 use Rattle.model.proofs.Power.{of-power}
+use Rattle.model.proofs.Tests.{true-not-false}
 
 -- a power of two from 2^from to 2^to: not below n, or the last of them; and all those before it are below n
 pub record Smallest (from to n size : ℕ) : Type 0 where
@@ -92,6 +93,24 @@ pub growing-capped : (keys : ℕ) → 2 ^ largestExponent < keys * 2 → suggest
 unfolding suggested sizeFor
 growing-capped keys h =
     capped largestExponent (max leastSuggestion (keys * 2)) (omega (arith, le-max-right leastSuggestion (keys * 2)))
+
+-- Where growth is due by the keys, the suggestion is above the size, unless it is the largest one.
+pub crowded-above : (allowed : Bool) (size keys : ℕ) → 0 < size → crowded allowed size keys ≡ true
+    → (size < suggested true keys) ⊎ (suggested true keys ≡ 2 ^ largestExponent)
+unfolding crowded forceRatio
+crowded-above allowed size keys some due =
+    let s = growing-smallest keys in
+    let full = enough allowed (leb size keys) (ltb (size * forceRatio) keys) refl refl due in
+    elim (s .enough) [
+      | inl h ↦ inl (omega (arith, full, h, le-max-right leastSuggestion (keys * 2)))
+      | inr last ↦ inr (s .power ∙ ap (λ b. 2 ^ b) (omega (arith, last)))
+    ]
+  where
+    enough : (a t u : Bool) → leb size keys ≡ t → ltb (size * forceRatio) keys ≡ u → ((a && t) || u) ≡ true → size ≤ keys
+    enough a true u e f g = leb-true size keys e
+    enough a false true e f g = omega (arith, ltb-true (size * forceRatio) keys f)
+    enough true false false e f g = absurd (true-not-false (sym g))
+    enough false false false e f g = absurd (true-not-false (sym g))
 
 -- whatever the keys, a size that a resize takes, ..
 any-smallest : (growing : Bool) (keys : ℕ) → (n : ℕ) × SmallestFor n (suggested growing keys)

@@ -43,9 +43,6 @@ growth-agrees v j a l same =
     keys : ℕ
     keys = length (j .plain .pairs)
 
-    due : Bool → ℕ → ℕ → Bool
-    due allowed size n = growthDue allowed size n
-
     then : ℕ → World
     then n = carry v (perform v (Call.resize (suggested true n)))
 
@@ -63,23 +60,23 @@ growth-agrees v j a l same =
     chosen f false = a
 
     by : (f : Bool) → s .rehashing ≡ f
-        → Agrees (cond (not (s .rehashing) && due (s .«resize_allowed») (s .«old_size») (keysHeld s)) (then (keysHeld s)) v)
+        → Agrees (cond (not (s .rehashing) && growthDue (s .«resize_allowed») (s .«old_size») (keysHeld s)) (then (keysHeld s)) v)
         (grows l j (tablesBy f (s .«old_size») (s .«new_size»)))
     by true f =
         subst
         (λ (b : Bool).
-        Agrees (cond (not b && due (s .«resize_allowed») (s .«old_size») (keysHeld s)) (then (keysHeld s)) v) j)
+        Agrees (cond (not b && growthDue (s .«resize_allowed») (s .«old_size») (keysHeld s)) (then (keysHeld s)) v) j)
         (sym f) a
     by false f =
         subst
         (λ (b : Bool).
-        Agrees (cond (not b && due (s .«resize_allowed») (s .«old_size») (keysHeld s)) (then (keysHeld s)) v)
+        Agrees (cond (not b && growthDue (s .«resize_allowed») (s .«old_size») (keysHeld s)) (then (keysHeld s)) v)
         (grows l j (Tables.one (s .«old_size»))))
         (sym f)
         (subst₂
         (λ (p : Bool) (n : ℕ).
-        Agrees (cond (due p (s .«old_size») n) (then n) v) (grows l j (Tables.one (s .«old_size»))))
-        (sym (a .allowed)) (a .count) (chosen f (due (j .allowed) (s .«old_size») keys)))
+        Agrees (cond (growthDue p (s .«old_size») n) (then n) v) (grows l j (Tables.one (s .«old_size»))))
+        (sym (a .allowed)) (a .count) (chosen f (growthDue (j .allowed) (s .«old_size») keys)))
 
 -- a call answered 0 leaves the same world, whichever it was given
 carried-alike : (w v : World) (o : Outcome) → o .reply .number ≡ 0 → carry w o ≡ carry v o

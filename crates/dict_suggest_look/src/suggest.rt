@@ -2,29 +2,29 @@
 use memory::state::is_sound;
 use model::Error;
 use model::LARGEST_SIZE;
+use model::LEAST_SUGGESTION;
 use model::SizeAnswer;
 use model::State;
 ghost use mathlib.Core.Path.{_≡_};
 ghost use Rattle.model.specs.declared.Error.the-variants as why;
 ghost use Rattle.model.specs.declared.SizeAnswer.the-variants as answer;
-ghost use Rattle.model.specs.Limits.{largestExponent};
 ghost use Rattle.model.specs.Memory.{keysHeld};
 ghost use Rattle.model.specs.Calls as calls;
 ghost use Rattle.model.proofs.Soundness.{Counted};
 
-// The smallest power of two that is not below n, and never above the largest size.
+// The smallest power of two that is not below n, from the least suggestion up to the largest size.
 fn size_for(n: u32) -> u32
-    ensures { λ r. ⌜ r ≡ calls.powerFrom 0 largestExponent n ⌝ }
+    ensures { λ r. ⌜ r ≡ calls.sizeFor n ⌝ }
 {
-    let mut size: u32 = 1;
+    let mut size: u32 = LEAST_SUGGESTION;
     while (size < n) & (size < LARGEST_SIZE) {
         size *= 2;
     }
     size
 }
 
-// For the keys that both tables hold, which the capacity bounds.
-fn suggest_for(s: State, growing: bool) -> u32
+// For the keys that both tables hold, which the capacity bounds. It is the call's own size, and that of a table which grows.
+pub fn suggest_for(s: State, growing: bool) -> u32
     requires { ⌜ Counted s ⌝ }
     ensures { λ r. ⌜ r ≡ calls.suggested growing (keysHeld s) ⌝ }
 {

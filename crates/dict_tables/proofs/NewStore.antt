@@ -1,7 +1,7 @@
 -- A new store from its parts.
 -- Assumes nothing.
 use Prim.Native.Nat.{ℕ, _*_}
-use mathlib.Core.Path.{_≡_}
+use mathlib.Core.Path.{_≡_, ap}
 use mathlib.Core.Bool.{Bool, true, false, _&&_}
 use mathlib.Core.List.{List, _++_}
 use lib.ListN.{length, drop}
@@ -10,7 +10,13 @@ use Rattle.model.specs.declared.State.{State}
 use Rattle.model.specs.declared.Error.{Error}
 use Rattle.model.specs.declared.InitAnswer.{InitAnswer}
 use Rattle.model.specs.Limits.{legalCapacity, legalSize}
-use Rattle.model.specs.Calls.{After, cleared, freeEntries, emptyState, noState, longEnough, init}
+use Rattle.model.specs.Memory.{sizeOf, usedOf}
+use Rattle.model.specs.Calls.{After, stateOf, oldNew, emptyState, permitted, cleared, freeEntries, noState, longEnough, init}
+
+-- the state of zeros, from that of an empty table
+pub not-allowed : (s : State) → s ≡ emptyState 0 0 0 → permitted s false ≡ noState
+unfolding permitted emptyState noState stateOf oldNew sizeOf usedOf
+not-allowed s e = ap (λ (t : State). permitted t false) e
 
 module _ (first second entries : List ℕ) (capacity size : ℕ) (legal : Bool) (l : legal ≡ legalSize size) where
   pub refused-limits : (t : State) → (legalCapacity capacity && legal) ≡ false → t ≡ noState

@@ -28,7 +28,7 @@ fn link_free(entries: &mut [u32], capacity: u32)
     }
 }
 
-// The state of one table with no keys.
+// The state of one table with no keys, which may grow.
 fn empty_state(size: u32, free_head: u32, capacity: u32) -> State
     ensures { λ r. ⌜ r ≡ calls.emptyState size «free_head» capacity ⌝ }
 {
@@ -42,6 +42,7 @@ fn empty_state(size: u32, free_head: u32, capacity: u32) -> State
         rehash_index: 0,
         free_head,
         capacity,
+        resize_allowed: true,
     }
 }
 
@@ -49,7 +50,9 @@ fn empty_state(size: u32, free_head: u32, capacity: u32) -> State
 pub fn no_state() -> State
     ensures { λ r. ⌜ r ≡ calls.noState ⌝ }
 {
-    empty_state(0, 0, 0)
+    let mut n = empty_state(0, 0, 0);
+    n.resize_allowed = false;
+    n
 }
 
 pub fn init(

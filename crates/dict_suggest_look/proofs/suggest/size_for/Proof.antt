@@ -1,9 +1,9 @@
--- `dict_suggest_look::suggest::size_for` meets its contract: the size so far is a power of two, and the search from it is
--- the search from 1.
+-- `dict_suggest_look::suggest::size_for` meets its contract: the size so far is a power of two, and the search from it comes
+-- to the size for n.
 -- Assumes nothing.
 use Prim.Native.Nat.{_-_}
 use native.Mathlib.Omega.{arith}
-use Rattle.model.specs.Limits.{largestExponent}
+use Rattle.model.specs.Limits.{largestExponent, leastSuggestion}
 use Rattle.dict_suggest_look.proofs.Doubling.{Doubling, below-first, below-second, doubling-start, doubling-some, doubling-next, doubling-done}
 use Rattle.dict_suggest_look.proofs.suggest.size_for.Statement.{statement}
 use Rattle.dict_suggest_look.proofs.suggest.size_for.Tie as tie
@@ -15,6 +15,7 @@ abbrev μ-loop : tie.MeasureT-loop
 μ-loop n size₀ size = n - size
 
 loop-holds : tie.Need-loop-holds Inv-loop μ-loop
+unfolding leastSuggestion
 loop-holds c = search doubling-start
 
 mul-size : tie.Need-mul-size Inv-loop μ-loop

@@ -14,7 +14,7 @@ use Rattle.model.specs.declared.Lookup.{Lookup}
 use Rattle.model.specs.declared.AddAnswer.{AddAnswer}
 use Rattle.model.specs.Keys.{bucketOf}
 use Rattle.model.specs.Memory.{linkOf, setEntry, sizeOf, bucketsOf, keysHeld}
-use Rattle.model.specs.Calls.{After, changed, lookup, push, pushed, takeable, target, added, addAlone, isAdded, add}
+use Rattle.model.specs.Calls.{After, changed, lookup, push, pushed, takeable, target, added, addAlone, isAdded, addAfterStep}
 use Rattle.model.proofs.Soundness.{Sound, Counted, tells-sound, tested-counts}
 use Rattle.model.proofs.Tests.{told}
 use Rattle.memory.specs.Lent.{soundLent}
@@ -96,20 +96,20 @@ module _ (s : State) (current other entries : List ℕ) (key value : ℕ) (r : P
 
 module _ (s : State) (first second entries : List ℕ) (key value : ℕ) (a : AddAnswer) (x y e : List ℕ)
     (h : soundLent (length first) (length second) (length entries) s ≡ true) (rests : s .rehashing ≡ false) where
-  alone : (r : After AddAnswer) → r ≡ addAlone s first second entries key value → r ≡ add s first second entries key value
-  unfolding add
+  alone : (r : After AddAnswer) → r ≡ addAlone s first second entries key value → r ≡ addAfterStep s first second entries key value
+  unfolding addAfterStep
   alone r p = first-resting AddAnswer.Refused isAdded (λ t x y z. addAlone t x y z key value) s first second entries r rests p
 
   pub added-first : s .«second_is_current» ≡ false
       → After.after a x y e ≡ added s first second entries key value (lookup s first second entries key)
-      → After.after a x y e ≡ add s first second entries key value
+      → After.after a x y e ≡ addAfterStep s first second entries key value
   unfolding addAlone
   added-first f p =
       alone _ (writing-sound s first second entries true (sym h) _ _ _ refl (written-first _ _ first second _ x y e f p))
 
   pub added-second : s .«second_is_current» ≡ true
       → After.after a x y e ≡ added s second first entries key value (lookup s second first entries key)
-      → After.after a y x e ≡ add s first second entries key value
+      → After.after a y x e ≡ addAfterStep s first second entries key value
   unfolding addAlone
   added-second f p =
       alone _ (writing-sound s first second entries true (sym h) _ _ _ refl (written-second _ _ first second _ x y e f p))
@@ -122,8 +122,8 @@ counted s first second entries t e h = tested-counts s _ _ entries t e h
 
 pub add-unsound : (s : State) (first second entries : List ℕ) (key value : ℕ) (t : Bool)
     → t ≡ soundLent (length first) (length second) (length entries) s → t ≡ false
-    → After.after (AddAnswer.Refused Error.BadState) first second entries ≡ add s first second entries key value
-unfolding add addAlone
+    → After.after (AddAnswer.Refused Error.BadState) first second entries ≡ addAfterStep s first second entries key value
+unfolding addAfterStep addAlone
 add-unsound s first second entries key value t e f =
     first-unsound AddAnswer.Refused isAdded (λ t x y z. addAlone t x y z key value) s first second entries t e f
     (writing-refused s first second entries t e _ _ f)

@@ -15,7 +15,7 @@ use Rattle.model.specs.declared.AddAnswer.{AddAnswer}
 use Rattle.model.specs.declared.StepAnswer.{StepAnswer}
 use Rattle.model.specs.Keys.{bucketOf}
 use Rattle.model.specs.Memory.{linkOf, setEntry, sizeOf, bucketsOf, keysHeld, soundState}
-use Rattle.model.specs.Calls.{After, sound, oriented, checked, back, changed, stateOf, oldNew, retabled, pushed, target, takeable, addAlone, advanced, finished, settled, stepDone, stepped, rehashStep, isAdded, add}
+use Rattle.model.specs.Calls.{After, sound, oriented, checked, back, changed, stateOf, oldNew, retabled, pushed, target, takeable, addAlone, advanced, finished, settled, stepDone, stepped, rehashStep, isAdded, addAfterStep}
 use Rattle.model.proofs.Soundness.{Sound, Counted, sound-test}
 use Rattle.model.proofs.StepLeaves.{Follows, StepLeaves, step-leaves}
 use Rattle.memory.specs.Lent.{soundLent}
@@ -104,7 +104,7 @@ module _ (s : State) (current other entries : List ℕ) (key value : ℕ) where
       → ((t : State) (z : List ℕ) (l : Lookup) → Follows s t → z ≡ entriesAfter (stepOf s current other entries) → v ≡ presence l
       → addAnswer t z l ≡ AddAnswer.Refused error)
       → After.after (AddAnswer.Refused error) current other entries ≡ addMoving s current other entries key value
-  unfolding addMoving add isAdded presenceThen
+  unfolding addMoving addAfterStep isAdded presenceThen
   refuses-with h e v k error damaged each =
       lent-back (s .«second_is_current») (AddAnswer.Refused error) current other entries
       ∙ ap (back (s .«second_is_current»))
@@ -334,7 +334,7 @@ module _ (s : State) (current other entries : List ℕ) (key value link : ℕ) (
         → b ≡ set o (bucketOf key (s .«new_size»)) (s .«free_head»)
         → w ≡ setEntry z (s .«free_head») (getD o (bucketOf key (s .«new_size»)) 0) key value
         → After.after (AddAnswer.Added u) c b w ≡ addMoving s current other entries key value
-    unfolding addMoving movedState add isAdded
+    unfolding addMoving movedState addAfterStep isAdded
     add-taken u b w ue be we =
         let f = s .«second_is_current» in
         let here : After.after (AddAnswer.Added u) c b w ≡ back f (pushedLent t x y z key value) =
@@ -351,14 +351,14 @@ module _ (s : State) (current other entries : List ℕ) (key value link : ℕ) (
 
 module _ (s : State) (first second entries : List ℕ) (key value : ℕ) (a : AddAnswer) (x y z : List ℕ) where
   pub moving-first : s .«second_is_current» ≡ false → After.after a x y z ≡ addMoving s first second entries key value
-      → After.after a x y z ≡ add s first second entries key value
+      → After.after a x y z ≡ addAfterStep s first second entries key value
   unfolding addMoving oriented back
   moving-first f h =
-      h ∙ ap (λ (g : Bool). back g (add s (firstOf g first second) (secondOf g first second) entries key value)) f
+      h ∙ ap (λ (g : Bool). back g (addAfterStep s (firstOf g first second) (secondOf g first second) entries key value)) f
 
   pub moving-second : s .«second_is_current» ≡ true → After.after a x y z ≡ addMoving s second first entries key value
-      → After.after a y x z ≡ add s first second entries key value
+      → After.after a y x z ≡ addAfterStep s first second entries key value
   unfolding addMoving oriented back
   moving-second f h =
-      ap (back true) (h ∙ ap (λ (g : Bool). back g (add s (firstOf g second first) (secondOf g second first) entries key value)) f)
-      ∙ twice-back true (add s first second entries key value)
+      ap (back true) (h ∙ ap (λ (g : Bool). back g (addAfterStep s (firstOf g second first) (secondOf g second first) entries key value)) f)
+      ∙ twice-back true (addAfterStep s first second entries key value)

@@ -9,7 +9,7 @@ use Rattle.model.specs.declared.State.{State}
 use Rattle.model.specs.declared.AddAnswer.{AddAnswer}
 use Rattle.model.specs.declared.StepAnswer.{StepAnswer}
 use Rattle.model.specs.Memory.{linkOf}
-use Rattle.model.specs.Calls.{After, oriented, back, target, advanced, settled, stepped, add}
+use Rattle.model.specs.Calls.{After, oriented, back, target, advanced, settled, stepped, addAfterStep}
 use Rattle.model.proofs.Soundness.{Sound}
 use Rattle.after_step.specs.declared.presence.Presence.{Presence}
 use Rattle.after_step.specs.Presence.{presenceThen, entriesAfter}
@@ -25,7 +25,7 @@ secondOf second current other = oriented second (λ x y. y) current other
 unfoldable pub addMoving : State → List ℕ → List ℕ → List ℕ → ℕ → ℕ → After AddAnswer
 addMoving s current other entries key value =
     back (s .«second_is_current»)
-    (add s (firstOf (s .«second_is_current») current other) (secondOf (s .«second_is_current») current other) entries key value)
+    (addAfterStep s (firstOf (s .«second_is_current») current other) (secondOf (s .«second_is_current») current other) entries key value)
 
 -- the state once so many keys have moved, that bucket is the next one, and the free list begins with its former second entry
 unfoldable pub movedState : State → ℕ → ℕ → ℕ → State

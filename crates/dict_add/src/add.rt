@@ -1,7 +1,7 @@
-// Add a key that is not held (SPECIFICATION, "Add"). It is a timed call: the state is tested on the lent lengths, then whether
-// a rehash is under way, then which buffer is current. With no rehash there are functions of numbers below that. During one a
-// step comes first ("The step that comes first"), and all that can refuse is asked before it; `add_moving` has two callers, and
-// so stays a call of its own, off the quick path.
+// Add a key that is not held (SPECIFICATION, "Add"), before any growth. It is a timed call: the state is tested on the lent
+// lengths, then whether a rehash is under way, then which buffer is current. With no rehash there are functions of numbers below
+// that. During one a step comes first ("The step that comes first"), and all that can refuse is asked before it; `add_moving`
+// has two callers, and so stays a call of its own, off the quick path.
 use after_step::link::link_after_step;
 use after_step::presence::Presence;
 use after_step::presence::presence_in;
@@ -124,7 +124,7 @@ fn push_resting(
     requires { ⌜ soundLent (length (now first)) (length (now second)) (length (now entries)) s ≡ true ⌝ }
     requires { ⌜ s .rehashing ≡ false ⌝ }
     ensures { λ r. ⌜ after (pushAnswer s r) (now (first .exit)) (now (second .exit)) (now (entries .exit))
-        ≡ calls.add s (now (first .entry)) (now (second .entry)) (now (entries .entry)) key value ⌝ }
+        ≡ calls.addAfterStep s (now (first .entry)) (now (second .entry)) (now (entries .entry)) key value ⌝ }
 {
     if s.second_is_current {
         push_one(
@@ -291,7 +291,7 @@ fn add_rehashing(
     requires { ⌜ soundLent (length (now first)) (length (now second)) (length (now entries)) s ≡ true ⌝ }
     requires { ⌜ s .rehashing ≡ true ⌝ }
     ensures { λ r. ⌜ after r (now (first .exit)) (now (second .exit)) (now (entries .exit))
-        ≡ calls.add s (now (first .entry)) (now (second .entry)) (now (entries .entry)) key value ⌝ }
+        ≡ calls.addAfterStep s (now (first .entry)) (now (second .entry)) (now (entries .entry)) key value ⌝ }
 {
     if s.second_is_current {
         add_moving(second, first, entries, s, key, value)
@@ -300,7 +300,8 @@ fn add_rehashing(
     }
 }
 
-pub fn add(
+// With the step that comes first, and without the growth that may follow.
+pub fn add_after_step(
     first: &mut [u32],
     second: &mut [u32],
     entries: &mut [u32],
@@ -309,7 +310,7 @@ pub fn add(
     value: u32,
 ) -> AddAnswer
     ensures { λ r. ⌜ after r (now (first .exit)) (now (second .exit)) (now (entries .exit))
-        ≡ calls.add s (now (first .entry)) (now (second .entry)) (now (entries .entry)) key value ⌝ }
+        ≡ calls.addAfterStep s (now (first .entry)) (now (second .entry)) (now (entries .entry)) key value ⌝ }
 {
     if is_sound_lent(first.len(), second.len(), entries.len(), s) {
         if s.rehashing {

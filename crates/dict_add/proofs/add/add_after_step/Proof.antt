@@ -1,13 +1,14 @@
--- `dict_add::add::add` meets its contract: a rehash is under way, or the answer is made of what happened to the buffers.
+-- `dict_add::add::add_after_step` meets its contract: a rehash is under way, or the answer is made of what happened to the
+-- buffers.
 -- Assumes nothing.
 use borrow.Author.Needs.{needs}
 use Rattle.memory.proofs.Tested.{tested-lent}
 use Rattle.dict_add.proofs.Adding.{counted, add-unsound, add-refused, add-done}
-use Rattle.dict_add.proofs.add.add.Statement.{statement}
-use Rattle.dict_add.proofs.add.add.Tie as tie
+use Rattle.dict_add.proofs.add.add_after_step.Statement.{statement}
+use Rattle.dict_add.proofs.add.add_after_step.Tie as tie
 
-pub add-spec : {M : Type 1} → statement M
-add-spec =
+pub add-after-step-spec : {M : Type 1} → statement M
+add-after-step-spec =
     tie.close
     (tie.spec
     (λ c κs. search needs)

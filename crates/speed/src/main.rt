@@ -3,8 +3,8 @@
 // - `A`: each round starts the store anew and adds every key;
 // - `F`: each round finds every key, in another order than they were added;
 // - `W`: each round walks the whole store, from cursor 0 to cursor 0;
-// - `M`: each round starts the store anew with half as many buckets as keys (one at least) and adds half of the keys, then
-//   begins a rehash to as many buckets as keys, and adds a quarter of the keys during it;
+// - `M`: each round starts the store anew with half as many buckets as keys (one at least) and adds half of the keys, the
+//   last of which begins a rehash to as many buckets as keys, and adds a quarter of the keys during it;
 // - `H`: the same without that quarter, so that the difference of the two is what adds during a rehash cost.
 // The number of keys, a power of two, is the store's capacity and, but for `M` and `H`, the size of its table.
 // It writes one line, a sum over what the calls answered, which two programs that do the same work have in common.

@@ -8,8 +8,8 @@ use crate::keys::path_of;
 use crate::order::ORDER_ROOM;
 use crate::order::Order;
 use crate::order::Work;
-use dict_add::add::add;
 use dict_find_update::find::find;
+use dict_grow::add::add;
 use dict_scan::scan::scan;
 use dict_tables::init::init;
 use dict_tables::resize::resize;
@@ -39,7 +39,8 @@ fn new_store(
     }
 }
 
-// The same store at the start of a rehash to a table of that size.
+// The same store at the start of a rehash to a table of that size. A store whose last add began it by itself refuses, and
+// stays as it is: so it is with half of four keys or more; with fewer the buffer is too short for the suggested size.
 fn begin_rehash(
     first: &mut [u32],
     second: &mut [u32],
@@ -60,7 +61,7 @@ fn wide(b: u8) -> u32 {
 
 // The same state, since the padding behind an order is 0: but no compiler knows that, so none can drop a test of a state
 // whose start, or whose rehash's start, it has seen. Where a caller keeps the state between calls none could either. Each
-// field has a byte of its own: one for all would tell the compiler that the two flags are equal.
+// field has a byte of its own: one for all would tell the compiler that the flags are equal.
 fn hide(s: State, padding: &[u8; ORDER_ROOM]) -> State {
     State {
         second_is_current: s.second_is_current ^ (padding[32] != 0),
@@ -72,6 +73,7 @@ fn hide(s: State, padding: &[u8; ORDER_ROOM]) -> State {
         rehash_index: s.rehash_index ^ wide(padding[38]),
         free_head: s.free_head ^ wide(padding[39]),
         capacity: s.capacity ^ wide(padding[40]),
+        resize_allowed: s.resize_allowed ^ (padding[41] != 0),
     }
 }
 

@@ -8,13 +8,7 @@ ghost use Rattle.model.specs.declared.Error.the-variants as why;
 ghost use Rattle.model.specs.declared.AllowAnswer.the-variants as answer;
 ghost use Rattle.model.specs.Calls as calls;
 
-fn allow_in(
-    current: &[u32],
-    other: &[u32],
-    entries: &[u32],
-    s: State,
-    allowed: bool,
-) -> AllowAnswer
+fn allow_in(current: &[u32], other: &[u32], entries: &[u32], s: State, allowed: bool) -> AllowAnswer
     ensures { λ r. ⌜ r ≡ calls.checked s (now (entries .entry)) (λ c o. answer.Refused why.BadState)
         (λ c o. answer.Set (calls.permitted s allowed)) (now (current .entry)) (now (other .entry)) ⌝ }
 {

@@ -41,11 +41,11 @@ unfolding sizeFor powerFrom leastSuggestion largestExponent
 from-least n =
     elim (decLt leastSuggestion n) [
       | yes more ↦
-        let whole : max leastSuggestion n ≡ n = max-eq-right (omega arith) in
-        rw (whole, lt-leb n 1 (omega arith), lt-leb n 2 (omega arith))
+          let whole : max leastSuggestion n ≡ n = max-eq-right (omega arith) in
+          rw (whole, lt-leb n 1 (omega arith), lt-leb n 2 (omega arith))
       | no less ↦
-        let whole : max leastSuggestion n ≡ leastSuggestion = max-eq-left (omega arith) in
-        rw (whole, le-leb n 4 (omega arith))
+          let whole : max leastSuggestion n ≡ leastSuggestion = max-eq-left (omega arith) in
+          rw (whole, le-leb n 4 (omega arith))
     ]
 
 pub doubling-start : (n : ℕ) → Doubling largestExponent n leastSuggestion

@@ -1,10 +1,9 @@
--- The smallest power of two that is not below a number, found by doubling from the least one that is suggested.
+-- The smallest power of two that is not below a number, found by doubling; and the size that is suggested for one.
 -- Assumes nothing.
-use Prim.Native.Nat.{ℕ, zero, suc, _+_, _*_, _^_, _≤_, _<_, max}
-use mathlib.Core.Path.{_≡_, refl, ap, _∙_}
+use Prim.Native.Nat.{ℕ, zero, suc, _+_, _*_, _^_, _≤_, _<_}
+use mathlib.Core.Path.{_≡_, refl, sym, ap, _∙_}
 use mathlib.Core.Bool.{true, false, _&&_}
 use native.Mathlib.Nat.{pow-suc, max-eq-left, max-eq-right}
-use native.Mathlib.Decide.{decLt}
 use native.Mathlib.Omega.{arith}
 use lib.Dec.{ltb}
 use lib.Pow.{pow-pos, pow-lt}
@@ -13,13 +12,13 @@ use Rattle.model.specs.Limits.{largestExponent, leastSuggestion}
 use Rattle.model.specs.Calls.{powerFrom, sizeFor}
 use Rattle.model.proofs.Tests.{Tells, told, told-not, tells, tells-and}
 
--- the size so far is a power, and the search from it comes to the size for n; e is the largest exponent
+-- the size so far is a power, and the search from it is the search from 1; e is the largest exponent
 pub record Doubling (e n size : ℕ) : Type 0 where
   pub exponent : ℕ
   pub left : ℕ
   pub in-range : exponent + left ≡ e
   pub power : size ≡ 2 ^ exponent
-  pub same : powerFrom exponent left n ≡ sizeFor n
+  pub same : powerFrom exponent left n ≡ powerFrom 0 e n
 
 -- both halves of the loop's test
 tells-below : (a b c : ℕ) → Tells ((a < b) × (a < c)) (ltb a b && ltb a c)
@@ -35,28 +34,14 @@ below-second a b c t = told (tells-below a b c) t .1
 not-below : (a b c : ℕ) → a < c → (ltb a b && ltb a c) ≡ false → b ≤ a
 not-below a b c l t = let none : a < b → ⊥ = λ h. told-not (tells-below a b c) t (h, l) in omega arith
 
--- the least suggestion is 2 ^ 2, and a search from 1 passes the two powers below it
-from-least : (n : ℕ) → powerFrom 2 14 n ≡ sizeFor n
-unfolding sizeFor powerFrom leastSuggestion largestExponent
-from-least n =
-    elim (decLt leastSuggestion n) [
-      | yes more ↦
-          let whole : max leastSuggestion n ≡ n = max-eq-right (omega arith) in
-          rw (whole, lt-leb n 1 (omega arith), lt-leb n 2 (omega arith))
-      | no less ↦
-          let whole : max leastSuggestion n ≡ leastSuggestion = max-eq-left (omega arith) in
-          rw (whole, le-leb n 4 (omega arith))
-    ]
-
-pub doubling-start : (n : ℕ) → Doubling largestExponent n leastSuggestion
-unfolding leastSuggestion largestExponent
-doubling-start n = record { exponent = 2; left = 14; in-range = refl; power = refl; same = from-least n }
+pub doubling-start : (e n : ℕ) → Doubling e n 1
+doubling-start e n = record { exponent = 0; left = e; in-range = omega arith; power = refl; same = refl }
 
 pub doubling-some : (e n size : ℕ) → Doubling e n size → 0 < size
 doubling-some e n size h = rw (h .power) (pow-pos (h .exponent))
 
 module _ (e n : ℕ) where
-  next-power : (x left size : ℕ) → x + left ≡ e → size ≡ 2 ^ x → powerFrom x left n ≡ sizeFor n → size < n
+  next-power : (x left size : ℕ) → x + left ≡ e → size ≡ 2 ^ x → powerFrom x left n ≡ powerFrom 0 e n → size < n
       → size < 2 ^ e → Doubling e n (size * 2)
   unfolding powerFrom
   next-power x zero size r p q l m = let same : x ≡ e = omega arith in absurd (omega (arith, ap (λ (k : ℕ). 2 ^ k) same))
@@ -69,8 +54,8 @@ module _ (e n : ℕ) where
         same = rw (lt-leb n (2 ^ x) (rw p at l)) at q;
       }
 
-  last-power : (x left size : ℕ) → x + left ≡ e → size ≡ 2 ^ x → powerFrom x left n ≡ sizeFor n
-      → (ltb size n && ltb size (2 ^ e)) ≡ false → size ≡ sizeFor n
+  last-power : (x left size : ℕ) → x + left ≡ e → size ≡ 2 ^ x → powerFrom x left n ≡ powerFrom 0 e n
+      → (ltb size n && ltb size (2 ^ e)) ≡ false → size ≡ powerFrom 0 e n
   unfolding powerFrom
   last-power x zero size r p q t = p ∙ q
   last-power x (suc left) size r p q t =
@@ -84,6 +69,16 @@ doubling-next e n size h t =
     (below-second size n (2 ^ e) t)
 
 pub doubling-done : (e n size : ℕ) → Doubling e n size → (ltb size n && ltb size (2 ^ e)) ≡ false
-    → size ≡ sizeFor n
+    → size ≡ powerFrom 0 e n
 doubling-done e n size h t =
     last-power e n (h .exponent) (h .left) size (h .in-range) (h .power) (h .same) t
+
+-- The size for a number, from the power for the larger of it and the least suggestion.
+
+pub least-for : (n size : ℕ) → n < leastSuggestion → size ≡ powerFrom 0 largestExponent leastSuggestion → size ≡ sizeFor n
+unfolding sizeFor
+least-for n size l e = e ∙ ap (powerFrom 0 largestExponent) (sym (max-eq-left (omega arith)))
+
+pub size-for : (n size : ℕ) → leastSuggestion ≤ n → size ≡ powerFrom 0 largestExponent n → size ≡ sizeFor n
+unfolding sizeFor
+size-for n size l e = e ∙ ap (powerFrom 0 largestExponent) (sym (max-eq-right l))

@@ -8,19 +8,31 @@ use model::State;
 ghost use mathlib.Core.Path.{_≡_};
 ghost use Rattle.model.specs.declared.Error.the-variants as why;
 ghost use Rattle.model.specs.declared.SizeAnswer.the-variants as answer;
+ghost use Rattle.model.specs.Limits.{largestExponent};
 ghost use Rattle.model.specs.Memory.{keysHeld};
 ghost use Rattle.model.specs.Calls as calls;
 ghost use Rattle.model.proofs.Soundness.{Counted};
 
-// The smallest power of two that is not below n, from the least suggestion up to the largest size.
-fn size_for(n: u32) -> u32
-    ensures { λ r. ⌜ r ≡ calls.sizeFor n ⌝ }
+// The smallest power of two that is not below n, and never above the largest size.
+fn power_for(n: u32) -> u32
+    ensures { λ r. ⌜ r ≡ calls.powerFrom 0 largestExponent n ⌝ }
 {
-    let mut size: u32 = LEAST_SUGGESTION;
+    let mut size: u32 = 1;
     while (size < n) & (size < LARGEST_SIZE) {
         size *= 2;
     }
     size
+}
+
+// The same, but no size below the least suggestion.
+fn size_for(n: u32) -> u32
+    ensures { λ r. ⌜ r ≡ calls.sizeFor n ⌝ }
+{
+    if n < LEAST_SUGGESTION {
+        power_for(LEAST_SUGGESTION)
+    } else {
+        power_for(n)
+    }
 }
 
 // For the keys that both tables hold, which the capacity bounds. It is the call's own size, and that of a table which grows.

@@ -1,36 +1,18 @@
--- `dict_suggest_look::suggest::size_for` meets its contract: the size so far is a power of two, and the search from it comes
--- to the size for n.
+-- `dict_suggest_look::suggest::size_for` meets its contract: the larger of the number and the least suggestion is asked for.
 -- Assumes nothing.
-use Prim.Native.Nat.{_-_}
-use native.Mathlib.Omega.{arith}
-use Rattle.model.specs.Limits.{largestExponent, leastSuggestion}
-use Rattle.dict_suggest_look.proofs.Doubling.{Doubling, below-first, below-second, doubling-start, doubling-some, doubling-next, doubling-done}
+use borrow.Author.Needs.{needs}
+use Rattle.model.specs.Limits.{leastSuggestion}
+use Rattle.dict_suggest_look.proofs.Doubling.{least-for, size-for}
 use Rattle.dict_suggest_look.proofs.suggest.size_for.Statement.{statement}
 use Rattle.dict_suggest_look.proofs.suggest.size_for.Tie as tie
 
-abbrev Inv-loop : tie.InvT-loop
-Inv-loop n size₀ size = Doubling largestExponent n size
-
-abbrev μ-loop : tie.MeasureT-loop
-μ-loop n size₀ size = n - size
-
-loop-holds : tie.Need-loop-holds Inv-loop μ-loop
+returns : tie.Need-returns
 unfolding leastSuggestion
-loop-holds c = search doubling-start
+returns c = search least-for
 
-mul-size : tie.Need-mul-size Inv-loop μ-loop
-mul-size c = omega (arith, below-second)
-
-loop-less : tie.Need-loop-less Inv-loop μ-loop
-loop-less c = omega (arith, below-first, doubling-some)
-
-loop-again : tie.Need-loop-again Inv-loop μ-loop
-unfolding largestExponent
-loop-again c = search doubling-next
-
-returns : tie.Need-returns Inv-loop μ-loop
-unfolding largestExponent
-returns c = search doubling-done
+returns-2 : tie.Need-returns-2
+unfolding leastSuggestion
+returns-2 c = search size-for
 
 pub size-for-spec : {M : Type 1} → statement M
-size-for-spec = tie.close (tie.spec Inv-loop μ-loop loop-holds mul-size loop-less loop-again returns)
+size-for-spec = tie.close (tie.spec (λ c κs. search needs) (λ c κs. search needs) returns returns-2)

@@ -25,46 +25,55 @@ pub forced-fits : (size : ℕ) → legalSize size ≡ true → size * forceRatio
 unfolding legalSize largestExponent forceRatio
 forced-fits size h = let q = power-of largestExponent size h in omega (arith, pow-mono (q .1))
 
--- the code's two tests are the definition's
+-- there is one table, and it is crowded
+abbrev oneCrowded : State → Bool
+oneCrowded s = not (s .rehashing) && crowded (s .«resize_allowed») (s .«old_size») (keysHeld s)
+
+-- by that test, the size that the table should have
+pub wanted : (s : State) (t full : Bool) (size : ℕ) → t ≡ crowded (s .«resize_allowed») (s .«old_size») (keysHeld s)
+    → (not (s .rehashing) && t) ≡ full → size ≡ cond full (suggested true (keysHeld s)) (s .«old_size»)
+    → size ≡ cond (oneCrowded s) (suggested true (keysHeld s)) (s .«old_size»)
+wanted s t full size e f h = rw (← e, f) h
+
+-- ---- the resize
+
+-- what it answers, as an add's answer
+module _ (s : State) (a : ResizeAnswer) (x y z : List ℕ) (meant : After ResizeAnswer) (e : After.after a x y z ≡ meant) where
+  pub begun : (t : State) → a ≡ ResizeAnswer.Resized t → After.after (AddAnswer.Added t) x y z ≡ grownBy s meant
+  unfolding grownBy
+  begun t d = ap (grownBy s) (rw d at e)
+
+  pub not-begun : (error : Error) → a ≡ ResizeAnswer.Refused error → After.after (AddAnswer.Added s) x y z ≡ grownBy s meant
+  unfolding grownBy
+  not-begun error d = ap (grownBy s) (rw d at e)
+
+-- it begins where the wanted size is above the present one: the definition's two tests
 module _ (s : State) (first second entries : List ℕ) where
-  by-tests : (full larger : Bool) → (not (s .rehashing) && crowded (s .«resize_allowed») (s .«old_size») (keysHeld s)) ≡ full
-      → ltb (s .«old_size») (suggested true (keysHeld s)) ≡ larger
+  by-tests : (full larger : Bool) → oneCrowded s ≡ full → ltb (s .«old_size») (suggested true (keysHeld s)) ≡ larger
       → cond (full && larger) (grownBy s (resize s first second entries (suggested true (keysHeld s))))
       (After.after (AddAnswer.Added s) first second entries)
       ≡ grown s first second entries
   unfolding grown growthDue
   by-tests full larger f l = rw (← f, ← l, and-assoc)
 
-  pub not-crowded : (t : Bool) → t ≡ crowded (s .«resize_allowed») (s .«old_size») (keysHeld s)
-      → (not (s .rehashing) && t) ≡ false → After.after (AddAnswer.Added s) first second entries ≡ grown s first second entries
-  not-crowded t e f = by-tests false _ (rw e at f) refl
+  module _ (size : ℕ) (e : size ≡ cond (oneCrowded s) (suggested true (keysHeld s)) (s .«old_size»)) where
+    pub not-larger : size ≤ s .«old_size» → After.after (AddAnswer.Added s) first second entries ≡ grown s first second entries
+    not-larger l = by (oneCrowded s) refl e
+      where
+        by : (full : Bool) → oneCrowded s ≡ full → size ≡ cond full (suggested true (keysHeld s)) (s .«old_size»)
+            → After.after (AddAnswer.Added s) first second entries ≡ grown s first second entries
+        by true f e = by-tests true false f (rw e at (le-ltb (s .«old_size») size l))
+        by false f e = by-tests false _ f refl
 
-pub still-crowded : (s : State) (t : Bool) → t ≡ crowded (s .«resize_allowed») (s .«old_size») (keysHeld s)
-    → (not (s .rehashing) && t) ≡ true
-    → (not (s .rehashing) && crowded (s .«resize_allowed») (s .«old_size») (keysHeld s)) ≡ true
-still-crowded s t e f = rw e at f
-
--- ---- the resize
-
-module _ (s : State) (first second entries : List ℕ) (size : ℕ) (e : size ≡ suggested true (keysHeld s))
-    (f : (not (s .rehashing) && crowded (s .«resize_allowed») (s .«old_size») (keysHeld s)) ≡ true) where
-  pub not-larger : size ≤ s .«old_size» → After.after (AddAnswer.Added s) first second entries ≡ grown s first second entries
-  not-larger l = by-tests s first second entries true false f (rw e at (le-ltb (s .«old_size») size l))
-
-  module _ (l : s .«old_size» < size) (a : ResizeAnswer) (x y : List ℕ)
-      (r : After.after a x y entries ≡ resize s first second entries size) where
-    by-resize : grownBy s (After.after a x y entries) ≡ grown s first second entries
-    by-resize = rw (r, e) (by-tests s first second entries true true f (rw e at (lt-ltb (s .«old_size») size l)))
-
-    pub grown-resized : (t : State) → a ≡ ResizeAnswer.Resized t
-        → After.after (AddAnswer.Added t) x y entries ≡ grown s first second entries
-    unfolding grownBy
-    grown-resized t d = rw d at by-resize
-
-    pub grown-refused : (error : Error) → a ≡ ResizeAnswer.Refused error
-        → After.after (AddAnswer.Added s) x y entries ≡ grown s first second entries
-    unfolding grownBy
-    grown-refused error d = rw d at by-resize
+    pub larger : (a : AddAnswer) (x y : List ℕ) → s .«old_size» < size
+        → After.after a x y entries ≡ grownBy s (resize s first second entries size)
+        → After.after a x y entries ≡ grown s first second entries
+    larger a x y l r = by (oneCrowded s) refl e
+      where
+        by : (full : Bool) → oneCrowded s ≡ full → size ≡ cond full (suggested true (keysHeld s)) (s .«old_size»)
+            → After.after a x y entries ≡ grown s first second entries
+        by true f e = (rw e at r) ∙ by-tests true true f (rw e at (lt-ltb (s .«old_size») size l))
+        by false f e = absurd (omega arith)
 
 -- ---- the add
 

@@ -1,5 +1,6 @@
-// Add a key (SPECIFICATION, "Add"), and grow where the only table is crowded then ("Growth"). It is a timed call: what an add
-// costs more by growth is a few comparisons, and the suggested size is computed, and the other buffer looked at, behind them.
+// Add a key (SPECIFICATION, "Add"), and grow if there is one table and it is crowded then ("Growth"). It is a timed call: an
+// add that does not grow pays a few comparisons of the state's numbers for it. The suggested size is computed behind them, and
+// the resize, which copies the state, stands in a function of its own, off the quick path.
 use dict_add::add::add_after_step;
 use dict_suggest_look::suggest::suggest_for;
 use dict_tables::resize::resize;
@@ -8,7 +9,7 @@ use model::FORCE_RATIO;
 use model::ResizeAnswer;
 use model::State;
 ghost use mathlib.Core.Path.{_≡_};
-ghost use mathlib.Core.Bool.{true, _&&_, not};
+ghost use mathlib.Core.Bool.{true, _&&_, not, cond};
 ghost use Rattle.model.specs.Memory.{keysHeld};
 ghost use Rattle.model.specs.Calls as calls;
 ghost use Rattle.model.specs.Calls.After.{after};
@@ -23,34 +24,41 @@ fn is_crowded(s: State) -> bool
     (s.resize_allowed & (s.old_size <= keys)) | (s.old_size * FORCE_RATIO < keys)
 }
 
-// Begin a rehash into the suggested size, if that is larger: the resize of the call, whose refusal is none of the add's.
-fn grow(first: &mut [u32], second: &mut [u32], entries: &[u32], s: State) -> AddAnswer
+// The size that the table should have: the suggested one if it is the only table and crowded, or else the one that it has.
+fn wanted_size(s: State) -> u32
     requires { ⌜ Growable s ⌝ }
-    requires { ⌜ (not (s .rehashing) && calls.crowded (s .«resize_allowed») (s .«old_size») (keysHeld s)) ≡ true ⌝ }
-    ensures { λ r. ⌜ after r (now (first .exit)) (now (second .exit)) (now (entries .entry))
-        ≡ calls.grown s (now (first .entry)) (now (second .entry)) (now (entries .entry)) ⌝ }
-{
-    let size = suggest_for(s, true);
-    if s.old_size < size {
-        let resized = resize(first, second, entries, s, size);
-        match resized {
-            ResizeAnswer::Resized(n) => AddAnswer::Added(n),
-            ResizeAnswer::Refused(_) => AddAnswer::Added(s),
-        }
-    } else {
-        AddAnswer::Added(s)
-    }
-}
-
-// What comes behind an answered add.
-fn then_grow(first: &mut [u32], second: &mut [u32], entries: &[u32], s: State) -> AddAnswer
-    requires { ⌜ Growable s ⌝ }
-    ensures { λ r. ⌜ after r (now (first .exit)) (now (second .exit)) (now (entries .entry))
-        ≡ calls.grown s (now (first .entry)) (now (second .entry)) (now (entries .entry)) ⌝ }
+    ensures { λ r. ⌜ r ≡ cond (not (s .rehashing) && calls.crowded (s .«resize_allowed») (s .«old_size») (keysHeld s))
+        (calls.suggested true (keysHeld s)) (s .«old_size») ⌝ }
 {
     let crowded = !s.rehashing & is_crowded(s);
     if crowded {
-        grow(first, second, entries, s)
+        suggest_for(s, true)
+    } else {
+        s.old_size
+    }
+}
+
+// The same resize as the call's. It may be refused for want of room in the other buffer, and the add is answered all the same.
+fn grow_to(first: &mut [u32], second: &mut [u32], entries: &[u32], s: State, size: u32) -> AddAnswer
+    ensures { λ r. ⌜ after r (now (first .exit)) (now (second .exit)) (now (entries .entry))
+        ≡ calls.grownBy s (calls.resize s (now (first .entry)) (now (second .entry)) (now (entries .entry)) size) ⌝ }
+{
+    let resized = resize(first, second, entries, s, size);
+    match resized {
+        ResizeAnswer::Resized(n) => AddAnswer::Added(n),
+        ResizeAnswer::Refused(_) => AddAnswer::Added(s),
+    }
+}
+
+// What follows an add that was answered, and left this state.
+fn grow(first: &mut [u32], second: &mut [u32], entries: &[u32], s: State) -> AddAnswer
+    requires { ⌜ Growable s ⌝ }
+    ensures { λ r. ⌜ after r (now (first .exit)) (now (second .exit)) (now (entries .entry))
+        ≡ calls.grown s (now (first .entry)) (now (second .entry)) (now (entries .entry)) ⌝ }
+{
+    let size = wanted_size(s);
+    if s.old_size < size {
+        grow_to(first, second, entries, s, size)
     } else {
         AddAnswer::Added(s)
     }
@@ -70,6 +78,6 @@ pub fn add(
     let answer = add_after_step(first, second, entries, s, key, value);
     match answer {
         AddAnswer::Refused(e) => AddAnswer::Refused(e),
-        AddAnswer::Added(n) => then_grow(first, second, entries, n),
+        AddAnswer::Added(n) => grow(first, second, entries, n),
     }
 }

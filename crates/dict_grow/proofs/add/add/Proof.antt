@@ -5,8 +5,8 @@ use Rattle.dict_grow.proofs.Growing.{growable, add-refused, add-grown}
 use Rattle.dict_grow.proofs.add.add.Statement.{statement}
 use Rattle.dict_grow.proofs.add.add.Tie as tie
 
-then-grow-requires : tie.Need-then-grow-requires
-then-grow-requires c κs = search growable
+grow-requires : tie.Need-grow-requires
+grow-requires c κs = search growable
 
 returns : tie.Need-returns
 returns c = search add-refused
@@ -21,7 +21,7 @@ add-spec =
     (λ c κs. search needs)
     (λ c. search needs)
     (λ c. search needs)
-    then-grow-requires
+    grow-requires
     (λ c. search needs)
     (λ c. search needs)
     (λ c. search needs)

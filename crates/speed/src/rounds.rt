@@ -39,8 +39,9 @@ fn new_store(
     }
 }
 
-// The same store at the start of a rehash to a table of that size. A store whose last add began it by itself refuses, and
-// stays as it is: so it is with half of four keys or more; with fewer the buffer is too short for the suggested size.
+// The same store at the start of a rehash to a table of that size. In a store for four keys or more the last add has begun
+// that rehash by itself, and the call is refused and changes nothing. In one for two keys the other buffer is too short for
+// the least suggestion, and the call begins it.
 fn begin_rehash(
     first: &mut [u32],
     second: &mut [u32],

@@ -1,7 +1,6 @@
 -- `dict_grow::add::is_crowded` meets its contract: the code's test is the definition's, and a legal size leaves room for it.
 -- Assumes nothing.
 use borrow.Author.Needs.{needs}
-use native.Mathlib.Omega.{arith}
 use Rattle.model.specs.Limits.{forceRatio}
 use Rattle.model.specs.Memory.{keysHeld}
 use Rattle.model.specs.Calls.{crowded}

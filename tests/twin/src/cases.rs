@@ -28,6 +28,7 @@ pub fn all() -> Vec<Case> {
     cases.extend(states());
     cases.extend(moves());
     cases.extend(inner_steps());
+    cases.extend(growth());
     cases.extend(outside_the_limits());
     cases.extend(bad_and_odd_lines());
     cases.extend(whole_scripts());
@@ -96,10 +97,9 @@ fn specified() -> Vec<Case> {
                 ("N 4 4", "0"),
                 ("A 0 10", "0"),
                 ("A 1 11", "0"),
-                ("A 2 12", "0"),
                 ("A 3 13", "0"),
                 ("C 0", "0 2 1 0 10"),
-                ("C 2", "0 1 1 2 12"),
+                ("C 2", "0 1 0"),
                 ("C 1", "0 3 1 1 11"),
                 ("C 3", "0 0 1 3 13"),
                 ("C 5", "0 3 1 1 11"),
@@ -111,7 +111,6 @@ fn specified() -> Vec<Case> {
             &[
                 ("N 8 8", "0"),
                 ("A 7 17", "0"),
-                ("A 6 16", "0"),
                 ("A 5 15", "0"),
                 ("A 4 14", "0"),
                 ("A 3 13", "0"),
@@ -121,7 +120,7 @@ fn specified() -> Vec<Case> {
                 ("C 0", "0 4 1 0 10"),
                 ("C 4", "0 2 1 4 14"),
                 ("C 2", "0 6 1 2 12"),
-                ("C 6", "0 1 1 6 16"),
+                ("C 6", "0 1 0"),
                 ("C 1", "0 5 1 1 11"),
                 ("C 5", "0 3 1 5 15"),
                 ("C 3", "0 7 1 3 13"),
@@ -131,13 +130,16 @@ fn specified() -> Vec<Case> {
         dialogue(
             "size 1: any cursor answers 0",
             &[
-                ("N 2 1", "0"),
+                ("N 2 4", "0"),
                 ("A 7 70", "0"),
                 ("A 4294967295 4294967295", "0"),
-                ("C 0", "0 0 2 4294967295 4294967295 7 70"),
-                ("C 1", "0 0 2 4294967295 4294967295 7 70"),
-                ("C 2147483648", "0 0 2 4294967295 4294967295 7 70"),
-                ("C 4294967295", "0 0 2 4294967295 4294967295 7 70"),
+                // Its one step turns their chain round.
+                ("R 1", "0"),
+                ("S", "0 2 0"),
+                ("C 0", "0 0 2 7 70 4294967295 4294967295"),
+                ("C 1", "0 0 2 7 70 4294967295 4294967295"),
+                ("C 2147483648", "0 0 2 7 70 4294967295 4294967295"),
+                ("C 4294967295", "0 0 2 7 70 4294967295 4294967295"),
             ],
         ),
         dialogue(
@@ -147,7 +149,6 @@ fn specified() -> Vec<Case> {
                 ("A 0 10", "0"),
                 ("A 1 11", "0"),
                 ("A 2 20", "0"),
-                ("A 3 30", "0"),
                 ("R 8", "0"),
                 // The steps of these two move keys 0 and 1.
                 ("A 6 60", "0"),
@@ -170,16 +171,21 @@ fn specified() -> Vec<Case> {
             ],
         ),
         // Bucket 0 is the first to move: by the time that the new table has a key,
-        // the old one's bucket 0 is empty.
+        // the old one's bucket 0 is empty. Only a shrunk table of four buckets has
+        // five keys at rest.
         dialogue(
             "sizes 4 and 16, cursors 0 and 8",
             &[
-                ("N 16 4", "0"),
+                ("N 16 8", "0"),
                 ("A 0 3", "0"),
                 ("A 4 4", "0"),
                 ("A 8 5", "0"),
                 ("A 12 6", "0"),
                 ("A 1 7", "0"),
+                ("R 4", "0"),
+                ("S", "0 2 1"),
+                ("S", "0 1 1"),
+                ("S", "0 2 0"),
                 ("R 16", "0"),
                 ("S", "0 4 1"),
                 ("C 0", "0 2 4 0 3 8 5 4 4 12 6"),
@@ -252,7 +258,7 @@ fn specified() -> Vec<Case> {
         dialogue(
             "capacity 1: full, freed and added again",
             &[
-                ("N 1 1", "0"),
+                ("N 1 2", "0"),
                 ("A 1 10", "0"),
                 ("A 2 20", "5"),
                 ("A 1 11", "4"),
@@ -262,7 +268,7 @@ fn specified() -> Vec<Case> {
                 ("F 2", "0 20"),
                 ("F 1", "3"),
                 ("A 1 10", "5"),
-                ("C 0", "0 0 1 2 20"),
+                ("C 0", "0 1 1 2 20"),
             ],
         ),
     ]
@@ -318,31 +324,33 @@ fn walks() -> Vec<Case> {
                 ("A 2 20", "0"),
                 ("A 4 40", "0"),
                 ("C 2", "0 1 1 2 20"),
+                // Never more than three keys: the fourth would make the table grow.
+                ("D 4", "0"),
                 ("A 1 11", "0"),
                 ("D 0", "0"),
                 ("A 0 11", "0"),
                 ("C 1", "0 3 1 1 11"),
+                ("D 2", "0"),
                 ("A 7 70", "0"),
                 ("C 3", "0 0 1 7 70"),
             ],
         ),
-        // The steps of its add and of its delete move buckets 1 and 3.
+        // Its fourth key makes the table grow. The steps of the two adds behind that
+        // and of the delete move buckets 0, 1 and 3.
         dialogue(
             "the tour",
             &[
                 ("N 8 4", "0"),
                 ("A 8 40", "0"),
                 ("A 2 10", "0"),
-                ("A 1 31", "0"),
-                ("A 5 12", "0"),
-                ("A 65537 7", "0"),
                 ("A 65543 25", "0"),
                 ("C 0", "0 2 1 8 40"),
-                ("R 8", "0"),
-                ("S", "0 1 1"),
+                ("A 1 31", "0"),
+                ("R 16", "7"),
+                ("A 5 12", "0"),
                 ("C 2", "0 1 1 2 10"),
                 ("A 65541 3", "0"),
-                ("C 1", "0 3 4 1 31 65537 7 65541 3 5 12"),
+                ("C 1", "0 3 3 1 31 65541 3 5 12"),
                 ("S", "0 1 1"),
                 ("F 5", "0 12"),
                 ("D 1", "0"),
@@ -402,18 +410,18 @@ fn states() -> Vec<Case> {
                 ("N 1 4", "0"),
                 ("A 1 10", "0"),
                 ("R 8", "0"),
-                ("N 2 2", "0"),
+                ("N 2 4", "0"),
                 ("S", "8"),
                 ("F 1", "3"),
                 ("C 3", "0 0 0"),
                 ("A 3 30", "0"),
-                ("A 1 11", "0"),
+                ("A 7 11", "0"),
                 ("A 5 50", "5"),
-                ("C 1", "0 0 2 1 11 3 30"),
+                ("C 3", "0 0 2 7 11 3 30"),
                 ("D 3", "0"),
                 ("A 2 20", "0"),
-                ("R 2", "6"),
-                ("R 4", "0"),
+                ("R 4", "6"),
+                ("R 8", "0"),
                 ("S", "0 1 1"),
                 ("N 2 2", "0"),
                 ("C 1", "0 0 0"),
@@ -457,11 +465,9 @@ fn states() -> Vec<Case> {
                 ("N 8 4", "0"),
                 ("A 0 1", "0"),
                 ("A 1 6", "0"),
-                ("A 2 7", "0"),
                 ("A 3 2", "0"),
                 ("R 8", "0"),
-                ("S", "0 1 1"),
-                // The steps of these two move keys 1 and 2.
+                // The steps of these two move keys 0 and 1.
                 ("A 4 3", "0"),
                 ("A 8 4", "0"),
                 ("A 3 5", "4"),
@@ -475,12 +481,12 @@ fn states() -> Vec<Case> {
         dialogue(
             "change, find and delete reach both tables",
             &[
-                ("N 8 4", "0"),
+                ("N 8 8", "0"),
                 ("A 0 10", "0"),
                 ("A 1 11", "0"),
                 ("A 2 20", "0"),
                 ("A 3 30", "0"),
-                ("R 8", "0"),
+                ("R 16", "0"),
                 // Its step moves key 0.
                 ("A 7 70", "0"),
                 ("V 3 33", "0"),
@@ -495,13 +501,13 @@ fn states() -> Vec<Case> {
                 ("D 7", "3"),
                 ("D 3", "0"),
                 ("S", "0 0 0"),
-                ("C 2", "0 6 1 2 20"),
+                ("C 2", "0 10 1 2 20"),
             ],
         ),
         dialogue(
             "a move ends once its old keys are deleted",
             &[
-                ("N 4 4", "0"),
+                ("N 4 8", "0"),
                 ("A 0 5", "0"),
                 ("A 1 10", "0"),
                 ("A 2 20", "0"),
@@ -517,23 +523,23 @@ fn states() -> Vec<Case> {
         dialogue(
             "a chain is taken from its head, middle and end",
             &[
-                ("N 5 1", "0"),
-                ("A 1 1", "0"),
-                ("A 2 2", "0"),
-                ("A 3 3", "0"),
-                ("A 4 4", "0"),
-                ("A 5 5", "0"),
-                ("D 3", "0"),
-                ("C 0", "0 0 4 5 5 4 4 2 2 1 1"),
-                ("D 5", "0"),
-                ("C 0", "0 0 3 4 4 2 2 1 1"),
-                ("D 1", "0"),
-                ("C 0", "0 0 2 4 4 2 2"),
-                ("A 3 6", "0"),
-                ("A 1 7", "0"),
-                ("A 5 8", "0"),
-                ("A 6 9", "5"),
-                ("C 0", "0 0 5 5 8 1 7 3 6 4 4 2 2"),
+                ("N 5 8", "0"),
+                ("A 8 1", "0"),
+                ("A 16 2", "0"),
+                ("A 24 3", "0"),
+                ("A 32 4", "0"),
+                ("A 40 5", "0"),
+                ("D 24", "0"),
+                ("C 0", "0 4 4 40 5 32 4 16 2 8 1"),
+                ("D 40", "0"),
+                ("C 0", "0 4 3 32 4 16 2 8 1"),
+                ("D 8", "0"),
+                ("C 0", "0 4 2 32 4 16 2"),
+                ("A 24 6", "0"),
+                ("A 8 7", "0"),
+                ("A 40 8", "0"),
+                ("A 48 9", "5"),
+                ("C 0", "0 4 5 40 8 8 7 24 6 32 4 16 2"),
             ],
         ),
         dialogue(
@@ -559,18 +565,19 @@ fn states() -> Vec<Case> {
         dialogue(
             "chains turn round with each move",
             &[
-                ("N 4 1", "0"),
+                ("N 4 8", "0"),
                 ("A 0 0", "0"),
-                ("A 4 1", "0"),
-                ("A 8 2", "0"),
+                ("A 8 1", "0"),
+                ("A 16 2", "0"),
                 ("A 2 3", "0"),
                 ("R 4", "0"),
-                ("S", "0 4 0"),
-                ("C 0", "0 2 3 0 0 4 1 8 2"),
+                ("S", "0 3 1"),
+                ("S", "0 1 0"),
+                ("C 0", "0 2 3 0 0 8 1 16 2"),
                 ("R 2", "0"),
                 ("S", "0 3 1"),
                 ("S", "0 1 0"),
-                ("C 0", "0 1 4 2 3 8 2 4 1 0 0"),
+                ("C 0", "0 1 4 2 3 16 2 8 1 0 0"),
             ],
         ),
     ]
@@ -688,7 +695,7 @@ fn moves() -> Vec<Case> {
             "an empty store is moved by one step, whatever its size",
             &[
                 ("N 4 4096", "0"),
-                ("R 1", "0"),
+                ("R 2", "0"),
                 ("S", "0 0 0"),
                 ("S", "8"),
                 ("A 4000 1", "0"),
@@ -842,7 +849,7 @@ fn moves_of_the_largest_tables() -> Case {
     let passing = [("S", "0 0 1"); 409];
     let out = [&[("R 2", "0")], &passing[..], &[("S", "0 1 0")]].concat();
     let lines = [
-        &[("N 1 1", "0"), ("A 4095 7", "0")],
+        &[("N 1 2", "0"), ("A 4095 7", "0")],
         &into[..],
         &out,
         &[("R 1", "0"), ("S", "0 1 0")],
@@ -877,42 +884,42 @@ fn evenly_spread(distance: u32) -> Case {
 /// Adds and deletes in the middle of a move take a step first, unless they are
 /// refused. Many of these moves are to one bucket. There a walk call at cursor 0
 /// hands out everything: the new table's chain, and then the old table's buckets,
-/// of four in the order 0, 2, 1, 3.
+/// of eight in the order 0, 4, 2, 6, 1, 5, 3, 7.
 fn inner_steps() -> Vec<Case> {
     let mut cases = vec![
         dialogue(
             "an add in the middle of a move moves a bucket first",
             &[
-                ("N 8 4", "0"),
+                ("N 8 8", "0"),
                 ("A 0 10", "0"),
-                ("A 4 14", "0"),
+                ("A 8 18", "0"),
                 ("A 1 11", "0"),
                 ("A 2 12", "0"),
                 ("A 3 13", "0"),
                 ("R 1", "0"),
-                ("C 0", "0 0 5 4 14 0 10 2 12 1 11 3 13"),
+                ("C 0", "0 0 5 8 18 0 10 2 12 1 11 3 13"),
                 ("A 5 15", "0"),
-                ("C 0", "0 0 6 5 15 0 10 4 14 2 12 1 11 3 13"),
+                ("C 0", "0 0 6 5 15 0 10 8 18 2 12 1 11 3 13"),
                 ("S", "0 1 1"),
-                ("C 0", "0 0 6 1 11 5 15 0 10 4 14 2 12 3 13"),
+                ("C 0", "0 0 6 1 11 5 15 0 10 8 18 2 12 3 13"),
                 ("A 6 16", "0"),
-                ("C 0", "0 0 7 6 16 2 12 1 11 5 15 0 10 4 14 3 13"),
+                ("C 0", "0 0 7 6 16 2 12 1 11 5 15 0 10 8 18 3 13"),
             ],
         ),
         dialogue(
             "a delete in the middle of a move moves a bucket first",
             &[
-                ("N 8 4", "0"),
+                ("N 8 8", "0"),
                 ("A 0 10", "0"),
-                ("A 4 14", "0"),
+                ("A 8 18", "0"),
                 ("A 1 11", "0"),
                 ("A 2 12", "0"),
                 ("A 3 13", "0"),
                 ("R 1", "0"),
                 // From the old table, and then from the new one.
                 ("D 2", "0"),
-                ("C 0", "0 0 4 0 10 4 14 1 11 3 13"),
-                ("D 4", "0"),
+                ("C 0", "0 0 4 0 10 8 18 1 11 3 13"),
+                ("D 8", "0"),
                 ("C 0", "0 0 3 1 11 0 10 3 13"),
                 ("S", "0 1 0"),
                 ("C 0", "0 0 3 3 13 1 11 0 10"),
@@ -921,15 +928,15 @@ fn inner_steps() -> Vec<Case> {
         dialogue(
             "a step's numbers show what came before it",
             &[
-                ("N 8 4", "0"),
+                ("N 8 8", "0"),
                 ("A 0 1", "0"),
                 ("A 1 2", "0"),
-                ("A 5 3", "0"),
+                ("A 9 3", "0"),
                 ("A 2 4", "0"),
-                ("A 6 5", "0"),
-                ("A 10 6", "0"),
+                ("A 10 5", "0"),
+                ("A 18 6", "0"),
                 ("A 3 7", "0"),
-                ("R 8", "0"),
+                ("R 16", "0"),
                 ("A 4 8", "0"),
                 ("S", "0 2 1"),
                 ("D 4", "0"),
@@ -940,46 +947,47 @@ fn inner_steps() -> Vec<Case> {
         dialogue(
             "a delete of a key that its own step moves",
             &[
-                ("N 4 2", "0"),
+                ("N 4 8", "0"),
                 ("A 0 1", "0"),
-                ("A 2 2", "0"),
-                ("A 4 3", "0"),
+                ("A 8 2", "0"),
+                ("A 16 3", "0"),
                 ("A 1 4", "0"),
                 ("R 1", "0"),
-                ("C 0", "0 0 4 4 3 2 2 0 1 1 4"),
-                ("D 2", "0"),
-                ("C 0", "0 0 3 0 1 4 3 1 4"),
+                ("C 0", "0 0 4 16 3 8 2 0 1 1 4"),
+                ("D 8", "0"),
+                ("C 0", "0 0 3 0 1 16 3 1 4"),
                 ("S", "0 1 0"),
             ],
         ),
         dialogue(
             "a refused add or delete moves nothing",
             &[
-                ("N 4 4", "0"),
+                ("N 4 8", "0"),
                 ("A 0 10", "0"),
-                ("A 4 14", "0"),
+                ("A 8 18", "0"),
                 ("A 1 11", "0"),
                 ("A 2 12", "0"),
                 ("R 1", "0"),
-                ("C 0", "0 0 4 4 14 0 10 2 12 1 11"),
+                ("C 0", "0 0 4 8 18 0 10 2 12 1 11"),
                 ("A 1 99", "4"),
-                ("C 0", "0 0 4 4 14 0 10 2 12 1 11"),
+                ("C 0", "0 0 4 8 18 0 10 2 12 1 11"),
                 ("A 7 70", "5"),
-                ("C 0", "0 0 4 4 14 0 10 2 12 1 11"),
+                ("C 0", "0 0 4 8 18 0 10 2 12 1 11"),
                 ("D 7", "3"),
-                ("C 0", "0 0 4 4 14 0 10 2 12 1 11"),
+                ("C 0", "0 0 4 8 18 0 10 2 12 1 11"),
                 ("D 1", "0"),
-                ("C 0", "0 0 3 0 10 4 14 2 12"),
+                ("C 0", "0 0 3 0 10 8 18 2 12"),
                 // Held in the old table, and in the new one.
                 ("A 2 99", "4"),
-                ("A 4 99", "4"),
-                ("C 0", "0 0 3 0 10 4 14 2 12"),
+                ("A 8 99", "4"),
+                ("C 0", "0 0 3 0 10 8 18 2 12"),
                 ("D 1", "3"),
-                ("C 0", "0 0 3 0 10 4 14 2 12"),
-                ("A 8 18", "0"),
-                ("C 0", "0 0 4 8 18 2 12 0 10 4 14"),
+                ("C 0", "0 0 3 0 10 8 18 2 12"),
+                // Its step ends the move, and then the table of one bucket grows.
+                ("A 4 14", "0"),
+                ("C 0", "0 0 4 4 14 2 12 0 10 8 18"),
                 ("A 9 19", "5"),
-                ("S", "8"),
+                ("S", "0 4 0"),
             ],
         ),
         dialogue(
@@ -1025,28 +1033,28 @@ fn inner_steps() -> Vec<Case> {
         dialogue(
             "find, change and walk calls take no step, nor do other refused lines",
             &[
-                ("N 8 4", "0"),
+                ("N 8 8", "0"),
                 ("A 0 10", "0"),
-                ("A 4 14", "0"),
+                ("A 8 18", "0"),
                 ("A 1 11", "0"),
                 ("A 2 12", "0"),
                 ("R 1", "0"),
                 ("F 0", "0 10"),
                 ("F 7", "3"),
-                ("V 4 15", "0"),
+                ("V 8 19", "0"),
                 ("V 7 70", "3"),
                 ("R 2", "7"),
                 ("N 0 4", "6"),
                 ("A 5", "10"),
                 ("C 3", "0 0 0"),
-                ("C 0", "0 0 4 4 15 0 10 2 12 1 11"),
+                ("C 0", "0 0 4 8 19 0 10 2 12 1 11"),
                 ("S", "0 2 1"),
-                ("F 4", "0 15"),
+                ("F 8", "0 19"),
                 ("V 1 16", "0"),
-                ("C 0", "0 0 4 0 10 4 15 2 12 1 16"),
+                ("C 0", "0 0 4 0 10 8 19 2 12 1 16"),
                 ("S", "0 1 1"),
                 ("S", "0 1 0"),
-                ("C 0", "0 0 4 2 12 1 16 0 10 4 15"),
+                ("C 0", "0 0 4 2 12 1 16 0 10 8 19"),
             ],
         ),
         dialogue(
@@ -1109,11 +1117,13 @@ fn inner_steps() -> Vec<Case> {
                 ("C 3", "0 7 1 3 30"),
                 ("C 7", "0 0 1 7 70"),
                 // The next move takes both along, and begins at bucket 0.
-                ("R 2", "0"),
+                ("R 16", "0"),
                 ("A 1 10", "0"),
                 ("A 5 50", "0"),
                 ("S", "8"),
-                ("C 1", "0 0 4 5 50 7 70 1 10 3 30"),
+                ("C 3", "0 11 1 3 30"),
+                ("C 5", "0 13 1 5 50"),
+                ("C 7", "0 15 1 7 70"),
             ],
         ),
         dialogue(
@@ -1159,19 +1169,19 @@ fn inner_steps() -> Vec<Case> {
             &[
                 ("N 8 4", "0"),
                 ("A 0 10", "0"),
-                ("A 1 11", "0"),
                 ("A 2 12", "0"),
                 ("A 3 13", "0"),
                 ("C 0", "0 2 1 0 10"),
                 ("R 8", "0"),
-                ("A 4 14", "0"),
+                ("A 1 11", "0"),
                 ("C 2", "0 1 1 2 12"),
-                ("D 4", "0"),
-                ("C 1", "0 3 1 1 11"),
-                ("A 7 17", "0"),
-                ("C 3", "0 0 2 3 13 7 17"),
                 ("D 0", "0"),
+                ("C 1", "0 3 1 1 11"),
+                // Its step ends the move.
+                ("A 7 17", "0"),
                 ("S", "8"),
+                ("C 3", "0 7 1 3 13"),
+                ("C 7", "0 0 1 7 17"),
             ],
         ),
         due_at_seven(
@@ -1185,20 +1195,22 @@ fn inner_steps() -> Vec<Case> {
             ],
         ),
         dialogue(
-            "shrunk from 4 to 2 by an add: a key comes twice",
+            "shrunk from 8 to 4 by an add: a key comes twice",
             &[
-                ("N 4 4", "0"),
+                ("N 4 8", "0"),
                 ("A 0 7", "0"),
-                ("C 0", "0 2 1 0 7"),
-                ("R 2", "0"),
+                ("C 0", "0 4 1 0 7"),
+                ("R 4", "0"),
                 ("A 1 8", "0"),
-                ("C 2", "0 1 1 0 7"),
-                ("C 1", "0 0 1 1 8"),
+                ("C 4", "0 2 1 0 7"),
+                ("C 2", "0 1 0"),
+                ("C 1", "0 3 1 1 8"),
+                ("C 3", "0 0 0"),
             ],
         ),
         largest_move_by_adds(),
     ];
-    cases.extend([1, 2, 64, 1024].map(moved_by_as_many_adds));
+    cases.extend([2, 64, 1024].map(moved_by_as_many_adds));
     cases
 }
 
@@ -1216,31 +1228,375 @@ fn behind_adds_and_deletes(empty: u32, steps: &[&str]) -> Case {
 }
 
 /// The only key is in the last of 4,096 buckets. 409 adds come up to bucket 4,090,
-/// and the next one moves the key and ends the move.
+/// and the next one moves the key and ends the move. Behind it the one bucket has
+/// too many keys, and a step moves them all to a larger table.
 fn largest_move_by_adds() -> Case {
     let adds = adds(1..=410);
-    let script = format!("N 4096 4096\nA 4095 7\nR 1\n{adds}S\nC 0\n");
+    let script = format!("N 4096 4096\nA 4095 7\nR 1\n{adds}C 0\nS\nS\n");
 
     let done = "0\n".repeat(3 + 410);
     let passing: String = (1..=409).rev().map(|key| format!(" {key} 1")).collect();
-    let answer = format!("{done}8\n0 0 411 410 1 4095 7{passing}\n");
+    let answer = format!("{done}0 0 411 410 1 4095 7{passing}\n0 411 0\n8\n");
     computed("a move from 4,096 buckets by adds alone", script, answer)
 }
 
-/// A key in each of so many buckets, and as many adds that move them to a table
-/// of twice the size. The last but one leaves the move under way.
+/// A key in each of so many buckets but the last, and as many adds that move them
+/// to a table of twice the size. The last but one leaves the move under way.
 fn moved_by_as_many_adds(size: u32) -> Case {
     let doubled = 2 * size;
-    let last = doubled - 1;
-    let held = adds(0..size);
+    let last = doubled - 2;
+    let held = adds(0..size - 1);
     let added = adds(size..last);
     let end = format!("R 1\nA {last} 1\nS\nC {last}\n");
     let script = format!("N 4096 {size}\n{held}R {doubled}\n{added}{end}");
 
-    let done = "0\n".repeat(doubled as usize + 1);
-    let answer = format!("{done}7\n0\n8\n0 0 1 {last} 1\n");
-    let name = format!("{size} buckets moved by as many adds");
+    let done = "0\n".repeat(doubled as usize - 1);
+    let answer = format!("{done}7\n0\n8\n0 1 1 {last} 1\n");
+    let keys = size - 1;
+    let name = format!("{keys} of {size} buckets moved by as many adds");
     computed(&name, script, answer)
+}
+
+/// A table with a key for each bucket grows by itself behind an add. That a move
+/// has begun shows in a refused resize or in an answered step, and which size a
+/// table has at rest in a resize to the same one, which is refused too.
+fn growth() -> Vec<Case> {
+    let mut cases = vec![
+        dialogue(
+            "a table of four buckets grows with its fourth key",
+            &[
+                ("N 8 4", "0"),
+                ("A 0 10", "0"),
+                ("A 1 11", "0"),
+                ("A 2 12", "0"),
+                ("S", "8"),
+                ("R 4", "6"),
+                ("A 3 13", "0"),
+                ("R 16", "7"),
+                ("R 3", "7"),
+                ("C 0", "0 2 1 0 10"),
+                ("S", "0 1 1"),
+                ("C 0", "0 2 1 0 10"),
+                ("S", "0 1 1"),
+                ("S", "0 1 1"),
+                ("S", "0 1 0"),
+                ("S", "8"),
+                ("R 8", "6"),
+                ("C 3", "0 7 1 3 13"),
+                ("C 7", "0 0 0"),
+            ],
+        ),
+        dialogue(
+            "tables of one and of two buckets grow to four",
+            &[
+                ("N 8 1", "0"),
+                ("A 5 50", "0"),
+                ("R 1", "7"),
+                ("S", "0 1 0"),
+                ("R 4", "6"),
+                ("C 1", "0 3 1 5 50"),
+                ("N 8 2", "0"),
+                ("A 5 50", "0"),
+                ("R 2", "6"),
+                ("A 6 60", "0"),
+                ("R 2", "7"),
+                ("S", "0 1 1"),
+                ("S", "0 1 0"),
+                ("R 4", "6"),
+                ("C 2", "0 1 1 6 60"),
+                ("C 1", "0 3 1 5 50"),
+            ],
+        ),
+        dialogue(
+            "a full store of one key grows, and is used again",
+            &[
+                ("N 1 1", "0"),
+                ("A 1 10", "0"),
+                ("A 2 20", "5"),
+                ("A 1 11", "4"),
+                ("R 2", "7"),
+                // Its step ends the move.
+                ("D 1", "0"),
+                ("S", "8"),
+                ("R 4", "6"),
+                ("A 2 20", "0"),
+                ("S", "8"),
+                ("C 2", "0 1 1 2 20"),
+            ],
+        ),
+        // The four keys before it would have called for 8.
+        dialogue(
+            "five keys in two buckets grow to sixteen",
+            &[
+                ("N 16 8", "0"),
+                ("A 0 10", "0"),
+                ("A 1 11", "0"),
+                ("A 2 12", "0"),
+                ("A 3 13", "0"),
+                ("R 2", "0"),
+                ("S", "0 1 1"),
+                ("S", "0 1 1"),
+                ("S", "0 1 1"),
+                ("S", "0 1 0"),
+                ("S", "8"),
+                ("A 4 14", "0"),
+                ("C 0", "0 1 3 4 14 2 12 0 10"),
+                ("S", "0 3 1"),
+                ("S", "0 2 0"),
+                ("R 16", "6"),
+                ("C 4", "0 12 1 4 14"),
+            ],
+        ),
+        dialogue(
+            "no other call makes a table grow, nor a refused add",
+            &[
+                ("N 4 8", "0"),
+                ("A 0 10", "0"),
+                ("A 1 11", "0"),
+                ("A 2 12", "0"),
+                ("A 3 13", "0"),
+                ("R 2", "0"),
+                ("S", "0 1 1"),
+                ("S", "0 1 1"),
+                ("S", "0 1 1"),
+                ("S", "0 1 0"),
+                // Four keys in two buckets, and the store is full.
+                ("A 9 19", "5"),
+                ("R 2", "6"),
+                ("A 3 99", "4"),
+                ("V 0 20", "0"),
+                ("F 0", "0 20"),
+                ("C 0", "0 1 2 2 12 0 20"),
+                ("R 2", "6"),
+                ("D 0", "0"),
+                ("R 2", "6"),
+                ("A 9 19", "0"),
+                ("R 2", "7"),
+                ("S", "0 1 1"),
+                ("S", "0 3 0"),
+                ("R 8", "6"),
+            ],
+        ),
+        dialogue(
+            "a delete whose step ends a move leaves a crowded table",
+            &[
+                ("N 8 8", "0"),
+                ("A 0 10", "0"),
+                ("A 1 11", "0"),
+                ("A 2 12", "0"),
+                ("R 1", "0"),
+                ("S", "0 1 1"),
+                ("S", "0 1 1"),
+                ("D 1", "0"),
+                ("R 1", "6"),
+                ("C 0", "0 0 2 2 12 0 10"),
+                ("A 1 21", "0"),
+                ("R 1", "7"),
+                ("S", "0 3 0"),
+                ("R 8", "6"),
+            ],
+        ),
+        dialogue(
+            "a step inside an add ends a move, and the table grows at once",
+            &[
+                ("N 8 8", "0"),
+                ("A 8 80", "0"),
+                ("R 2", "0"),
+                ("A 0 10", "0"),
+                ("R 2", "7"),
+                ("C 0", "0 1 2 0 10 8 80"),
+                ("S", "0 2 0"),
+                ("S", "8"),
+                ("R 4", "6"),
+                ("C 0", "0 2 2 8 80 0 10"),
+            ],
+        ),
+        // Three steps have put keys into the second buffer. The table that grows
+        // there behind the second start is empty all the same.
+        dialogue(
+            "a start in the middle of a move that an add began",
+            &[
+                ("N 8 4", "0"),
+                ("A 0 10", "0"),
+                ("A 1 11", "0"),
+                ("A 2 12", "0"),
+                ("A 3 13", "0"),
+                ("S", "0 1 1"),
+                ("S", "0 1 1"),
+                ("S", "0 1 1"),
+                ("N 8 4", "0"),
+                ("S", "8"),
+                ("R 4", "6"),
+                ("A 8 80", "0"),
+                ("A 9 90", "0"),
+                ("A 10 100", "0"),
+                ("R 4", "6"),
+                ("A 11 110", "0"),
+                ("R 4", "7"),
+                ("C 0", "0 2 1 8 80"),
+                ("S", "0 1 1"),
+                ("C 0", "0 2 1 8 80"),
+                ("S", "0 1 1"),
+                ("S", "0 1 1"),
+                ("S", "0 1 0"),
+                ("C 0", "0 4 1 8 80"),
+                ("C 3", "0 7 1 11 110"),
+            ],
+        ),
+        // The eighth key ends one move and begins another. The fourth delete takes
+        // the last key that was not moved, and the step of the fifth ends the move.
+        dialogue(
+            "deletes make no table smaller",
+            &[
+                ("N 32 4", "0"),
+                ("A 0 1", "0"),
+                ("A 1 1", "0"),
+                ("A 2 1", "0"),
+                ("A 3 1", "0"),
+                ("A 4 1", "0"),
+                ("A 5 1", "0"),
+                ("A 6 1", "0"),
+                ("A 7 1", "0"),
+                ("A 8 1", "0"),
+                ("D 8", "0"),
+                ("D 7", "0"),
+                ("D 6", "0"),
+                ("R 16", "7"),
+                ("D 5", "0"),
+                ("D 4", "0"),
+                ("R 16", "6"),
+                ("D 3", "0"),
+                ("D 2", "0"),
+                ("D 1", "0"),
+                ("D 0", "0"),
+                ("R 16", "6"),
+                ("A 1 2", "0"),
+                ("R 16", "6"),
+                ("C 1", "0 9 1 1 2"),
+                ("R 4", "0"),
+            ],
+        ),
+        dialogue(
+            "a walk goes on while the table grows by itself",
+            &[
+                ("N 8 4", "0"),
+                ("A 0 10", "0"),
+                ("A 1 11", "0"),
+                ("A 2 12", "0"),
+                ("C 0", "0 2 1 0 10"),
+                ("A 3 13", "0"),
+                ("A 4 14", "0"),
+                ("C 2", "0 1 1 2 12"),
+                ("D 4", "0"),
+                ("C 1", "0 3 1 1 11"),
+                ("A 7 17", "0"),
+                ("C 3", "0 0 2 3 13 7 17"),
+                ("D 0", "0"),
+                ("S", "8"),
+            ],
+        ),
+        grown_past_empty_buckets(),
+        at_the_edge_of_the_room(
+            "2,048 keys grow to as many buckets as there is room for",
+            2048,
+            &[("S", "0 2047 1"), ("S", "0 1 0"), ("R 4096", "6")],
+        ),
+        at_the_edge_of_the_room(
+            "2,049 keys stay in 2,048 buckets, for want of room",
+            2049,
+            &[
+                ("S", "8"),
+                ("R 2048", "6"),
+                ("D 1", "0"),
+                ("A 1 1", "0"),
+                ("R 4096", "0"),
+                ("S", "0 2048 1"),
+            ],
+        ),
+        thousand_keys(),
+    ];
+    cases.extend([4, 64, 1024].map(grown_by_as_many_adds));
+    cases
+}
+
+/// All sixteen keys are in the last of sixteen buckets. The steps of the move that
+/// the last one begins pass the others like those of any move.
+fn grown_past_empty_buckets() -> Case {
+    let adds = adds((0..16).map(|number| 16 * number + 15));
+    let script = format!("N 32 16\n{adds}A 0 7\nS\nR 32\nC 0\n");
+    let answer = "0\n".repeat(1 + 17) + "0 16 0\n6\n0 16 1 0 7\n";
+    by_hand("a table grows past its empty buckets", script, answer)
+}
+
+/// All keys but the last are of one bucket, and are moved by one step: that of the
+/// last add, which leaves so many keys in 2,048 buckets.
+fn at_the_edge_of_the_room(name: &str, keys: u32, rest: &[(&str, &str)]) -> Case {
+    let held = adds((1..keys).map(|number| 4096 * number));
+    let mut script = format!("N 4096 4096\n{held}R 2048\nA 1 1\n");
+    let mut answer = "0\n".repeat(keys as usize + 2);
+    for (line, reply) in rest {
+        script += &format!("{line}\n");
+        answer += &format!("{reply}\n");
+    }
+    by_hand(name, script, answer)
+}
+
+/// A key in each of so many buckets, and as many adds, which move them to a table
+/// of twice the size and leave a key in each bucket again. So the last of them ends
+/// one move and begins another: the next step moves bucket 0.
+fn grown_by_as_many_adds(size: u32) -> Case {
+    let last = 2 * size - 1;
+    let (held, added) = (adds(0..size), adds(size..last));
+    let script = format!("N 4096 {size}\n{held}R 1\n{added}R 1\nA {last} 1\nS\nC {last}\n");
+
+    let filled = "0\n".repeat(size as usize + 1);
+    let moved = "0\n".repeat(size as usize - 1);
+    let answer = format!("{filled}7\n{moved}7\n0\n0 1 1\n0 0 1 {last} 1\n");
+    let name = format!("{size} buckets grow, and are moved by as many adds");
+    computed(&name, script, answer)
+}
+
+/// Adds alone fill a store of four buckets with the keys 0 to 999. A walk call
+/// comes behind every third of them, and behind the last as many as the walk under
+/// way still needs; where a walk has ended the next one begins.
+fn thousand_keys() -> Case {
+    let mut script = "N 1000 4\n".to_string();
+    let mut answer = "0\n".to_string();
+    let mut cursor = 0;
+    for key in 0..1000 {
+        script += &format!("A {key} {}\n", key % 10);
+        answer += "0\n";
+        if key % 3 == 2 {
+            cursor = walk_on(cursor, key + 1, &mut script, &mut answer);
+        }
+    }
+    while cursor != 0 {
+        cursor = walk_on(cursor, 1000, &mut script, &mut answer);
+    }
+    computed("1,000 keys by adds alone, with walks", script, answer)
+}
+
+/// One walk call where so many keys are held, and the cursor that it is answered.
+///
+/// Whenever a table grows there is a key in each of its buckets. So it is moved by
+/// as many adds as it has buckets, and behind these the next one grows: the smaller
+/// live table has as many buckets as the largest power of two that is not above the
+/// keys held, four at least, and during a move the larger one has twice as many. No
+/// bucket has two keys.
+fn walk_on(cursor: u32, held: u32, script: &mut String, answer: &mut String) -> u32 {
+    let digits = held.max(4).ilog2();
+    let size = 1 << digits;
+    let number = backwards(cursor, digits);
+    let next = backwards((number + 1) % size, digits);
+    let mut keys = vec![cursor, cursor + size];
+    keys.retain(|&key| key < held);
+    *script += &format!("C {cursor}\n");
+    *answer += &format!("0 {next} {}", keys.len());
+    for key in keys {
+        *answer += &format!(" {key} {}", key % 10);
+    }
+    *answer += "\n";
+    next
 }
 
 /// Adds keys, each with the value 1.
@@ -1541,15 +1897,18 @@ fn large() -> Vec<Case> {
         filled_to_the_last_entry(),
         walk_of_the_largest_table(),
         modelled("4,096 keys of one bucket moved to 4,096", {
+            // Filled by adds, a table of one bucket would have grown.
+            let one = "R 1\n".to_string() + &"S\n".repeat(4096) + "C 0\nS\n";
             let tail = "R 4096\nC 0\nS\nC 0\nC 1\nC 4095\nS\nC 0\nR 1\nS\nC 0\nS\nC 0\n";
-            fill("N 4096 1\n", 4096) + tail
+            fill("N 4096 4096\n", 4096) + &one + tail
         }),
         modelled("4,096 buckets moved into one, step by step", {
             let step = "S\nC 0\n".repeat(40) + &"S\n".repeat(2000);
             fill("N 4096 4096\n", 2000) + "R 1\n" + &step
         }),
         modelled("4,096 keys handed out as often as fits", {
-            let mut script = fill("N 4096 1\n", 4096);
+            // Moved to one bucket, all are of the group of any cursor.
+            let mut script = fill("N 4096 4096\n", 4096) + "R 1\nS\n";
             let rest = LONGEST - script.len();
             script += &"C 0\n".repeat(rest / 4 - 1);
             script + "C 0" + &"0".repeat(rest % 4) + "\n"
@@ -1563,25 +1922,30 @@ fn fill(start: &str, keys: u32) -> String {
     start.to_string() + &adds.collect::<String>()
 }
 
+/// Twice an add leaves as many keys as buckets. There is no room for a larger
+/// table, and so none grows.
 fn filled_to_the_last_entry() -> Case {
     let script = fill("N 4096 4096\n", 4096)
-        + "A 4096 1\nA 4095 1\nD 17\nA 4096 1\nA 17 1\nF 4096\nF 17\nC 0\n";
-    let answer = "0\n".repeat(4097) + "5\n4\n0\n0\n5\n0 1\n3\n0 2048 2 4096 1 0 0\n";
+        + "A 4096 1\nA 4095 1\nD 17\nA 4096 1\nA 17 1\nF 4096\nF 17\nC 0\nS\nR 4096\n";
+    let answer = "0\n".repeat(4097) + "5\n4\n0\n0\n5\n0 1\n3\n0 2048 2 4096 1 0 0\n8\n6\n";
     by_hand("4,096 keys and one more", script, answer)
+}
+
+/// A number written with so many binary digits, and read from right to left.
+fn backwards(number: u32, digits: u32) -> u32 {
+    let digits = digits as usize;
+    let text: String = format!("{number:0digits$b}").chars().rev().collect();
+    u32::from_str_radix(&text, 2).expect("binary digits")
 }
 
 /// The cursors of a walk in turn are 0, 1, 2 up to 4,095, each written with 12
 /// binary digits and read from right to left.
 fn walk_of_the_largest_table() -> Case {
-    let backwards = |number: u32| {
-        let digits: String = format!("{number:012b}").chars().rev().collect();
-        u32::from_str_radix(&digits, 2).expect("binary digits")
-    };
     let mut script = fill("N 4096 4096\n", 1000);
     let mut answer = "0\n".repeat(1001);
     for number in 0..4096 {
-        let cursor = backwards(number);
-        let next = backwards((number + 1) % 4096);
+        let cursor = backwards(number, 12);
+        let next = backwards((number + 1) % 4096, 12);
         script += &format!("C {cursor}\n");
         answer += &if cursor < 1000 {
             format!("0 {next} 1 {cursor} {}\n", cursor % 10)
@@ -1595,6 +1959,8 @@ fn walk_of_the_largest_table() -> Case {
 #[cfg(test)]
 mod tests {
     use super::*;
+    use crate::program::replies;
+    use crate::walk::Witness;
 
     #[test]
     fn the_largest_output_comes_from_the_longest_script() {
@@ -1609,11 +1975,62 @@ mod tests {
     fn the_samples_are_cases() {
         let printed = include_bytes!("../../../samples/printed.txt");
         let tour = include_bytes!("../../../samples/tour.txt");
-        for (name, sample) in [("the printed script", &printed[..]), ("the tour", tour)] {
+        let thousand = include_bytes!("../../../samples/long/thousand.txt");
+        for (name, sample) in [
+            ("the printed script", &printed[..]),
+            ("the tour", tour),
+            ("1,000 keys by adds alone, with walks", thousand),
+        ] {
             let cases = all();
             let case = cases.iter().find(|case| case.name == name).unwrap();
             assert!(case.script == sample, "{name}");
         }
+    }
+
+    /// The table grows from 4 buckets to 1,024, and all but the first time in the
+    /// add whose step ends the move before. The witness has followed every walk from
+    /// cursor 0 to its end: each handed out the keys held at all of its calls, and
+    /// no key twice. Each of them went on while a table grew.
+    #[test]
+    fn walks_are_carried_through_the_thousand_adds() {
+        let case = thousand_keys();
+        let mut witness = Witness::default();
+        for exchange in replies(&case.script) {
+            witness.observe(&exchange).unwrap();
+        }
+        let tally = witness.tally();
+        assert_eq!((tally.grown, tally.grown_at_once, tally.cramped), (8, 7, 0));
+        assert_eq!((tally.ended, tally.resized), (3, 3));
+        assert_eq!((tally.shrunk, tally.repeated), (0, 0));
+
+        // The same of the keys held throughout, by the answer alone.
+        let text = String::from_utf8(case.script).unwrap();
+        let Answer::Computed(answer) = case.answer else {
+            panic!("its answer is computed");
+        };
+        let answer = String::from_utf8(answer).unwrap();
+        let mut held = 0;
+        let mut walk = None;
+        let mut walks = 0;
+        for (line, reply) in text.lines().zip(answer.lines()) {
+            match line.as_bytes()[0] {
+                b'A' => held += 1,
+                b'C' => {
+                    let numbers: Vec<u32> = reply.split(' ').map(|n| n.parse().unwrap()).collect();
+                    let (owed, handed) = walk.get_or_insert_with(|| (held, Vec::new()));
+                    handed.extend(numbers[3..].chunks(2).map(|pair| pair[0]));
+                    if numbers[1] == 0 {
+                        handed.sort_unstable();
+                        assert!(handed.windows(2).all(|pair| pair[0] != pair[1]));
+                        assert!((0..*owed).all(|key| handed.contains(&key)));
+                        walks += 1;
+                        walk = None;
+                    }
+                }
+                _ => {}
+            }
+        }
+        assert_eq!(walks, 3);
     }
 
     #[test]

@@ -122,6 +122,10 @@ impl Plan {
             "twin: {} steps were taken inside an add or a delete, {} of them ended a move",
             sum.inside, sum.ended_inside
         );
+        println!(
+            "twin: {} tables grew by themselves, {} of them in an add whose step ended a move, {} had no room to",
+            sum.grown, sum.grown_at_once, sum.cramped
+        );
         println!("twin: {scripts} scripts agree, seed {}", self.seed);
         Ok(())
     }

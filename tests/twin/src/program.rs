@@ -125,7 +125,8 @@ impl Program {
             Command::Update { key, value } => store.update(key, value)?,
             Command::Delete { key } => store.delete(key)?,
             Command::Find { key } => results.push(store.find(key)?),
-            Command::Resize { size } => resize(store, size)?,
+            // A size that the buffers have no room for is refused there.
+            Command::Resize { size } => store.resize(size)?,
             Command::Step => {
                 let step = store.step()?;
                 results.extend([step.moved as u32, u32::from(step.moving)]);
@@ -144,21 +145,13 @@ impl Program {
     }
 }
 
-/// Starts a store that fits into the program's buffers.
+/// Starts a store in the program's buffers. What does not fit is outside the
+/// program's limits, and no bad state.
 fn start(capacity: u32, size: u32) -> Result<Store, Refusal> {
     if capacity > ROOM || size > ROOM {
         return Err(Refusal::BadSize);
     }
-    Store::start(capacity, size)
-}
-
-/// Begins a move to a table that fits into the program's buffers.
-fn resize(store: &mut Store, size: u32) -> Result<(), Refusal> {
-    // A move under way is told before any size is looked at.
-    if size > ROOM && !store.is_moving() {
-        return Err(Refusal::BadSize);
-    }
-    store.resize(size)
+    Store::start(capacity, size, ROOM)
 }
 
 /// One line of a script, read, and its reply.

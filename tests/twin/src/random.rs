@@ -104,6 +104,16 @@ const SPARSE_MOODS: [Mood; 4] = [
     [0, 4, 4, 4, 4, 4, 20, 10, 2, 4, 200],
 ];
 
+/// Those of a script whose tables grow by themselves.
+const GROWING_MOODS: [Mood; 3] = [
+    // Fill.
+    [0, 200, 4, 4, 4, 4, 20, 20, 2, 4, 40],
+    // Carry moves on.
+    [1, 20, 4, 4, 4, 4, 12, 20, 2, 4, 200],
+    // Walk on as tables grow.
+    [0, 60, 2, 8, 2, 8, 20, 100, 2, 4, 60],
+];
+
 /// The least size of a table that few keys leave sparse.
 const LARGE: u32 = 64;
 
@@ -152,9 +162,23 @@ impl Keys {
         }
     }
 
-    fn key(&self, random: &mut Random) -> u32 {
-        let place = random.below(self.count);
+    /// Of all buckets, or of so few of a small table that a move of it passes many
+    /// empty ones, however many keys there are.
+    fn crowding(random: &mut Random) -> Self {
+        let any = random.any();
+        Keys {
+            base: random.pick(&[0, 15, 31, 63, any]),
+            stride: random.pick(&[1, 3, 8, 16, 16, 32, 64]),
+            count: random.pick(&[6, 12, 24, 40, 80]),
+        }
+    }
+
+    fn at(&self, place: u32) -> u32 {
         self.base.wrapping_add(self.stride.wrapping_mul(place))
+    }
+
+    fn key(&self, random: &mut Random) -> u32 {
+        self.at(random.below(self.count))
     }
 }
 
@@ -166,6 +190,11 @@ enum Kind {
     Long,
     /// Few keys in large tables, and steps that only pass empty buckets.
     Sparse,
+    /// Tables that get more keys than buckets, and grow by themselves.
+    Growing,
+    /// About as many keys as the largest table is suggested for. One more, and a
+    /// smaller table has no room to grow.
+    Cramped,
 }
 
 impl Kind {
@@ -174,6 +203,10 @@ impl Kind {
             Kind::Long
         } else if random.one_in(8) {
             Kind::Sparse
+        } else if random.one_in(6) {
+            Kind::Growing
+        } else if random.one_in(150) {
+            Kind::Cramped
         } else {
             Kind::Common
         }
@@ -195,8 +228,15 @@ pub fn script(seed: u64) -> Vec<u8> {
     let mut random = Random::new(seed);
     let kind = Kind::choose(&mut random);
     let keys = match kind {
+        Kind::Common | Kind::Long => Keys::choose(&mut random),
         Kind::Sparse => Keys::scattered(&mut random),
-        _ => Keys::choose(&mut random),
+        Kind::Growing => Keys::crowding(&mut random),
+        // All of one bucket, and near the beginning, so that each move is short.
+        Kind::Cramped => Keys {
+            base: random.below(20),
+            stride: ROOM,
+            count: ROOM,
+        },
     };
     let mut generator = Generator {
         random,
@@ -214,15 +254,16 @@ impl Generator {
     fn write(&mut self) {
         let mut lines = self.begin();
         let moods = match self.kind {
-            Kind::Sparse => &SPARSE_MOODS[..],
-            _ => &MOODS,
+            Kind::Common | Kind::Long => &MOODS[..],
+            Kind::Sparse => &SPARSE_MOODS,
+            Kind::Growing | Kind::Cramped => &GROWING_MOODS,
         };
         while lines > 0 {
             let mood = self.random.pick(moods);
             let stretch = lines.min(10 + self.random.below(2 + lines / 3));
             for _ in 0..stretch {
                 match self.choose(&mood) {
-                    Action::Start if self.kind == Kind::Long => {}
+                    Action::Start if matches!(self.kind, Kind::Long | Kind::Cramped) => {}
                     Action::Step if self.kind == Kind::Sparse => self.step_on(),
                     action => self.act(action),
                 }
@@ -258,6 +299,24 @@ impl Generator {
                     self.act(Action::Add);
                 }
                 100 + self.random.below(500)
+            }
+            Kind::Growing => {
+                let near = 1 + self.random.below(self.keys.count);
+                let capacity = self.random.pick(&[near, near, 16, 32, ROOM]);
+                let size = 1 << self.random.below(6);
+                self.push(format!("N {capacity} {size}").as_bytes());
+                100 + self.random.below(200)
+            }
+            Kind::Cramped => {
+                self.push(format!("N {ROOM} {ROOM}").as_bytes());
+                for place in 0..ROOM / 2 {
+                    let key = self.keys.at(place);
+                    self.push(format!("A {key} {}", place % 10).as_bytes());
+                }
+                // Most of these stay, and a few come and go.
+                self.keys.base = self.keys.at(ROOM / 2 - 10);
+                self.keys.count = 20;
+                50 + self.random.below(50)
             }
         }
     }
@@ -306,6 +365,10 @@ impl Generator {
         self.program.run(command).ok()
     }
 
+    fn is_moving(&self) -> bool {
+        self.program.store().is_some_and(Store::is_moving)
+    }
+
     /// Calls a walk under way with its next cursor, or begins a new one.
     fn walk(&mut self) {
         if self.walks.is_empty() || (self.walks.len() < 4 && self.random.one_in(6)) {
@@ -322,23 +385,46 @@ impl Generator {
         }
     }
 
-    /// An add or a delete in the middle of a move; with none a resize comes first.
-    /// A refused one must not have kept the step that it would have taken, so all
-    /// is looked at behind it.
+    /// An add or a delete in the middle of a move; with none a resize comes first,
+    /// or what makes a table grow by itself. A refused one must not have kept the
+    /// step that it would have taken, so all is looked at behind it.
     fn carry_on(&mut self) {
-        if !self.program.store().is_some_and(Store::is_moving) {
-            self.act(Action::Resize);
+        if !self.is_moving() {
+            let grows = matches!(self.kind, Kind::Growing | Kind::Cramped);
+            if grows && !self.random.one_in(4) {
+                self.outgrow();
+            } else {
+                self.act(Action::Resize);
+            }
         }
-        let line = match self.random.below(8) {
+        let line = match self.random.below(9) {
             0 => format!("A {} {}", self.key_that_is(true), self.value()),
             1 => format!("D {}", self.key_that_is(false)),
-            2 => format!("D {}", self.last_to_move()),
-            3 | 4 => format!("D {}", self.key_that_is(true)),
+            2 | 3 => format!("D {}", self.last_to_move()),
+            4 | 5 => format!("D {}", self.key_that_is(true)),
             _ => format!("A {} {}", self.key_that_is(false), self.value()),
         };
         if self.push(line.as_bytes()).is_none() {
             self.look_round();
         }
+    }
+
+    /// Moves the keys to a table with no more buckets than keys, if the one that
+    /// there is has more, and adds one more.
+    fn outgrow(&mut self) {
+        let Some(store) = self.program.store() else {
+            return;
+        };
+        let keys = store.held() as u32 + 1;
+        if keys < store.size() {
+            let largest = keys.ilog2();
+            let any = self.random.below(largest + 1);
+            let size = 1 << self.random.pick(&[any, largest]);
+            self.push(format!("R {size}").as_bytes());
+            while self.is_moving() && self.push(b"S").is_some() {}
+        }
+        let line = format!("A {} {}", self.key_that_is(false), self.value());
+        self.push(line.as_bytes());
     }
 
     /// A key that is held, or one that is not, if a few draws come to one.
@@ -595,7 +681,7 @@ mod tests {
     /// can bring about has to come up often, and so do walks through resizes,
     /// with keys that come again as a table shrinks or are added ahead, and moves
     /// to their end, with steps that only pass empty buckets, and with steps inside
-    /// adds and deletes.
+    /// adds and deletes, and tables that grow by themselves, or have no room to.
     #[test]
     fn scripts_reach_every_answer() {
         let mut answers: BTreeMap<u32, usize> = BTreeMap::new();
@@ -621,6 +707,8 @@ mod tests {
         assert!(sum.late > 3000, "{sum:?}");
         assert!(sum.moves > 2000 && sum.passing > 5000, "{sum:?}");
         assert!(sum.inside > 10_000 && sum.ended_inside > 2000, "{sum:?}");
+        assert!(sum.grown > 2000 && sum.grown_at_once > 700, "{sum:?}");
+        assert!(sum.cramped > 50, "{sum:?}");
         assert!(longest <= MAX_SCRIPT && longest > 20_000, "{longest}");
     }
 
@@ -664,11 +752,12 @@ mod tests {
         (carries && store.is_moving()).then(|| store.clone().step().unwrap())
     }
 
-    /// Adds and deletes have to come up in the middle of moves that grow the table
-    /// and of those that shrink it, and be answered and refused, each where a step
-    /// moves a bucket, where it only passes empty ones, and where it ends the move
-    /// with the last keys or with none left. Only a full store always has one left:
-    /// a delete would have made room, and an add behind it have ended the move.
+    /// Adds and deletes have to come up in the middle of moves to a larger table, to
+    /// a smaller one, and of those that an add began by itself, and be answered and
+    /// refused, each where a step moves a bucket, where it only passes empty ones,
+    /// and where it ends the move with the last keys or with none left. Only a full
+    /// store always has one left: a delete would have made room, and an add behind
+    /// it have ended the move.
     #[test]
     fn scripts_carry_moves_on_in_every_way() {
         let mut seen: BTreeMap<String, usize> = BTreeMap::new();
@@ -687,22 +776,28 @@ mod tests {
                 let Some(store) = program.store() else {
                     continue;
                 };
-                if let (Command::Resize { size }, 0) = (command, number) {
-                    way = if size > store.size() { "up" } else { "down" };
-                }
-                let Some(Step { moved, moving }) = step else {
-                    continue;
-                };
                 let letter = char::from(line[0]);
-                let (moved, moving) = (moved.min(1), u32::from(moving));
-                let what = format!("{way} {letter} {number}, {moved} {moving}");
-                *seen.entry(what).or_default() += 1;
-                let left = store.is_moving() && store.unmoved().next().is_none();
-                emptied += usize::from(letter == 'D' && number == 0 && left);
+                if let Some(Step { moved, moving }) = &step {
+                    let (moved, moving) = (moved.min(&1), u32::from(*moving));
+                    let what = format!("{way} {letter} {number}, {moved} {moving}");
+                    *seen.entry(what).or_default() += 1;
+                    let left = store.is_moving() && store.unmoved().next().is_none();
+                    emptied += usize::from(letter == 'D' && number == 0 && left);
+                }
+                let goes_on = step.is_some_and(|step| step.moving);
+                match command {
+                    Command::Resize { size } if number == 0 => {
+                        way = if size > store.size() { "up" } else { "down" };
+                    }
+                    Command::Add { .. } if number == 0 && store.is_moving() && !goes_on => {
+                        way = "by itself";
+                    }
+                    _ => {}
+                }
             }
         }
         let mut all = Vec::new();
-        for way in ["down", "up"] {
+        for way in ["by itself", "down", "up"] {
             for call in ["A 0", "A 4", "A 5", "D 0", "D 3"] {
                 let steps = ["0 0", "0 1", "1 0", "1 1"];
                 let possible = steps.iter().skip(usize::from(call == "A 5"));

@@ -1,8 +1,9 @@
 //! The store, kept in ordinary Rust collections.
 //!
 //! Lent buffers, links and the free chain are left out on purpose: nothing of
-//! them shows in what the program writes. What does show is kept exactly: the
-//! order of every chain, the counts, the refusals and their order.
+//! them shows in what the program writes but how long the bucket buffers are.
+//! What does show is kept exactly: the order of every chain, the counts, the
+//! refusals and their order, and when a table grows by itself.
 //!
 //! The limits here are the library's. Those of the program are lower, and its own.
 
@@ -15,6 +16,11 @@ pub const MAX_CAPACITY: u32 = 65_536;
 pub const MAX_SIZE: u32 = 65_536;
 /// The most empty buckets that one step passes.
 pub const EMPTY_VISITS: u32 = 10;
+/// The smallest size that is suggested. Smaller ones are legal all the same.
+pub const LEAST_SUGGESTION: u32 = 4;
+/// A table with more than so many keys for each of its buckets grows even where
+/// resizing is not allowed.
+const FORCE_RATIO: usize = 5;
 
 /// The refusals that a script can bring about. The specification's 2 (damaged) and
 /// 9 (short) need memory that the program never lends.
@@ -144,21 +150,37 @@ pub enum Aim {
 #[derive(Clone)]
 pub struct Store {
     capacity: u32,
+    /// The length of each of the two bucket buffers: a table has so many buckets
+    /// at most.
+    room: u32,
     /// The only table, or during a move the old one.
     table: Table,
     rehash: Option<Rehash>,
+    /// Whether a table may grow by itself as soon as it has a key for each bucket.
+    resize_allowed: bool,
 }
 
 impl Store {
-    pub fn start(capacity: u32, size: u32) -> Result<Self, Refusal> {
+    pub fn start(capacity: u32, size: u32, room: u32) -> Result<Self, Refusal> {
         if !is_legal_capacity(capacity) || !is_legal_size(size) {
             return Err(Refusal::BadSize);
         }
+        if size > room {
+            return Err(Refusal::BadState);
+        }
         Ok(Store {
             capacity,
+            room,
             table: Table::new(size),
             rehash: None,
+            resize_allowed: true,
         })
+    }
+
+    /// Sets the permission to resize. No line of a script does.
+    #[cfg(test)]
+    pub fn allow_resize(&mut self, allowed: bool) {
+        self.resize_allowed = allowed;
     }
 
     /// The number of keys held in both tables together.
@@ -204,7 +226,9 @@ impl Store {
     }
 
     pub fn add(&mut self, key: u32, value: u32) -> Result<(), Refusal> {
-        self.step_first(|store| store.add_alone(key, value))
+        self.step_first(|store| store.add_alone(key, value))?;
+        self.grow();
+        Ok(())
     }
 
     pub fn delete(&mut self, key: u32) -> Result<(), Refusal> {
@@ -253,19 +277,40 @@ impl Store {
             .ok_or(Refusal::Absent)
     }
 
-    /// Begins a move to a table of `size` buckets; moves nothing yet.
+    /// Behind an answered add: begins a move to the suggested size if the only
+    /// table has too many keys. Where that size is no larger, or too large for the
+    /// other buffer, all stays as it is.
+    fn grow(&mut self) {
+        if self.is_moving() {
+            return;
+        }
+        let (held, buckets) = (self.held(), self.size() as usize);
+        let full = self.resize_allowed && held >= buckets;
+        let overfull = held > FORCE_RATIO * buckets;
+        let size = self.suggested_size(Aim::Grow);
+        if (full || overfull) && size > self.size() && size <= self.room {
+            self.begin_move(size);
+        }
+    }
+
+    /// Begins a move to a table of `size` buckets.
     pub fn resize(&mut self, size: u32) -> Result<(), Refusal> {
         if self.is_moving() {
             return Err(Refusal::Moving);
         }
-        if !is_legal_size(size) || size == self.size() {
+        if !is_legal_size(size) || size == self.size() || size > self.room {
             return Err(Refusal::BadSize);
         }
+        self.begin_move(size);
+        Ok(())
+    }
+
+    /// Nothing has moved yet.
+    fn begin_move(&mut self, size: u32) {
         self.rehash = Some(Rehash {
             target: Table::new(size),
             next: 0,
         });
-        Ok(())
     }
 
     /// Moves the next filled bucket, unless too many empty ones come before it: a
@@ -338,8 +383,7 @@ impl Store {
             Aim::Grow => 2 * self.held() as u32,
             Aim::Shrink => self.held() as u32,
         };
-        // No keys: the smallest power of two not below 0 is 1.
-        wanted.next_power_of_two().min(MAX_SIZE)
+        wanted.next_power_of_two().clamp(LEAST_SUGGESTION, MAX_SIZE)
     }
 }
 
@@ -347,12 +391,33 @@ impl Store {
 mod tests {
     use super::*;
 
-    fn store(capacity: u32, size: u32, keys: impl IntoIterator<Item = u32>) -> Store {
-        let mut store = Store::start(capacity, size).unwrap();
+    /// Keys are added with ten times themselves.
+    fn add_all(store: &mut Store, keys: impl IntoIterator<Item = u32>) {
         for key in keys {
             store.add(key, 10 * key).unwrap();
         }
+    }
+
+    fn store(capacity: u32, size: u32, keys: impl IntoIterator<Item = u32>) -> Store {
+        let mut store = Store::start(capacity, size, MAX_SIZE).unwrap();
+        add_all(&mut store, keys);
         store
+    }
+
+    /// A store that is not allowed to resize, so that its one table may have as
+    /// many keys as buckets, and more.
+    fn fixed(capacity: u32, size: u32, keys: impl IntoIterator<Item = u32>) -> Store {
+        let mut store = store(capacity, size, []);
+        store.allow_resize(false);
+        add_all(&mut store, keys);
+        assert!(!store.is_moving());
+        store
+    }
+
+    /// The sizes of the old and the new table; with no move the second is 0.
+    fn sizes(store: &Store) -> (u32, u32) {
+        let new = store.rehash.as_ref().map(|rehash| rehash.target.size());
+        (store.size(), new.unwrap_or(0))
     }
 
     fn keys(scan: &Scan) -> Vec<u32> {
@@ -372,8 +437,10 @@ mod tests {
 
     #[test]
     fn limits_of_start() {
+        let start = |capacity, size, room| Store::start(capacity, size, room).err();
         for (capacity, size) in [(1, 1), (4097, 8192), (65_536, 65_536)] {
-            assert!(Store::start(capacity, size).is_ok());
+            assert_eq!(start(capacity, size, size), None);
+            assert_eq!(start(capacity, size, size - 1), Some(Refusal::BadState));
         }
         for (capacity, size) in [
             (1, 65_535),
@@ -386,7 +453,9 @@ mod tests {
             (u32::MAX, 1),
             (1, 1 << 31),
         ] {
-            assert_eq!(Store::start(capacity, size).err(), Some(Refusal::BadSize));
+            assert_eq!(start(capacity, size, MAX_SIZE), Some(Refusal::BadSize));
+            // Told before a buffer that is too short.
+            assert_eq!(start(capacity, size, 0), Some(Refusal::BadSize));
         }
     }
 
@@ -405,9 +474,14 @@ mod tests {
     fn suggested_sizes() {
         for (held, grown, shrunk) in [
             (5, 16, 8),
-            (0, 1, 1),
-            (1, 2, 1),
+            // Never below 4.
+            (0, 4, 4),
+            (1, 4, 4),
+            (2, 4, 4),
+            (3, 8, 4),
+            (4, 8, 4),
             (8, 16, 8),
+            (9, 32, 16),
             (2049, 8192, 4096),
             (32_768, 65_536, 32_768),
             (32_769, 65_536, 65_536),
@@ -432,7 +506,7 @@ mod tests {
 
     #[test]
     fn two_table_groups_hand_out_in_order() {
-        let mut store = store(16, 4, [0, 4, 8, 12, 1, 2, 35]);
+        let mut store = fixed(16, 4, [0, 4, 8, 12, 1, 2, 35]);
         store.resize(16).unwrap();
         expect_steps(&mut store, &[(4, true)]);
         let scan = store.scan(0);
@@ -481,7 +555,7 @@ mod tests {
     /// The deletes themselves move the keys 0 and 1.
     #[test]
     fn a_move_ends_when_the_old_keys_are_deleted() {
-        let mut store = store(8, 4, [0, 1, 2, 3]);
+        let mut store = fixed(8, 4, [0, 1, 2, 3]);
         store.resize(2).unwrap();
         store.delete(3).unwrap();
         store.delete(2).unwrap();
@@ -490,10 +564,11 @@ mod tests {
         assert_eq!((store.size(), store.held()), (2, 2));
     }
 
-    /// A store that is moved to one bucket, where a walk call hands out everything:
-    /// the new table's chain, and then the old table's buckets 0, 2, 1 and 3.
+    /// A store that is moved to one bucket, and does not grow there. A walk call
+    /// hands out everything: the new table's chain, and then the old table's
+    /// buckets 0, 2, 1 and 3.
     fn moving_to_one(capacity: u32, keys: impl IntoIterator<Item = u32>) -> Store {
-        let mut store = store(capacity, 4, keys);
+        let mut store = fixed(capacity, 4, keys);
         store.resize(1).unwrap();
         store
     }
@@ -627,6 +702,195 @@ mod tests {
         store.resize(65_536).unwrap();
         assert_eq!(store.resize(131_072), Err(Refusal::Moving));
         assert_eq!(store.resize(3), Err(Refusal::Moving));
+        // In buffers for 15 buckets, of which one is missing for 16.
+        let mut short = Store::start(8, 4, 15).unwrap();
+        assert_eq!(short.resize(16), Err(Refusal::BadSize));
+        assert_eq!(short.resize(8), Ok(()));
+        assert_eq!(short.resize(16), Err(Refusal::Moving));
+    }
+
+    #[test]
+    fn a_table_grows_with_a_key_for_each_bucket() {
+        for (size, grown) in [(1, 4), (2, 4), (4, 8), (8, 16), (64, 128)] {
+            let mut store = store(200, size, 0..size - 1);
+            assert_eq!(sizes(&store), (size, 0));
+            store.add(size - 1, 7).unwrap();
+            assert_eq!(sizes(&store), (size, grown));
+            // Nothing has moved, and the key just added lies in the old table too.
+            assert!(store.unmoved().eq(0..size));
+            assert_eq!(store.resize(grown), Err(Refusal::Moving));
+            expect_steps(&mut store, &[(1, size > 1)]);
+        }
+    }
+
+    /// Five for each bucket are not too many, and one key more is.
+    #[test]
+    fn without_permission_a_table_grows_above_five_keys_for_each_bucket() {
+        for (size, grown) in [(1, 16), (2, 32), (4, 64), (16, 256)] {
+            let mut store = fixed(200, size, 0..5 * size);
+            assert_eq!(store.add(0, 7), Err(Refusal::Present));
+            assert_eq!(sizes(&store), (size, 0));
+            store.add(5 * size, 7).unwrap();
+            assert_eq!(sizes(&store), (size, grown));
+            assert_eq!(store.unmoved().count(), 5 * size as usize + 1);
+        }
+    }
+
+    /// Permission itself begins nothing; the next add does, if it is given then.
+    #[test]
+    fn permission_is_asked_at_each_add() {
+        let mut given = fixed(200, 4, 0..7);
+        given.allow_resize(true);
+        assert_eq!(sizes(&given), (4, 0));
+        given.add(7, 70).unwrap();
+        assert_eq!(sizes(&given), (4, 16));
+
+        let mut taken = store(200, 4, 0..3);
+        taken.allow_resize(false);
+        taken.add(3, 30).unwrap();
+        assert_eq!(sizes(&taken), (4, 0));
+        // It is still off behind a move, which it does not keep from beginning.
+        taken.resize(2).unwrap();
+        finish(&mut taken);
+        add_all(&mut taken, 4..10);
+        assert_eq!(sizes(&taken), (2, 0));
+        taken.add(10, 0).unwrap();
+        assert_eq!(sizes(&taken), (2, 32));
+    }
+
+    /// Two keys would call for 4 buckets, and the third makes it 8.
+    #[test]
+    fn a_table_grows_for_the_keys_behind_the_add() {
+        let mut store = fixed(8, 2, [0, 1]);
+        assert_eq!(store.suggested_size(Aim::Grow), 4);
+        store.allow_resize(true);
+        store.add(2, 20).unwrap();
+        assert_eq!(sizes(&store), (2, 8));
+    }
+
+    #[test]
+    fn a_table_does_not_grow_into_a_buffer_that_is_too_short() {
+        for (room, new) in [(4, 0), (7, 0), (8, 8), (9, 8)] {
+            let mut store = Store::start(8, 4, room).unwrap();
+            add_all(&mut store, 0..4);
+            assert_eq!(sizes(&store), (4, new));
+            assert_eq!(store.find(3), Ok(30));
+        }
+        // Without permission, and with a smaller size that would have fitted.
+        for (room, new) in [(8, 0), (15, 0), (16, 16)] {
+            let mut store = Store::start(8, 1, room).unwrap();
+            store.allow_resize(false);
+            add_all(&mut store, 0..6);
+            assert_eq!(sizes(&store), (1, new));
+        }
+        // Keys are added on and on, and a delete makes no difference.
+        let mut store = Store::start(40, 4, 7).unwrap();
+        add_all(&mut store, 0..40);
+        store.delete(0).unwrap();
+        store.add(0, 0).unwrap();
+        assert_eq!((sizes(&store), store.held()), ((4, 0), 40));
+        assert_eq!(store.resize(8), Err(Refusal::BadSize));
+        assert_eq!(store.resize(2), Ok(()));
+    }
+
+    /// The add's step ends a move to fewer buckets, or one that growth had begun.
+    #[test]
+    fn a_table_grows_in_the_add_whose_step_ends_a_move() {
+        let mut shrinking = store(8, 8, [8]);
+        shrinking.resize(2).unwrap();
+        shrinking.add(0, 0).unwrap();
+        assert_eq!(sizes(&shrinking), (2, 4));
+        assert!(shrinking.unmoved().eq([0, 8]));
+
+        // With a key in each bucket a move lasts as long as the next fill.
+        let mut growing = store(100, 4, 0..4);
+        for held in 5..=100 {
+            growing.add(held - 1, 0).unwrap();
+            let size = held.next_power_of_two();
+            let expected = if held == size { size } else { size / 2 };
+            assert_eq!(sizes(&growing), (expected, 2 * expected), "{held}");
+        }
+    }
+
+    /// However many keys come meanwhile: here the step of each add only passes
+    /// empty buckets.
+    #[test]
+    fn a_table_does_not_grow_in_the_middle_of_a_move() {
+        let mut store = store(64, 64, [63]);
+        store.resize(2).unwrap();
+        add_all(&mut store, 0..6);
+        assert_eq!((sizes(&store), store.held()), ((64, 2), 7));
+        // The next one's step ends the move, and eight keys call for 16.
+        store.add(6, 60).unwrap();
+        assert_eq!(sizes(&store), (2, 16));
+    }
+
+    #[test]
+    fn only_an_answered_add_makes_a_table_grow() {
+        let crowded = || {
+            let mut store = fixed(5, 4, 0..4);
+            store.allow_resize(true);
+            store
+        };
+        let mut store = crowded();
+        assert_eq!(store.add(3, 0), Err(Refusal::Present));
+        assert_eq!(store.delete(4), Err(Refusal::Absent));
+        assert_eq!(store.update(3, 31), Ok(()));
+        assert_eq!(store.find(3), Ok(31));
+        store.scan(0);
+        assert_eq!(store.step(), Err(Refusal::NotMoving));
+        assert_eq!(store.resize(4), Err(Refusal::BadSize));
+        assert_eq!(sizes(&store), (4, 0));
+        store.add(4, 40).unwrap();
+        assert_eq!(sizes(&store), (4, 16));
+
+        let mut full = crowded();
+        full.allow_resize(false);
+        full.add(4, 40).unwrap();
+        full.allow_resize(true);
+        assert_eq!(full.add(5, 0), Err(Refusal::Full));
+        assert_eq!(sizes(&full), (4, 0));
+
+        // A delete whose step ends a move, with more keys left than buckets, and
+        // the add behind it.
+        let mut moving = crowded();
+        moving.resize(1).unwrap();
+        expect_steps(&mut moving, &[(1, true), (1, true), (1, true)]);
+        moving.delete(0).unwrap();
+        assert_eq!((sizes(&moving), moving.held()), ((1, 0), 3));
+        moving.add(0, 0).unwrap();
+        assert_eq!(sizes(&moving), (1, 8));
+    }
+
+    /// Nor by adds among them, where there are few keys.
+    #[test]
+    fn a_table_does_not_shrink_by_itself() {
+        let mut store = store(100, 4, 0..100);
+        finish(&mut store);
+        assert_eq!(sizes(&store), (128, 0));
+        for key in 0..100 {
+            store.delete(key).unwrap();
+            assert_eq!(sizes(&store), (128, 0));
+        }
+        assert_eq!(store.suggested_size(Aim::Shrink), 4);
+        store.add(1, 0).unwrap();
+        assert_eq!(sizes(&store), (128, 0));
+    }
+
+    #[test]
+    fn a_table_does_not_grow_above_the_largest() {
+        let mut half = store(65_536, 32_768, 0..32_767);
+        assert_eq!(sizes(&half), (32_768, 0));
+        half.add(32_767, 0).unwrap();
+        assert_eq!(sizes(&half), (32_768, 65_536));
+        // Its suggestion would be 131,072.
+        let mut fewer = fixed(65_536, 8192, 0..40_960);
+        fewer.add(40_960, 0).unwrap();
+        assert_eq!(sizes(&fewer), (8192, 65_536));
+        // In buffers that are as long as any.
+        let mut largest = Store::start(65_536, 65_536, u32::MAX).unwrap();
+        add_all(&mut largest, 0..65_536);
+        assert_eq!(sizes(&largest), (65_536, 0));
     }
 
     /// Full, walked from end to end, and moved into one bucket.

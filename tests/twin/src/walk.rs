@@ -3,16 +3,18 @@
 //! how often a walk hands out a key and which of the keys that come meanwhile
 //! it must hand out, of each walk call demand 2, and how many steps a move takes.
 //!
-//! It has nothing in common with the store but the most empty buckets of a step,
-//! a number that the cases written by hand fix for both. The program's limits and
-//! the numbers of the answers stand here once more, from the specification; the
-//! plain map, the live sizes and which keys are in the new table it learns from
-//! calls and answers; and where a walk goes it reads off the line of `line.rs`.
-//! Left to the store is only in which order a bucket's own keys come.
+//! It has nothing in common with the store but the most empty buckets of a step
+//! and the smallest size that is suggested, two numbers that the cases written by
+//! hand fix for both. The program's limits and the numbers of the answers stand
+//! here once more, from the specification; the plain map, the live sizes and which
+//! keys are in the new table it learns from calls and answers, and so when a table
+//! grows by itself, which no answer tells; and where a walk goes it reads off the
+//! line of `line.rs`. Left to the store is only in which order a bucket's own keys
+//! come.
 
 use crate::line::{self, number_at, part, place};
 use crate::program::{Command, Exchange, Reply};
-use crate::store::EMPTY_VISITS;
+use crate::store::{EMPTY_VISITS, LEAST_SUGGESTION};
 use std::collections::{BTreeMap, BTreeSet};
 use std::ops::AddAssign;
 
@@ -30,7 +32,7 @@ const BAD_LINE: u32 = 10;
 /// The largest capacity that a script may ask for, whatever the library allows.
 const LARGEST_CAPACITY: u32 = 4096;
 
-/// All sizes that a script may ask for.
+/// All sizes that a script may ask for, and that its tables can have.
 const SIZES: [u32; 13] = [1, 2, 4, 8, 16, 32, 64, 128, 256, 512, 1024, 2048, 4096];
 
 /// More walks than this are not followed at one time. Any choice of a run's
@@ -128,6 +130,13 @@ pub struct Tally {
     pub passing: usize,
     /// Steps inside an add or a delete, of such moves too.
     pub inside: usize,
+    /// Moves that an add began: the table grew by itself.
+    pub grown: usize,
+    /// Those of them begun by an add whose step had ended the move before.
+    pub grown_at_once: usize,
+    /// Adds behind which a table would have grown, had the other buffer been long
+    /// enough.
+    pub cramped: usize,
 }
 
 impl AddAssign for Tally {
@@ -141,6 +150,9 @@ impl AddAssign for Tally {
         self.ended_inside += other.ended_inside;
         self.passing += other.passing;
         self.inside += other.inside;
+        self.grown += other.grown;
+        self.grown_at_once += other.grown_at_once;
+        self.cramped += other.cramped;
     }
 }
 
@@ -221,7 +233,30 @@ impl Witness {
         let in_new = self.step_first(live)?;
         self.held.insert(place(key), Held { key, value, in_new });
         self.added.push(place(key));
+        if !in_new {
+            self.grow(live);
+        }
         expect(reply, DONE, &[])
+    }
+
+    /// Behind an add that leaves one table, of those that were live before it. With
+    /// a key for each of its buckets it grows: no script takes the permission away.
+    /// It is to have two buckets for each key then, if there is room for so many.
+    fn grow(&mut self, before: Live) {
+        let only = before.new.unwrap_or(before.old);
+        let held = self.held.len() as u32;
+        if held < only {
+            return;
+        }
+        let least = LEAST_SUGGESTION.max(2 * held);
+        match SIZES.into_iter().find(|&size| size >= least) {
+            Some(size) => {
+                self.begin_move(only, size);
+                self.tally.grown += 1;
+                self.tally.grown_at_once += usize::from(before.new.is_some());
+            }
+            None => self.tally.cramped += 1,
+        }
     }
 
     fn delete(&mut self, live: Live, key: u32, reply: &Reply) -> Result<(), String> {
@@ -255,13 +290,17 @@ impl Witness {
         if !SIZES.contains(&size) || size == live.old {
             return expect(reply, BAD_SIZE, &[]);
         }
-        self.live = Some(Live {
-            new: Some(size),
-            ..live
-        });
-        let filled: BTreeSet<u32> = self.held.values().map(|held| held.key % live.old).collect();
-        self.progress = Progress::begin(live.old, filled.len() as u32);
+        self.begin_move(live.old, size);
         expect(reply, DONE, &[])
+    }
+
+    fn begin_move(&mut self, old: u32, new: u32) {
+        self.live = Some(Live {
+            old,
+            new: Some(new),
+        });
+        let filled: BTreeSet<u32> = self.held.values().map(|held| held.key % old).collect();
+        self.progress = Progress::begin(old, filled.len() as u32);
     }
 
     fn step(&mut self, live: Live, reply: &Reply) -> Result<(), String> {
@@ -657,8 +696,9 @@ mod tests {
         // The second call of this walk sees a smaller table, and hands out key 0
         // again. Key 3 comes ahead of the walk, key 4 behind it, and key 7 has
         // gone by the next call.
-        let script = "N 8 4\nA 0 10\nC 0\nR 2\nS\nA 3 30\nC 2\nA 4 40\nA 7 70\nD 7\nC 1\n";
-        let tally = witness(script).tally();
+        let script = "N 8 8\nA 0 10\nC 0\nR 4\nS\nA 3 30\nC 4\nA 7 70\nD 7\nA 4 40\n";
+        let script = script.to_string() + "C 2\nC 1\nC 3\n";
+        let tally = witness(&script).tally();
         assert_eq!((tally.ended, tally.resized, tally.shrunk), (1, 1, 1));
         assert_eq!((tally.repeated, tally.late), (1, 1));
         // Two steps pass empty buckets, and a start breaks the move off; one
@@ -674,12 +714,99 @@ mod tests {
         let tally = witness(script).tally();
         assert_eq!((tally.moves, tally.passing), (1, 1));
         assert_eq!((tally.ended_inside, tally.inside), (1, 2));
+        assert_eq!(tally.grown, 0);
+    }
+
+    #[test]
+    fn tables_that_grow_are_counted() {
+        // With its second key a table of two, and with the fourth, whose step ends
+        // that move, one of four. Behind a move to 2 the fifth makes it grow again.
+        let grown = |script: &str| {
+            let tally = witness(script).tally();
+            (tally.grown, tally.grown_at_once, tally.cramped)
+        };
+        let two = "N 8 2\nA 0 0\nA 1 0\n";
+        assert_eq!(grown(two), (1, 0, 0));
+        let four = format!("{two}A 2 0\nA 3 0\n");
+        assert_eq!(grown(&four), (2, 1, 0));
+        let shrunk = format!("{four}S\nS\nS\nS\nR 2\nS\nS\nS\nS\nA 4 0\n");
+        assert_eq!(grown(&shrunk), (3, 1, 0));
+        // Refused adds begin nothing, and behind a start all is counted anew.
+        let refused = format!("{two}A 1 0\nN 2 4\nA 0 0\nA 1 0\nA 2 0\n");
+        assert_eq!(grown(&refused), (1, 0, 0));
+        // As many buckets as there is room for.
+        let full = format!("N 4096 4096\n{}D 1\nA 1 0\n", adds(0..4096));
+        assert_eq!(grown(&full), (0, 0, 2));
+    }
+
+    /// Lines that add keys, each with the value 0.
+    fn adds(keys: std::ops::Range<u32>) -> String {
+        keys.map(|key| format!("A {key} 0\n")).collect()
+    }
+
+    /// A table that grows one key too early or too late, to another size, behind
+    /// another call than an answered add, or where there is no room for it. Each
+    /// script's last line has the first answer, and the others are noticed.
+    #[test]
+    fn wrong_growth_is_noticed() {
+        use Refusal::{BadSize, Moving, NotMoving};
+        let done = || Ok(vec![]);
+        let expect_only = |script: &str, right: Reply, wrong: &[Reply]| {
+            assert_eq!(forged(script, right), Ok(()), "{script}");
+            for reply in wrong {
+                assert!(forged(script, reply.clone()).is_err(), "{script}{reply:?}");
+            }
+        };
+        let three = format!("N 8 4\n{}", adds(0..3));
+        expect_only(&format!("{three}S\n"), Err(NotMoving), &[Ok(vec![1, 1])]);
+        expect_only(&format!("{three}R 8\n"), done(), &[Err(Moving)]);
+        let four = format!("{three}A 3 0\n");
+        let (none, all) = (Err(NotMoving), Ok(vec![4, 0]));
+        expect_only(&format!("{four}S\n"), Ok(vec![1, 1]), &[none, all]);
+        expect_only(
+            &format!("{four}R 8\n"),
+            Err(Moving),
+            &[done(), Err(BadSize)],
+        );
+        // Once it has grown to 8.
+        let grown = format!("{four}S\nS\nS\nS\n");
+        expect_only(
+            &format!("{grown}R 8\n"),
+            Err(BadSize),
+            &[done(), Err(Moving)],
+        );
+        expect_only(&format!("{grown}R 16\n"), done(), &[Err(BadSize)]);
+        // One bucket makes four at once, and not two.
+        let one = "N 8 1\nA 5 0\nS\n";
+        expect_only(&format!("{one}R 4\n"), Err(BadSize), &[done()]);
+        expect_only(&format!("{one}R 2\n"), done(), &[Err(BadSize)]);
+        // By five keys in two buckets, and not by the four before.
+        let five = "N 8 8\nA 0 0\nA 2 0\nA 4 0\nA 6 0\nR 2\nS\nS\nS\nS\n";
+        expect_only(&format!("{five}S\n"), Err(NotMoving), &[Ok(vec![4, 0])]);
+        let five = format!("{five}A 1 0\nS\nS\n");
+        expect_only(&format!("{five}R 16\n"), Err(BadSize), &[done()]);
+        expect_only(&format!("{five}R 8\n"), done(), &[Err(BadSize)]);
+        // Calls between, in two buckets with four keys of four.
+        let full = "N 4 8\nA 0 0\nA 2 0\nA 4 0\nA 6 0\nR 2\nS\nS\nS\nS\n";
+        for line in ["A 0 0", "A 1 0", "D 0", "D 1", "V 0 1", "F 0", "C 0", "R 2"] {
+            let script = format!("{full}{line}\nS\n");
+            expect_only(&script, Err(NotMoving), &[Ok(vec![4, 0]), Ok(vec![3, 0])]);
+        }
+        // In the add whose step ends a move, and the next move begins at bucket 0.
+        let eight = format!("N 16 4\n{}", adds(0..8));
+        let wrong = [Err(NotMoving), Ok(vec![1, 0])];
+        expect_only(&format!("{eight}S\n"), Ok(vec![1, 1]), &wrong);
+        let delete = "N 8 8\nA 0 0\nA 1 0\nA 2 0\nR 1\nS\nS\nD 0\nS\n";
+        expect_only(delete, Err(NotMoving), &[Ok(vec![2, 0])]);
+        // No table has 8,192 buckets.
+        let most = format!("N 4096 4096\n{}S\n", adds(0..4096));
+        expect_only(&most, Err(NotMoving), &[Ok(vec![1, 1])]);
     }
 
     #[test]
     fn a_key_that_a_whole_walk_lost_is_noticed() {
         expect_noticed(
-            "N 8 1\nA 1 10\nA 6 60\nC 0\n",
+            "N 8 4\nA 1 10\nA 6 60\nR 1\nS\nS\nC 0\n",
             &[0, 2, 6, 60, 1, 10],
             &[(&[0, 1, 6, 60], "without keys [1]")],
         );
@@ -695,7 +822,7 @@ mod tests {
     /// key comes twice, and at the end each key held throughout has come.
     #[test]
     fn a_key_that_did_not_come_exactly_once_is_noticed() {
-        let script = "N 8 2\nA 0 10\nA 1 11\n";
+        let script = "N 8 4\nA 0 10\nA 1 11\nR 2\nS\nS\n";
         assert_eq!(walked(script, &[(2, 0, 1, &[0]), (2, 1, 0, &[1])]), Ok(()));
         let never = [(2, 0, 1, &[0][..]), (2, 1, 0, &[])];
         expect_broken(script, &never, "without keys [1]");
@@ -826,7 +953,7 @@ mod tests {
     #[test]
     fn a_walk_of_too_many_calls_is_noticed() {
         expect_noticed(
-            "N 8 1\nA 1 10\nC 0\n",
+            "N 8 2\nA 1 10\nR 1\nS\nC 0\n",
             &[0, 1, 1, 10],
             &[(&[1, 1, 1, 10], "2 calls or more, with 1 as its bound")],
         );
@@ -854,7 +981,7 @@ mod tests {
     #[test]
     fn keys_out_of_place_are_noticed() {
         expect_noticed(
-            "N 8 2\nA 1 10\nA 2 20\nA 4 40\nC 0\n",
+            "N 8 8\nA 1 10\nA 2 20\nA 4 40\nR 2\nS\nS\nS\nC 0\n",
             &[1, 2, 4, 40, 2, 20],
             &[
                 (&[1, 3, 4, 40, 2, 20, 1, 10], "key 1 is not of the group"),
@@ -931,7 +1058,7 @@ mod tests {
 
     #[test]
     fn wrong_steps_are_noticed() {
-        let script = "N 8 4\nA 0 0\nA 1 10\nA 5 50\nA 3 30\nR 8\nA 9 90\nS\n";
+        let script = "N 8 8\nA 0 0\nA 1 10\nA 9 90\nA 3 30\nR 16\nA 17 170\nS\n";
         let due = "0 [2, 1] is to be answered";
         expect_noticed(
             script,
@@ -1022,12 +1149,12 @@ mod tests {
     #[test]
     fn wrong_steps_inside_other_calls_are_noticed() {
         // One key in bucket 0, two in bucket 1, three in bucket 2 and one in bucket 3.
-        let begin = "N 8 4\nA 0 0\nA 1 0\nA 5 0\nA 2 0\nA 6 0\nA 10 0\nA 3 0\nR 8\n";
+        let begin = "N 8 8\nA 0 0\nA 1 0\nA 9 0\nA 2 0\nA 10 0\nA 18 0\nA 3 0\nR 16\n";
         for (lines, moved, wrong) in [
             ("A 4 0\n", 2, 1),
             ("D 2\n", 2, 1),
             ("D 0\nD 1\n", 3, 1),
-            ("A 4 0\nA 9 0\n", 2, 3),
+            ("A 4 0\nA 5 0\n", 2, 3),
             ("A 3 0\n", 1, 2),
             ("D 4\n", 1, 2),
             ("F 0\nV 0 0\nC 0\n", 1, 2),

@@ -198,6 +198,7 @@ pub fn answer(script: &[u8]) -> Vec<u8> {
 mod tests {
     use super::*;
     use crate::cases::{self, Answer};
+    use crate::walk::Witness;
 
     #[test]
     fn fixed_scripts_have_their_known_answers() {
@@ -209,6 +210,30 @@ mod tests {
             let shown = answer.escape_ascii();
             assert!(answer == known, "{}: {shown}", case.name);
         }
+    }
+
+    /// The script that the crate of the program has for its own run, and the answers
+    /// beside it, line by line.
+    #[test]
+    fn the_own_script_of_the_program_has_its_answers() {
+        let script = include_bytes!("../../../crates/script_main/stdin");
+        let known = include_bytes!("../../../crates/script_main/stdout");
+        assert_eq!(lines(script).count(), lines(known).count());
+        let mut witness = Witness::default();
+        let exchanges = replies(script).zip(lines(script)).zip(lines(known));
+        for (number, ((exchange, line), known)) in (1..).zip(exchanges) {
+            let mut answer = Vec::new();
+            write_reply(&exchange.reply, &mut answer);
+            let (line, shown) = (line.escape_ascii(), answer.escape_ascii());
+            assert!(
+                answer == [known, b"\n"].concat(),
+                "line {number}, {line}: {shown}"
+            );
+            witness.observe(&exchange).unwrap();
+        }
+        let tally = witness.tally();
+        assert!(tally.grown > 15 && tally.grown_at_once > 7, "{tally:?}");
+        assert_eq!(tally.cramped, 1);
     }
 
     #[test]

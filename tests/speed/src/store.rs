@@ -10,6 +10,7 @@
 //! before it writes. In a move an add takes a step first: it has tested the
 //! chain that moves, and the key's two as the step will leave them, before
 //! either writes, so that nothing is copied and a refusal has nothing to undo.
+//! An add that leaves one table also looks whether this is to grow.
 //! There is no `unsafe` (Cargo.toml forbids it), and the state is hidden from
 //! the compiler (`work.rs`).
 //!
@@ -28,6 +29,13 @@ pub const MAX_SIZE: u32 = 65536;
 /// The most empty buckets that a step passes.
 const EMPTY_VISITS: usize = 10;
 
+/// The smallest size that a table grows to.
+const LEAST_SUGGESTION: u32 = 4;
+
+/// With more than so many keys for each bucket a table grows, whether resizing is
+/// allowed or not.
+const FORCE_RATIO: u32 = 5;
+
 /// The numbers of an entry in its buffer: link, key, value.
 const FIELDS: usize = 3;
 
@@ -42,6 +50,7 @@ pub struct State {
     pub rehash_index: u32,
     pub free_head: u32,
     pub capacity: u32,
+    pub resize_allowed: bool,
 }
 
 /// The specification's numbers.
@@ -169,6 +178,7 @@ impl<'a> Store<'a> {
             old_size: size,
             free_head: 1,
             capacity,
+            resize_allowed: true,
             ..State::default()
         };
         Ok(())
@@ -180,20 +190,29 @@ impl<'a> Store<'a> {
         if self.state.rehashing {
             return Err(Error::Rehashing);
         }
+        let is_present = size == self.state.old_size;
+        if !is_legal_size(size) || is_present || !self.has_room(size) {
+            return Err(Error::BadSize);
+        }
+        self.begin_move(size);
+        Ok(())
+    }
+
+    /// Whether the other bucket buffer is long enough for a table of that size.
+    fn has_room(&self, size: u32) -> bool {
+        size as usize <= self.buffers().1.len()
+    }
+
+    fn begin_move(&mut self, size: u32) {
         let other = if self.state.second_is_current {
             &mut self.first
         } else {
             &mut self.second
         };
-        let is_present = size == self.state.old_size;
-        if !is_legal_size(size) || is_present || other.len() < size as usize {
-            return Err(Error::BadSize);
-        }
         other[..size as usize].fill(0);
         // With no move the new count and the next bucket are 0 already.
         self.state.new_size = size;
         self.state.rehashing = true;
-        Ok(())
     }
 
     pub fn find(&self, key: u32) -> Result<u32, Error> {
@@ -216,7 +235,29 @@ impl<'a> Store<'a> {
         };
         self.push(self.state.free_head, key, value);
         self.state.free_head = next_free;
+        if !self.state.rehashing && self.is_crowded() {
+            self.grow();
+        }
         Ok(())
+    }
+
+    /// Whether the only table has too many keys: one for each bucket, where
+    /// resizing is allowed, or more than five. The second is a case of the
+    /// first, so that mostly one test decides.
+    fn is_crowded(&self) -> bool {
+        let state = &self.state;
+        state.old_used >= state.old_size
+            && (state.resize_allowed || state.old_used > state.old_size * FORCE_RATIO)
+    }
+
+    /// Begins a move to two buckets for each key, if that is a larger table and
+    /// the other buffer has room for it.
+    fn grow(&mut self) {
+        let wanted = (self.state.old_used * 2).next_power_of_two();
+        let size = wanted.clamp(LEAST_SUGGESTION, MAX_SIZE);
+        if size > self.state.old_size && self.has_room(size) {
+            self.begin_move(size);
+        }
     }
 
     /// The step of an add in a move. That both are answered is known before the
@@ -330,6 +371,7 @@ impl<'a> Store<'a> {
                 old_used: state.new_used,
                 free_head: state.free_head,
                 capacity: state.capacity,
+                resize_allowed: state.resize_allowed,
                 ..State::default()
             };
         }
@@ -614,7 +656,8 @@ mod tests {
 
     const DAMAGED: Result<Scanned, ScanError> = Err(ScanError::Refused(Error::Damaged));
 
-    /// Runs `test` on a store of capacity 8 and size 4 with three keys in one bucket.
+    /// Runs `test` on a store of capacity 8 and size 4 with three keys in one
+    /// bucket. It is not allowed to resize, so that it can have more.
     fn with_store(test: impl FnOnce(&mut Store)) {
         let (mut first, mut second, mut entries) = ([7; 4], [7; 8], [7; 24]);
         let mut store = Store::new(&mut first, &mut second, &mut entries);
@@ -622,6 +665,7 @@ mod tests {
         assert_eq!(store.init(8, 3), Err(Error::BadSize));
         assert_eq!(store.init(9, 4), Err(Error::BadState));
         assert_eq!(store.init(8, 4), Ok(()));
+        store.state.resize_allowed = false;
         for (key, value) in [(1, 10), (5, 50), (9, 90)] {
             assert_eq!(store.add(key, value), Ok(()));
         }
@@ -932,13 +976,19 @@ mod tests {
         pairs
     }
 
+    /// Keys that fill some buckets more than others, another one for each value.
+    fn scattered(value: u32) -> u32 {
+        value.wrapping_mul(2654435761).rotate_left(16)
+    }
+
     /// 500 adds: half of them to one table, and then a move begins, which adds
-    /// end.
+    /// end. Without permission a table grows above five keys for each bucket, and
+    /// there is no room for what would be suggested to these.
     #[test]
     fn a_store_filled_by_adds_is_never_damaged() {
-        let key = |value: u32| value.wrapping_mul(2654435761);
+        let key = scattered;
         let sizes = [
-            (1, 256),
+            (32, 256),
             (64, 256),
             (128, 256),
             (256, 128),
@@ -949,6 +999,7 @@ mod tests {
             let (mut first, mut second, mut entries) = ([7; 256], [7; 256], [7; 1500]);
             let mut store = Store::new(&mut first, &mut second, &mut entries);
             assert_eq!(store.init(500, old_size), Ok(()));
+            store.state.resize_allowed = false;
             let mut held = Vec::new();
             let mut adds_in_move = 0;
             for value in 0..500 {
@@ -978,6 +1029,199 @@ mod tests {
             assert_eq!(store.add(key(0), 0), Err(Error::Present));
             assert_eq!(store.add(key(500), 0), Err(Error::Full));
         }
+    }
+
+    /// 300 adds alone, from small tables and from large ones. Whenever there is one
+    /// table, it has fewer keys than buckets, or there is no room for a larger one.
+    #[test]
+    fn a_store_that_grows_is_never_damaged() {
+        let key = scattered;
+        for (size, room, last) in [
+            (1, 1024, (256, 512)),
+            (2, 1024, (256, 512)),
+            (4, 511, (256, 0)),
+            (64, 1024, (256, 512)),
+            (256, 256, (256, 0)),
+            (512, 512, (512, 0)),
+        ] {
+            let (mut first, mut second) = (vec![7; room], vec![7; room]);
+            let mut entries = [7; 900];
+            let mut store = Store::new(&mut first, &mut second, &mut entries);
+            assert_eq!(store.init(300, size), Ok(()));
+            let mut held = Vec::new();
+            for value in 0..300 {
+                let before = store.state;
+                assert_eq!(store.add(key(value), value), Ok(()));
+                held.push((key(value), value));
+                for &(key, value) in &held {
+                    assert_eq!(store.find(key), Ok(value));
+                }
+                assert_eq!(walked(&store), held);
+                let state = store.state;
+                let keys = value + 1;
+                assert_eq!(state.old_used + state.new_used, keys);
+                assert!(state.resize_allowed);
+                let doubled = (2 * keys).next_power_of_two().max(4);
+                if !state.rehashing {
+                    assert!(keys < state.old_size || room < doubled as usize);
+                } else if !before.rehashing || before.new_size == state.old_size {
+                    // It has just begun: as many buckets as twice the keys, and
+                    // all keys in the old table.
+                    assert!(keys >= state.old_size);
+                    assert_eq!((state.new_size, state.old_used), (doubled, keys));
+                }
+            }
+            let state = store.state;
+            assert_eq!((state.old_size, state.new_size), last, "{size}");
+        }
+    }
+
+    /// Runs `test` on a store with `room` numbers in each bucket buffer and the
+    /// keys from 0 on, added without permission to resize, which is then given or
+    /// not.
+    fn with_keys(size: u32, room: usize, keys: u32, allowed: bool, test: impl FnOnce(&mut Store)) {
+        let (mut first, mut second) = (vec![7; room], vec![7; room]);
+        let mut entries = [7; 300];
+        let mut store = Store::new(&mut first, &mut second, &mut entries);
+        assert_eq!(store.init(100, size), Ok(()));
+        assert!(store.state.resize_allowed);
+        store.state.resize_allowed = false;
+        for key in 0..keys {
+            assert_eq!(store.add(key, key), Ok(()));
+        }
+        assert!(!store.state.rehashing);
+        store.state.resize_allowed = allowed;
+        test(&mut store);
+    }
+
+    /// The sizes of both tables behind one more add, the second 0 for none.
+    fn expect_sizes(size: u32, room: usize, keys: u32, allowed: bool, sizes: (u32, u32)) {
+        with_keys(size, room, keys, allowed, |store| {
+            let before = store.state;
+            assert_eq!(store.add(keys, keys), Ok(()));
+            let state = store.state;
+            assert_eq!((state.old_size, state.new_size), sizes);
+            // Nothing has moved.
+            let added = State {
+                old_used: keys + 1,
+                free_head: keys + 2,
+                new_size: sizes.1,
+                rehashing: sizes.1 != 0,
+                ..before
+            };
+            assert_eq!(state, added);
+            let cleared = sizes.1 as usize;
+            assert!(store.second[..cleared].iter().all(|&head| head == 0));
+            assert!(store.second[cleared..].iter().all(|&head| head == 7));
+        });
+    }
+
+    #[test]
+    fn a_table_with_a_key_for_each_bucket_grows() {
+        expect_sizes(4, 64, 2, true, (4, 0));
+        expect_sizes(4, 64, 3, true, (4, 8));
+        expect_sizes(16, 64, 15, true, (16, 32));
+        // Four buckets at least.
+        expect_sizes(1, 64, 0, true, (1, 4));
+        expect_sizes(2, 64, 1, true, (2, 4));
+        // The size is that for the keys behind the add.
+        expect_sizes(2, 64, 2, true, (2, 8));
+        expect_sizes(4, 64, 16, true, (4, 64));
+    }
+
+    #[test]
+    fn without_permission_a_table_grows_above_five_keys_for_each_bucket() {
+        expect_sizes(4, 64, 3, false, (4, 0));
+        expect_sizes(4, 64, 19, false, (4, 0));
+        expect_sizes(4, 64, 20, false, (4, 64));
+        expect_sizes(1, 64, 4, false, (1, 0));
+        expect_sizes(1, 64, 5, false, (1, 16));
+    }
+
+    #[test]
+    fn a_table_does_not_grow_into_a_buffer_that_is_too_short() {
+        expect_sizes(4, 7, 3, true, (4, 0));
+        expect_sizes(4, 8, 3, true, (4, 8));
+        expect_sizes(1, 15, 5, false, (1, 0));
+        expect_sizes(1, 16, 5, false, (1, 16));
+    }
+
+    #[test]
+    fn a_table_does_not_grow_above_the_largest() {
+        let size = MAX_SIZE as usize;
+        let (mut first, mut second) = (vec![7; size], vec![7; 2 * size]);
+        let mut entries = vec![7; size * FIELDS];
+        let mut store = Store::new(&mut first, &mut second, &mut entries);
+        for (old, new) in [(MAX_SIZE / 2, MAX_SIZE), (MAX_SIZE, 0)] {
+            assert_eq!(store.init(MAX_CAPACITY, old), Ok(()));
+            for key in 0..old {
+                assert!(!store.state.rehashing);
+                assert_eq!(store.add(key, 0), Ok(()));
+            }
+            assert_eq!(store.state.new_size, new);
+        }
+    }
+
+    #[test]
+    fn a_refused_add_makes_no_table_grow() {
+        with_keys(64, 256, 99, true, |store| {
+            let before = Memory::of(store);
+            assert_eq!(store.add(5, 0), Err(Error::Present));
+            assert_eq!(Memory::of(store), before);
+        });
+        with_keys(64, 256, 100, true, |store| {
+            let before = Memory::of(store);
+            assert_eq!(store.add(100, 0), Err(Error::Full));
+            assert_eq!(Memory::of(store), before);
+        });
+    }
+
+    /// Key 8 is the only one to move from 8 buckets to 2, and with key 0 there are
+    /// as many keys as buckets.
+    #[test]
+    fn a_table_grows_in_the_add_whose_step_ends_a_move() {
+        for allowed in [true, false] {
+            with_keys(8, 8, 0, allowed, |store| {
+                assert_eq!(store.add(8, 80), Ok(()));
+                assert_eq!(store.resize(2), Ok(()));
+                assert_eq!(store.add(0, 0), Ok(()));
+                let new_size = if allowed { 4 } else { 0 };
+                let grown = State {
+                    second_is_current: true,
+                    old_size: 2,
+                    new_size,
+                    old_used: 2,
+                    rehashing: allowed,
+                    free_head: 3,
+                    capacity: 100,
+                    resize_allowed: allowed,
+                    ..State::default()
+                };
+                assert_eq!(store.state, grown);
+                assert_eq!(store.second[..2], [2, 0]);
+                assert_eq!(store.first[..4], [0; 4]);
+                assert_eq!(walked(store), [(0, 0), (8, 80)]);
+            });
+        }
+    }
+
+    /// The step of each add passes ten empty buckets, and with the last one there
+    /// are more than five keys for each bucket of the new table.
+    #[test]
+    fn a_table_does_not_grow_in_the_middle_of_a_move() {
+        with_keys(64, 64, 0, true, |store| {
+            assert_eq!(store.add(63, 0), Ok(()));
+            assert_eq!(store.resize(1), Ok(()));
+            for key in 0..6 {
+                assert_eq!(store.add(key, 0), Ok(()));
+                let state = store.state;
+                assert_eq!((state.old_size, state.new_size), (64, 1));
+            }
+            assert_eq!(store.add(6, 0), Ok(()));
+            let state = store.state;
+            assert_eq!((state.old_size, state.new_size), (1, 16));
+            assert_eq!((state.old_used, state.new_used), (8, 0));
+        });
     }
 
     /// Runs `test` at the start of a move from size 4 to 8: bucket 0 has entry 4,

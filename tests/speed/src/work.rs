@@ -188,6 +188,9 @@ fn grow(store: &mut Store, keys: &[u32], seed: u32, adds: u32, sum: u32) -> u32 
     let mut pairs = pairs(keys, seed);
     start(store, size, (size / 2).max(1));
     add_some(store, &mut pairs, size / 2);
+    // The last of these adds has begun the move by itself, and the resize is
+    // refused. With 2 keys it is not: a table of one bucket would grow to four,
+    // for which there is no room.
     let _ = store.resize(size);
     hide(store);
     add_some(store, &mut pairs, adds);
@@ -221,6 +224,7 @@ fn walk_all(store: &Store, list: &mut [u32], sum: u32) -> u32 {
 #[cfg(test)]
 mod tests {
     use super::*;
+    use crate::store::Error;
 
     /// The least number of keys, and those that are timed.
     const SIZES: [u32; 3] = [1, 4096, 65536];
@@ -356,6 +360,38 @@ mod tests {
                 let order = format!("{letter} {size} 1");
                 assert_eq!(answer(&order), format!("{total}\n"));
             }
+        }
+    }
+
+    /// The buffers have as many buckets as keys. So a table grows to these with half
+    /// of the keys in half as many buckets, but not where that is fewer than four.
+    #[test]
+    fn moves_begin_by_themselves() {
+        for size in [1, 2, 4, 16, 4096, 65536] {
+            let keys = make_keys(size);
+            let begins = size >= 4;
+            with_store(size, |store| {
+                start(store, size, (size / 2).max(1));
+                let mut pairs = pairs(&keys, SEED);
+                add_some(store, &mut pairs, (size / 2).saturating_sub(1));
+                assert!(!store.state.rehashing);
+                add_some(store, &mut pairs, size.min(2) / 2);
+                assert_eq!(store.state.rehashing, begins, "{size}");
+                assert_eq!(store.state.old_used, size / 2);
+                assert_eq!(store.state.new_size, if begins { size } else { 0 });
+                let answer = store.resize(size);
+                match size {
+                    1 => assert_eq!(answer, Err(Error::BadSize)),
+                    2 => assert_eq!(answer, Ok(())),
+                    _ => assert_eq!(answer, Err(Error::Rehashing)),
+                }
+            });
+            // Full, it has no room to grow.
+            with_store(size, |store| {
+                fill(store, &keys, SEED);
+                let state = store.state;
+                assert_eq!((state.old_used, state.rehashing), (size, false));
+            });
         }
     }
 

@@ -1,5 +1,6 @@
 //! An add by its definition, slow and with copies, for a comparison: in a move
-//! the step, with all that it writes, and then the add alone on what it leaves.
+//! the step, with all that it writes, then the add alone on what it leaves, and
+//! then the resize of a table that is to grow.
 
 use super::{Error, State, Store};
 
@@ -45,8 +46,29 @@ impl Memory {
             copy.step()?;
         }
         copy.add_alone(key, value)?;
+        if copy.is_to_grow() {
+            // The add is answered, whatever the resize answers.
+            let size = copy.suggested_size();
+            let _ = copy.call(|store| store.resize(size));
+        }
         *self = copy;
         Ok(())
+    }
+
+    fn is_to_grow(&self) -> bool {
+        let state = self.state;
+        let (keys, size) = (state.old_used + state.new_used, state.old_size);
+        let is_full = state.resize_allowed && keys >= size;
+        let is_overfull = keys > 5 * size;
+        !state.rehashing && (is_full || is_overfull) && self.suggested_size() > size
+    }
+
+    /// To grow: the least power of two, from 4 to 65,536, with two buckets for each
+    /// key, or else the last of these.
+    fn suggested_size(&self) -> u32 {
+        let keys = self.state.old_used + self.state.new_used;
+        let mut sizes = (2..=16).map(|exponent| 1 << exponent);
+        sizes.find(|&size| size >= 2 * keys).unwrap_or(65536)
     }
 
     fn step(&mut self) -> Result<(), Error> {
@@ -178,29 +200,37 @@ impl Random {
     }
 }
 
-/// A store somewhere in a move, or just behind one, and in three of four cases
-/// with some of its numbers made others.
+/// A store somewhere in a move, or just behind one, or in four of ten cases without
+/// a resize. Its one table may have too many keys, since they were added without
+/// permission, and the other buffer may be too short for it to grow. In three of
+/// four cases some of its numbers are made others.
 fn any_memory(random: &mut Random) -> Memory {
-    const SIZE: u32 = 16;
     let capacity = 2 + random.below(8);
-    let mut memory = Memory {
-        state: State::default(),
-        first: vec![7; SIZE as usize],
-        second: vec![7; SIZE as usize],
-        entries: vec![7; 27],
-    };
     let old = random.below(5);
     let new = (old + 1 + random.below(4)) % 5;
+    let begins = random.below(10) >= 4;
+    let least = if begins { 1 << new } else { 0 };
+    let mut memory = Memory {
+        state: State::default(),
+        first: vec![7; 16],
+        second: vec![7; (least + random.below(25 - least)) as usize],
+        entries: vec![7; 27],
+    };
     memory.call(|store| {
         assert_eq!(store.init(capacity, 1 << old), Ok(()));
+        store.state.resize_allowed = false;
         for _ in 0..random.below(capacity) {
             let _ = store.add(random.below(32), 0);
         }
-        assert_eq!(store.resize(1 << new), Ok(()));
-        for _ in 0..random.below(3) {
-            let _ = store.add(random.below(32), 0);
+        if begins {
+            // Refused where six keys in one bucket have begun a move.
+            let _ = store.resize(1 << new);
+            for _ in 0..random.below(3) {
+                let _ = store.add(random.below(32), 0);
+            }
         }
     });
+    memory.state.resize_allowed = random.below(2) == 0;
     if random.below(2) == 0 {
         std::mem::swap(&mut memory.first, &mut memory.second);
         memory.state.second_is_current ^= true;
@@ -211,8 +241,8 @@ fn any_memory(random: &mut Random) -> Memory {
     for _ in 0..1 + random.below(4) {
         let number = random.below(capacity + 2);
         match random.below(7) {
-            0 => memory.first[random.below(SIZE) as usize] = number,
-            1 => memory.second[random.below(SIZE) as usize] = number,
+            0 => put_any(&mut memory.first, number, random),
+            1 => put_any(&mut memory.second, number, random),
             2 => memory.entry_mut(1 + random.below(capacity))[0] = number,
             3 => memory.entry_mut(1 + random.below(capacity))[1] = random.below(32),
             4 => memory.state.free_head = number,
@@ -226,11 +256,20 @@ fn any_memory(random: &mut Random) -> Memory {
     memory
 }
 
+/// A number somewhere in a buffer, which may have no place for it.
+fn put_any(buffer: &mut [u32], number: u32, random: &mut Random) {
+    let place = random.below(buffer.len() as u32) as usize;
+    if let Some(old) = buffer.get_mut(place) {
+        *old = number;
+    }
+}
+
 #[test]
-fn an_add_is_a_step_and_an_add_alone_on_any_memory() {
+fn an_add_is_what_its_definition_says_on_any_memory() {
     let mut random = Random(1);
     let mut refused = [0; 8];
     let [mut passed, mut moved, mut ended] = [0; 3];
+    let [mut grown, mut grown_at_once, mut cramped] = [0; 3];
     for _ in 0..100_000 {
         let before = any_memory(&mut random);
         let (key, value) = (random.below(32), random.below(100));
@@ -244,15 +283,30 @@ fn an_add_is_a_step_and_an_add_alone_on_any_memory() {
                 assert_eq!(added, before);
                 refused[error as usize] += 1;
             }
-            Ok(()) if !before.state.rehashing => (),
-            Ok(()) if !added.state.rehashing => ended += 1,
-            Ok(()) if added.state.old_used == before.state.old_used => passed += 1,
-            Ok(()) => moved += 1,
+            Ok(()) => {
+                let (before, after) = (before.state, added.state);
+                assert_eq!(after.resize_allowed, before.resize_allowed);
+                let has_ended = before.second_is_current != after.second_is_current;
+                match before.rehashing {
+                    false => {}
+                    true if has_ended => ended += 1,
+                    true if after.old_used == before.old_used => passed += 1,
+                    true => moved += 1,
+                }
+                let rested = !before.rehashing || has_ended;
+                grown += u32::from(rested && after.rehashing);
+                grown_at_once += u32::from(has_ended && after.rehashing);
+                cramped += u32::from(added.is_to_grow());
+            }
         }
     }
-    // It has seen each answer that an add has, and each kind of step.
+    // It has seen each answer that an add has, each kind of step, and tables that
+    // grow, also behind a step that ended a move, or have no room to.
     let [_, bad_state, damaged, _, present, full, ..] = refused;
     for count in [bad_state, damaged, present, full, passed, moved, ended] {
         assert!(count > 300, "{refused:?} {passed} {moved} {ended}");
+    }
+    for count in [grown, grown_at_once, cramped] {
+        assert!(count > 300, "{grown} {grown_at_once} {cramped}");
     }
 }

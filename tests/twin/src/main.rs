@@ -3,7 +3,8 @@
 //! It runs the program under test on fixed and on random scripts, each script
 //! in a process of its own, and compares every byte of the output with the
 //! answer of its own model. The model in turn is watched from outside by the
-//! walk's promises, the plain map and the bound on a move's steps.
+//! walk's promises, the plain map, the bound on a move's steps and the rule by
+//! which a table grows.
 //!
 //! ```text
 //! cargo run --release -- PATH-TO-PROGRAM [SEED] [COUNT]

@@ -731,7 +731,7 @@ mod tests {
         assert_eq!(grown(&four), (2, 1, 0));
         let shrunk = format!("{four}S\nS\nS\nS\nR 2\nS\nS\nS\nS\nA 4 0\n");
         assert_eq!(grown(&shrunk), (3, 1, 0));
-        // Refused adds begin nothing, and behind a start all is counted anew.
+        // Refused adds begin nothing, nor do those to fewer keys than buckets.
         let refused = format!("{two}A 1 0\nN 2 4\nA 0 0\nA 1 0\nA 2 0\n");
         assert_eq!(grown(&refused), (1, 0, 0));
         // As many buckets as there is room for.

@@ -14,7 +14,7 @@ use Rattle.invariant.proofs.Shape.{Shape, facts}
 use Rattle.invariant.proofs.States.{sound-again, live-kept, home-kept}
 
 module _ (s : State) (allowed : Bool) where
-  pub permitted-sizes : (t : Table) → sizeOf (permitted s allowed) t ≡ sizeOf s t
+  permitted-sizes : (t : Table) → sizeOf (permitted s allowed) t ≡ sizeOf s t
   unfolding permitted stateOf sizeOf
   permitted-sizes Table.Old = refl
   permitted-sizes Table.New = refl

@@ -2,7 +2,7 @@
 -- growth can be decided by it.
 -- Assumes nothing.
 use Prim.Native.Nat.{ℕ, _+_}
-use mathlib.Core.Path.{_≡_, refl}
+use mathlib.Core.Path.{_≡_, refl, sym, subst}
 use mathlib.Core.Bool.{Bool, true, false, cond}
 use mathlib.Core.List.{List}
 use native.Mathlib.Omega.{arith}
@@ -31,26 +31,24 @@ AddLeaves (After.after (AddAnswer.Added t) x y z) = Growable t
 
 module _ (s : State) (current other entries : List ℕ) (key value : ℕ)
     (h : Sound s (length current) (length other) (length entries)) where
+  -- one key more, in either table, of a store that is not full
+  one-more : (t : State) → t .«old_used» + t .«new_used» ≡ s .«old_used» + s .«new_used» + 1 → t .capacity ≡ s .capacity
+      → t .«old_size» ≡ s .«old_size» → eqb (keysHeld s) (s .capacity) ≡ false → Growable t
+  unfolding keysHeld
+  one-more t more capacity size f =
+      record {
+        counted =
+            record {
+              held-fit = omega (arith, h .used-fits, eqb-false (s .«old_used» + s .«new_used») (s .capacity) f);
+              capacity-limit = omega (arith, h .capacity-limit);
+            };
+        old-legal = subst (λ (n : ℕ). legalSize n ≡ true) (sym size) (h .old-legal);
+      }
+
   pushed-leaves : eqb (keysHeld s) (s .capacity) ≡ false → (t : Table) → AddLeaves (pushed s current other entries key value t)
-  unfolding AddLeaves pushed changed recounted stateOf withCount oldNew sizeOf usedOf keysHeld
-  pushed-leaves f Table.Old =
-      record {
-        counted =
-            record {
-              held-fit = omega (arith, h .used-fits, eqb-false (s .«old_used» + s .«new_used») (s .capacity) f);
-              capacity-limit = h .capacity-limit;
-            };
-        old-legal = h .old-legal;
-      }
-  pushed-leaves f Table.New =
-      record {
-        counted =
-            record {
-              held-fit = omega (arith, h .used-fits, eqb-false (s .«old_used» + s .«new_used») (s .capacity) f);
-              capacity-limit = h .capacity-limit;
-            };
-        old-legal = h .old-legal;
-      }
+  unfolding AddLeaves pushed changed recounted stateOf withCount oldNew sizeOf usedOf
+  pushed-leaves f Table.Old = one-more _ (omega arith) refl refl f
+  pushed-leaves f Table.New = one-more _ (omega arith) refl refl f
 
   added-leaves : (l : Lookup) → AddLeaves (added s current other entries key value l)
   unfolding AddLeaves added

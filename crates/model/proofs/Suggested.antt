@@ -10,9 +10,9 @@ use native.Mathlib.Decide.{decLt}
 use native.Mathlib.Omega.{arith}
 use lib.Dec.{leb, ltb, lit≤}
 use lib.Pow.{pow-mono}
-use borrow.Author.Tests.{leb-true, leb-false, ltb-true}
+use borrow.Author.Tests.{leb-true, leb-false, ltb-true, ne-eqb}
 use Rattle.model.specs.Limits.{largestExponent, powerUpTo, legalSize, leastSuggestion, forceRatio}
-use Rattle.model.specs.Calls.{powerFrom, sizeFor, suggested, crowded}
+use Rattle.model.specs.Calls.{acceptable, powerFrom, sizeFor, suggested, crowded, growthDue}
 use Rattle.model.proofs.Power.{of-power}
 use Rattle.model.proofs.Tests.{true-not-false}
 
@@ -123,6 +123,18 @@ suggested-legal growing keys =
     let (n, s) = any-smallest growing keys in
     subst (λ (size : ℕ). powerUpTo largestExponent size ≡ true) (sym (s .power))
     (of-power largestExponent (s .exponent) (omega (arith, s .at-most)))
+
+-- .. so that growth that is due begins exactly if the other buffer is long enough, ..
+pub growth-accepted : (allowed : Bool) (size keys other : ℕ) → growthDue allowed size keys ≡ true
+    → acceptable size other (suggested true keys) ≡ leb (suggested true keys) other
+unfolding growthDue acceptable
+growth-accepted allowed size keys other due =
+    let above = ltb-true size (suggested true keys) (behind (crowded allowed size keys) due) in
+    rw (suggested-legal true keys, ne-eqb (suggested true keys) size (λ e. omega arith))
+  where
+    behind : (t : Bool) → (t && ltb size (suggested true keys)) ≡ true → ltb size (suggested true keys) ≡ true
+    behind true e = e
+    behind false e = absurd (true-not-false (sym e))
 
 -- .. and no smaller one than the least
 least-fits : leastSuggestion ≤ 2 ^ (0 + largestExponent)

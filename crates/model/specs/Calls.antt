@@ -394,7 +394,7 @@ unfoldable pub powerFrom : ℕ → ℕ → ℕ → ℕ
 powerFrom b zero n = 2 ^ b
 powerFrom b (suc left) n = cond (leb n (2 ^ b)) (2 ^ b) (powerFrom (suc b) left n)
 
--- the smallest table size that is not below n, and no smaller one than is suggested at all
+-- the smallest power of two that is below neither n nor the least suggestion, or else the largest size
 unfoldable pub sizeFor : ℕ → ℕ
 sizeFor n = powerFrom 0 largestExponent (max leastSuggestion n)
 
@@ -409,7 +409,7 @@ suggestedSize s first second entries growing =
 
 -- Growth: the resize that may follow an add
 
--- so many keys are too many for a table of that size: as many as it has buckets, where resizing is allowed, or more than so
+-- so many keys are too many for a table of that size: as many as it has buckets, where growth is allowed, or more than so
 -- many times that
 unfoldable pub crowded : Bool → ℕ → ℕ → Bool
 crowded allowed size keys = (allowed && leb size keys) || ltb (size * forceRatio) keys

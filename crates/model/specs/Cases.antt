@@ -120,17 +120,17 @@ freeInBucket head = rehashing 1 0 1 (1 ∷ 0 ∷ []) (head ∷ 0 ∷ 0 ∷ 0 ∷
 unfoldable pub steppers : ℕ → ℕ → List Call
 steppers key new = Call.on key KeyCall.delete ∷ Call.on new (KeyCall.add 30) ∷ []
 
--- A store of seven entries after a start of that size and some calls, with so many numbers in the second bucket buffer.
+-- A store of twelve entries after a start of that size and some calls, with so many numbers in the second bucket buffer.
 unfoldable pub after : (size others : ℕ) → List Call → World
 after size others calls =
-    run perform (world (emptyState size 1 7) (replicate size 0) (replicate others 0) (freeEntries 1 7)) calls
+    run perform (world (emptyState size 1 12) (replicate size 0) (replicate others 0) (freeEntries 1 12)) calls
 
 -- keys 1 to n added
 unfoldable pub adding : ℕ → List Call
 adding zero = []
 adding (suc n) = adding n ++ Call.on (suc n) (KeyCall.add 30) ∷ []
 
--- so many keys in one table of that size, added while resizing is not allowed; then it is, or not
+-- so many keys in one table of that size, added while growth is not allowed; then it is, or not
 unfoldable pub filled : (size others keys : ℕ) → Bool → World
 filled size others keys allowed =
     after size others (Call.allowResize false ∷ adding keys ++ Call.allowResize allowed ∷ [])
@@ -171,6 +171,8 @@ cases =
     ∷ Row.adds (filled 2 8 2 true) 0 2 8
     ∷ Row.adds (filled 1 16 4 false) 0 1 0
     ∷ Row.adds (filled 1 16 5 false) 0 1 16
+    ∷ Row.adds (filled 2 32 9 false) 0 2 0
+    ∷ Row.adds (filled 2 32 10 false) 0 2 32
     ∷ Row.adds (after 8 2 (adding 3 ++ Call.resize 2 ∷ [])) 0 8 2
     ∷ Row.adds (after 8 2 (Call.on 8 (KeyCall.add 30) ∷ Call.resize 2 ∷ [])) 0 2 4
     ∷ Row.answers (after 4 4 (Call.allowResize false ∷ [])) (Call.allowResize true ∷ []) 0

@@ -31,6 +31,6 @@ emptyVisits = 10
 unfoldable pub leastSuggestion : ℕ
 leastSuggestion = 4
 
--- with more than so many keys for each bucket a table grows, whether resizing is allowed or not
+-- with more than so many keys for each bucket a table grows, whether that is allowed or not
 unfoldable pub forceRatio : ℕ
 forceRatio = 5

@@ -12,7 +12,7 @@ pub const EMPTY_VISITS: u32 = 10;
 // The smallest size that is suggested.
 pub const LEAST_SUGGESTION: u32 = 4;
 
-// With more than so many keys for each bucket a table grows, whether resizing is allowed or not.
+// With more than so many keys for each bucket a table grows, whether that is allowed or not.
 pub const FORCE_RATIO: u32 = 5;
 
 // What the caller holds between calls (SPECIFICATION, "The memory"), in the order given there.

@@ -1,6 +1,6 @@
 -- What the induction over a sequence keeps, on a state and its buffers: the store has a shape, its live buckets hold the
--- ideal's pairs, its live tables, current buffer, next bucket and permission are the ideal's, and during a rehash the keys in the old
--- table are those that the ideal says.
+-- ideal's pairs, its live tables, current buffer, next bucket and permission are the ideal's, and during a rehash the keys
+-- in the old table are those that the ideal says.
 -- Assumes nothing.
 use Prim.Native.Nat.{ℕ, _<_}
 use mathlib.Core.Path.{_≡_, refl, sym, ap, subst, _∙_}

@@ -3,7 +3,7 @@
 -- Assumes nothing.
 use Prim.Native.Nat.{ℕ, zero, suc}
 use mathlib.Core.Path.{_≡_, refl, sym, ap, ap₂, subst, subst₂, _∙_}
-use mathlib.Core.Bool.{Bool, true, false, _&&_, not, cond}
+use mathlib.Core.Bool.{Bool, true, false, _&&_, not, cond, and-false}
 use mathlib.Core.List.{[], _∷_}
 use mathlib.Core.Option.{Option, none, some}
 use native.Mathlib.Omega.{arith}
@@ -220,10 +220,6 @@ module _ (w : World) (i : Ideal) (a : Agrees w i) (key : ℕ) (c : KeyCall) wher
     unfolding thenGrows reply
     grown-comes = by (follows w key c)
       where
-        and-false : (t : Bool) → (t && false) ≡ false
-        and-false true = refl
-        and-false false = refl
-
         by : Follows w c o O → Comes w O (thenGrows l c meant)
         by (Follows.never f is) = unchanged is (ap (λ (t : Bool). t && eqb (meant .number) 0) f)
         by (Follows.refused n f is) =

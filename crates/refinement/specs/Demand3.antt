@@ -31,7 +31,7 @@ unfoldable pub lengthsOf : World → Lengths
 lengthsOf w = record { first = length (w .first); second = length (w .second); entries = length (w .entries) }
 
 -- The ideal: the plain map, the live tables, whether the second bucket buffer is the current one; during a rehash the keys
--- still in the old table, and the next bucket to move; and whether resizing is allowed.
+-- still in the old table, and the next bucket to move; and whether growth is allowed.
 
 pub record Ideal : Type 0 where
   pub plain : PlainMap

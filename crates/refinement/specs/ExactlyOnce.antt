@@ -1,4 +1,4 @@
--- How often a walk hands out a key, and which of the keys that come meanwhile it must hand out: for any meaning of the ten
+-- How often a walk hands out a key, and which of the keys that come meanwhile it must hand out: for any meaning of the
 -- calls, of every walk of every sequence (SPECIFICATION, "How often a walk hands out a key").
 use Prim.Native.Nat.{ℕ, _+_, _*_, _^_, _≤_, min}
 use mathlib.Core.Path.{_≡_}

@@ -3,7 +3,7 @@
 use Prim.Native.Nat.{ℕ}
 use mathlib.Core.Path.{_≡_, refl, sym, _∙_}
 use mathlib.Core.Bool.{Bool, true, false, cond}
-use mathlib.Core.List.{List, [], _∷_}
+use mathlib.Core.List.{List, [], _∷_, _++_}
 use lib.ListN.{replicate}
 use borrow.Author.Tests.{eqb-false}
 use Rattle.model.specs.Calls as calls
@@ -14,14 +14,14 @@ use Rattle.refinement.specs.Demand1.{Demand1}
 use Rattle.refinement.specs.Demand3.{Demand3, SequenceHolds, lengthsOf, begun, startNumber}
 use Rattle.refinement.proofs.HiddenSteps as hidden
 use Rattle.wrong_stores.specs.Growth as growth
-use Rattle.wrong_stores.specs.Growth.{neverGrows, growsForbidden, neverForced, growsLate, forcedEarly, growsForBefore, shrinks, deletesShrinking, deletesGrowing, refusesCramped, startsForbidding, keepsPermission, allowsAgain, refusesPermission, allowsAnyState}
+use Rattle.wrong_stores.specs.Growth.{neverGrows, growsForbidden, neverForced, growsLate, forcedEarly, forcedByKeys, growsForBefore, growsToTwo, growsHalfway, growsFromRest, shrinks, deletesShrinking, deletesGrowing, stepsGrowing, allowsGrowing, refusesCramped, startsForbidding, keepsPermission, allowsAgain, refusesPermission, allowsAnyState}
 use Rattle.wrong_stores.proofs.Start.{computing, zeros, forbid, add, delete, at, apart, neither}
 
 abbrev allow : Call
 allow = Call.allowResize true
 
 unfoldable resizing : Unit {0}
-unfolding computing hidden.before-growth growth.thenResized growth.wanted growth.growing
+unfolding computing hidden.before-growth growth.thenResized growth.wanted growth.full growth.growing
 resizing = tt
 
 -- the size of the new table, 0 where there is none
@@ -53,7 +53,20 @@ growsForBefore-excluded d =
     apart newSize (Tables.two 1 4) (Tables.two 1 8) refl
     (at d 1 refl (add 1 10 ∷ add 2 20 ∷ allow ∷ add 3 30 ∷ []) .matches .tables)
 
--- one key of 16 buckets, and none after it
+-- .. and the first one for 4
+pub growsToTwo-excluded : Demand3 growsToTwo → ⊥
+unfolding resizing growsToTwo newSize
+growsToTwo-excluded d =
+    apart newSize (Tables.two 1 2) (Tables.two 1 4) refl (at d 1 refl (allow ∷ add 1 10 ∷ []) .matches .tables)
+
+-- the add's step ends a rehash to two buckets, and two keys are held then
+pub growsFromRest-excluded : Demand3 growsFromRest → ⊥
+unfolding resizing growsFromRest newSize
+growsFromRest-excluded d =
+    apart newSize (Tables.one 2) (Tables.two 2 4) refl
+    (at d 4 refl (allow ∷ add 0 10 ∷ Call.resize 2 ∷ add 1 11 ∷ []) .matches .tables)
+
+-- one key in 16 buckets; and once it is deleted, none
 pub shrinks-excluded : Demand3 shrinks → ⊥
 unfolding resizing shrinks newSize
 shrinks-excluded d =
@@ -64,45 +77,68 @@ unfolding resizing deletesShrinking newSize
 deletesShrinking-excluded d =
     apart newSize (Tables.two 16 4) (Tables.one 16) refl (at d 16 refl (allow ∷ add 1 10 ∷ delete 1 ∷ []) .matches .tables)
 
--- a delete leaves one key for one bucket
+-- a delete leaves one key for one bucket; so does a step, or the permission, that no add follows
 pub deletesGrowing-excluded : Demand3 deletesGrowing → ⊥
 unfolding resizing deletesGrowing newSize
 deletesGrowing-excluded d =
     apart newSize (Tables.two 1 4) (Tables.one 1) refl
     (at d 1 refl (add 1 10 ∷ add 2 20 ∷ allow ∷ delete 1 ∷ []) .matches .tables)
 
--- Of stores of six entries, and a second bucket buffer of that length, after a start of one bucket.
+pub stepsGrowing-excluded : Demand3 stepsGrowing → ⊥
+unfolding resizing stepsGrowing newSize
+stepsGrowing-excluded d =
+    apart newSize (Tables.two 1 4) (Tables.one 1) refl
+    (at d 2 refl (add 0 10 ∷ Call.resize 1 ∷ allow ∷ Call.rehashStep ∷ []) .matches .tables)
+
+pub allowsGrowing-excluded : Demand3 allowsGrowing → ⊥
+unfolding resizing allowsGrowing newSize
+allowsGrowing-excluded d =
+    apart newSize (Tables.two 1 4) (Tables.one 1) refl (at d 1 refl (add 1 10 ∷ allow ∷ []) .matches .tables)
+
+-- Of stores of six entries, and a second bucket buffer of that length, after a start of that size.
 
 unfoldable roomy : ℕ → World
 roomy others = world calls.noState (replicate 16 0) (replicate others 0) (replicate 18 0)
 
-begins-with : {does : World → Call → Outcome} → Demand3 does → (others : ℕ) → startNumber (lengthsOf (roomy others)) 6 1 ≡ 0
-    → (calls : List Call)
-    → SequenceHolds does (lengthsOf (roomy others)) (carry (roomy others) (does (roomy others) (Call.init 6 1))) (begun 6 1) calls
-begins-with d others fits calls =
-    d .sequence (roomy others) 6 1 (d .begins (roomy others) 6 1 ∙ fits) calls
+begins-with : {does : World → Call → Outcome} → Demand3 does → (size others : ℕ)
+    → startNumber (lengthsOf (roomy others)) 6 size ≡ 0 → (calls : List Call)
+    → SequenceHolds does (lengthsOf (roomy others)) (carry (roomy others) (does (roomy others) (Call.init 6 size))) (begun 6 size) calls
+begins-with d size others fits calls =
+    d .sequence (roomy others) 6 size (d .begins (roomy others) 6 size ∙ fits) calls
 
 abbrev fiveKeys : List Call
 fiveKeys = add 1 10 ∷ add 2 20 ∷ add 3 30 ∷ add 4 40 ∷ add 5 50 ∷ []
 
 abbrev sixKeys : List Call
-sixKeys = add 1 10 ∷ add 2 20 ∷ add 3 30 ∷ add 4 40 ∷ add 5 50 ∷ add 6 60 ∷ []
+sixKeys = fiveKeys ++ add 6 60 ∷ []
 
 -- five keys for a bucket are not more than five times, and six are
 pub forcedEarly-excluded : Demand3 forcedEarly → ⊥
 unfolding resizing forcedEarly newSize roomy
 forcedEarly-excluded d =
-    apart newSize (Tables.two 1 16) (Tables.one 1) refl (begins-with d 16 refl (forbid ∷ fiveKeys) .matches .tables)
+    apart newSize (Tables.two 1 16) (Tables.one 1) refl (begins-with d 1 16 refl (forbid ∷ fiveKeys) .matches .tables)
 
 pub neverForced-excluded : Demand3 neverForced → ⊥
 unfolding resizing neverForced newSize roomy
 neverForced-excluded d =
-    apart newSize (Tables.one 1) (Tables.two 1 16) refl (begins-with d 16 refl (forbid ∷ sixKeys) .matches .tables)
+    apart newSize (Tables.one 1) (Tables.two 1 16) refl (begins-with d 1 16 refl (forbid ∷ sixKeys) .matches .tables)
 
--- `answers`, `number`: with three numbers in the other buffer no table grows, and the add is answered; ..
+-- .. for one bucket, and not for two
+pub forcedByKeys-excluded : Demand3 forcedByKeys → ⊥
+unfolding resizing forcedByKeys newSize roomy
+forcedByKeys-excluded d =
+    apart newSize (Tables.two 2 16) (Tables.one 2) refl (begins-with d 2 16 refl (forbid ∷ sixKeys) .matches .tables)
+
+-- with three numbers in the other buffer no table grows to 4, and none to 2
+pub growsHalfway-excluded : Demand3 growsHalfway → ⊥
+unfolding resizing growsHalfway newSize roomy
+growsHalfway-excluded d =
+    apart newSize (Tables.two 1 2) (Tables.one 1) refl (begins-with d 1 3 refl (add 1 10 ∷ []) .matches .tables)
+
+-- `answers`, `number`: and the add is answered; ..
 pub refusesCramped-excluded : Demand3 refusesCramped → ⊥
 unfolding resizing refusesCramped roomy
-refusesCramped-excluded d = eqb-false 6 0 refl (begins-with d 3 refl (add 1 10 ∷ []) .answers .0 .number)
+refusesCramped-excluded d = eqb-false 6 0 refl (begins-with d 1 3 refl (add 1 10 ∷ []) .answers .0 .number)
 
 -- .. the permission is refused for an unsound state only
 pub refusesPermission-excluded : Demand3 refusesPermission → ⊥
@@ -116,7 +152,7 @@ flag allowed = cond allowed 1 0
 
 pub startsForbidding-excluded : Demand3 startsForbidding → ⊥
 unfolding computing startsForbidding roomy flag
-startsForbidding-excluded d = apart flag false true refl (begins-with d 16 refl [] .matches .allowed)
+startsForbidding-excluded d = apart flag false true refl (begins-with d 1 16 refl [] .matches .allowed)
 
 pub keepsPermission-excluded : Demand3 keepsPermission → ⊥
 unfolding computing keepsPermission flag

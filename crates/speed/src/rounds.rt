@@ -41,7 +41,7 @@ fn new_store(
 
 // The same store at the start of a rehash to a table of that size. In a store for four keys or more the last add has begun
 // that rehash by itself, and the call is refused and changes nothing. In one for two keys the other buffer is too short for
-// the least suggestion, and the call begins it.
+// the least suggestion, and the call begins it; in one for one key there is no other size, and nothing begins.
 fn begin_rehash(
     first: &mut [u32],
     second: &mut [u32],

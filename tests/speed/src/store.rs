@@ -32,7 +32,7 @@ const EMPTY_VISITS: usize = 10;
 /// The smallest size that a table grows to.
 const LEAST_SUGGESTION: u32 = 4;
 
-/// With more than so many keys for each bucket a table grows, whether resizing is
+/// With more than so many keys for each bucket a table grows, whether that is
 /// allowed or not.
 const FORCE_RATIO: u32 = 5;
 
@@ -242,7 +242,7 @@ impl<'a> Store<'a> {
     }
 
     /// Whether the only table has too many keys: one for each bucket, where
-    /// resizing is allowed, or more than five. The second is a case of the
+    /// growth is allowed, or more than five. The second is a case of the
     /// first, so that mostly one test decides.
     fn is_crowded(&self) -> bool {
         let state = &self.state;
@@ -657,7 +657,7 @@ mod tests {
     const DAMAGED: Result<Scanned, ScanError> = Err(ScanError::Refused(Error::Damaged));
 
     /// Runs `test` on a store of capacity 8 and size 4 with three keys in one
-    /// bucket. It is not allowed to resize, so that it can have more.
+    /// bucket. It is not allowed to grow, so that it can have more.
     fn with_store(test: impl FnOnce(&mut Store)) {
         let (mut first, mut second, mut entries) = ([7; 4], [7; 8], [7; 24]);
         let mut store = Store::new(&mut first, &mut second, &mut entries);
@@ -1077,7 +1077,7 @@ mod tests {
     }
 
     /// Runs `test` on a store with `room` numbers in each bucket buffer and the
-    /// keys from 0 on, added without permission to resize, which is then given or
+    /// keys from 0 on, added without permission to grow, which is then given or
     /// not.
     fn with_keys(size: u32, room: usize, keys: u32, allowed: bool, test: impl FnOnce(&mut Store)) {
         let (mut first, mut second) = (vec![7; room], vec![7; room]);

@@ -1513,7 +1513,8 @@ fn growth() -> Vec<Case> {
                 ("S", "0 2048 1"),
             ],
         ),
-        thousand_keys(),
+        thousand_keys("1,000 keys by adds alone, with a walk", at_growth),
+        thousand_keys("1,000 keys by adds alone, with walks", every_third),
     ];
     cases.extend([4, 64, 1024].map(grown_by_as_many_adds));
     cases
@@ -1556,24 +1557,35 @@ fn grown_by_as_many_adds(size: u32) -> Case {
     computed(&name, script, answer)
 }
 
+/// When the store holds three keys, and behind each add with which a table grows:
+/// one walk then lasts from the first keys to the last.
+fn at_growth(held: u32) -> bool {
+    held == 3 || (held >= 4 && held.is_power_of_two())
+}
+
+/// Behind every third add: a walk ends while the store grows, and the next begins.
+fn every_third(held: u32) -> bool {
+    held % 3 == 0
+}
+
 /// Adds alone fill a store of four buckets with the keys 0 to 999. A walk call
-/// comes behind every third of them, and behind the last as many as the walk under
-/// way still needs; where a walk has ended the next one begins.
-fn thousand_keys() -> Case {
+/// comes behind some of them, and behind the last as many as the walk under way
+/// still needs; where a walk has ended the next one begins.
+fn thousand_keys(name: &str, walked: fn(u32) -> bool) -> Case {
     let mut script = "N 1000 4\n".to_string();
     let mut answer = "0\n".to_string();
     let mut cursor = 0;
     for key in 0..1000 {
         script += &format!("A {key} {}\n", key % 10);
         answer += "0\n";
-        if key % 3 == 2 {
+        if walked(key + 1) {
             cursor = walk_on(cursor, key + 1, &mut script, &mut answer);
         }
     }
     while cursor != 0 {
         cursor = walk_on(cursor, 1000, &mut script, &mut answer);
     }
-    computed("1,000 keys by adds alone, with walks", script, answer)
+    computed(name, script, answer)
 }
 
 /// One walk call where so many keys are held, and the cursor that it is answered.
@@ -1979,7 +1991,7 @@ mod tests {
         for (name, sample) in [
             ("the printed script", &printed[..]),
             ("the tour", tour),
-            ("1,000 keys by adds alone, with walks", thousand),
+            ("1,000 keys by adds alone, with a walk", thousand),
         ] {
             let cases = all();
             let case = cases.iter().find(|case| case.name == name).unwrap();
@@ -1987,20 +1999,30 @@ mod tests {
         }
     }
 
+    /// One walk is under way from three keys to a thousand, through all eight moves.
+    #[test]
+    fn a_walk_is_carried_through_the_thousand_adds() {
+        carried_through_a_thousand("a walk", at_growth, 1);
+    }
+
+    #[test]
+    fn walks_are_carried_through_the_thousand_adds() {
+        carried_through_a_thousand("walks", every_third, 3);
+    }
+
     /// The table grows from 4 buckets to 1,024, and all but the first time in the
     /// add whose step ends the move before. The witness has followed every walk from
     /// cursor 0 to its end: each handed out the keys held at all of its calls, and
     /// no key twice. Each of them went on while a table grew.
-    #[test]
-    fn walks_are_carried_through_the_thousand_adds() {
-        let case = thousand_keys();
+    fn carried_through_a_thousand(name: &str, walked: fn(u32) -> bool, count: usize) {
+        let case = thousand_keys(name, walked);
         let mut witness = Witness::default();
         for exchange in replies(&case.script) {
             witness.observe(&exchange).unwrap();
         }
         let tally = witness.tally();
         assert_eq!((tally.grown, tally.grown_at_once, tally.cramped), (8, 7, 0));
-        assert_eq!((tally.ended, tally.resized), (3, 3));
+        assert_eq!((tally.ended, tally.resized), (count, count));
         assert_eq!((tally.shrunk, tally.repeated), (0, 0));
 
         // The same of the keys held throughout, by the answer alone.
@@ -2030,7 +2052,7 @@ mod tests {
                 _ => {}
             }
         }
-        assert_eq!(walks, 3);
+        assert_eq!(walks, count);
     }
 
     #[test]

@@ -124,7 +124,7 @@ impl Plan {
             sum.inside, sum.ended_inside
         );
         println!(
-            "twin: {} tables grew by themselves, {} of them in an add whose step ended a move, {} had no room to",
+            "twin: {} tables grew by themselves, {} of them in an add whose step ended a move; {} adds found no room for it",
             sum.grown, sum.grown_at_once, sum.cramped
         );
         println!("twin: {scripts} scripts agree, seed {}", self.seed);

@@ -19,7 +19,7 @@ pub const EMPTY_VISITS: u32 = 10;
 /// The smallest size that is suggested. Smaller ones are legal all the same.
 pub const LEAST_SUGGESTION: u32 = 4;
 /// A table with more than so many keys for each of its buckets grows even where
-/// resizing is not allowed.
+/// that is not allowed.
 const FORCE_RATIO: usize = 5;
 
 /// The refusals that a script can bring about. The specification's 2 (damaged) and
@@ -177,7 +177,7 @@ impl Store {
         })
     }
 
-    /// Sets the permission to resize. No line of a script does.
+    /// Sets the permission to grow. No line of a script does.
     #[cfg(test)]
     pub fn allow_resize(&mut self, allowed: bool) {
         self.resize_allowed = allowed;
@@ -404,8 +404,8 @@ mod tests {
         store
     }
 
-    /// A store that is not allowed to resize, so that its one table may have as
-    /// many keys as buckets, and more.
+    /// A store that is not allowed to grow, so that its one table may have as many
+    /// keys as buckets, and more.
     fn fixed(capacity: u32, size: u32, keys: impl IntoIterator<Item = u32>) -> Store {
         let mut store = store(capacity, size, []);
         store.allow_resize(false);
@@ -749,7 +749,7 @@ mod tests {
         taken.allow_resize(false);
         taken.add(3, 30).unwrap();
         assert_eq!(sizes(&taken), (4, 0));
-        // It is still off behind a move, which it does not keep from beginning.
+        // A resize that is asked for needs no permission, and leaves it as it is.
         taken.resize(2).unwrap();
         finish(&mut taken);
         add_all(&mut taken, 4..10);
@@ -862,7 +862,7 @@ mod tests {
         assert_eq!(sizes(&moving), (1, 8));
     }
 
-    /// Nor by adds among them, where there are few keys.
+    /// Neither by deletes nor by an add that finds few keys.
     #[test]
     fn a_table_does_not_shrink_by_itself() {
         let mut store = store(100, 4, 0..100);

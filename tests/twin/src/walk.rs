@@ -7,9 +7,9 @@
 //! and the smallest size that is suggested, two numbers that the cases written by
 //! hand fix for both. The program's limits and the numbers of the answers stand
 //! here once more, from the specification; the plain map, the live sizes and which
-//! keys are in the new table it learns from calls and answers, and so when a table
-//! grows by itself, which no answer tells; and where a walk goes it reads off the
-//! line of `line.rs`. Left to the store is only in which order a bucket's own keys
+//! keys are in the new table it learns from calls and answers; when a table grows
+//! by itself, which no answer tells, it works out from the keys held and the sizes;
+//! and where a walk goes it reads off the line of `line.rs`. Left to the store is only in which order a bucket's own keys
 //! come.
 
 use crate::line::{self, number_at, part, place};

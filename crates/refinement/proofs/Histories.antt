@@ -16,7 +16,7 @@ use Rattle.refinement.proofs.Lengths.{lengths-kept}
 use Rattle.refinement.proofs.GroupEntries.{hands-out}
 use Rattle.refinement.proofs.WalkCalls.{scan-predicted}
 use Rattle.refinement.proofs.Agreement.{Agrees, Steps, agrees-undamaged, agrees-matches}
-use Rattle.refinement.proofs.SteppedKeys.{on-steps}
+use Rattle.refinement.proofs.GrownKeys.{on-steps}
 use Rattle.refinement.proofs.TableSteps.{init-steps, resize-steps, read-steps, look-values, allow-steps}
 use Rattle.refinement.proofs.RehashSteps.{step-steps}
 use Rattle.refinement.proofs.LiveTables.{Legal, tables-legal}

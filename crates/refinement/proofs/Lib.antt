@@ -22,6 +22,7 @@ pub mod TableSteps
 pub mod MovedKeys
 pub mod RehashSteps
 pub mod SteppedKeys
+pub mod GrownKeys
 -- the walk call, and walks
 pub mod LiveTables
 pub mod GroupPlaces

@@ -1,9 +1,9 @@
--- Find, update, add and delete on a store that agrees with the ideal, with the step that add and delete take first and the
--- growth that may follow an add: the step of the induction for them, and demand 2's first half.
+-- Find, update, add and delete on a store that agrees with the ideal, with the step that add and delete take first, and before
+-- any growth.
 -- Assumes nothing.
 use Prim.Native.Nat.{ℕ, zero, suc}
-use mathlib.Core.Path.{_≡_, refl, sym, ap, ap₂, subst, subst₂, _∙_}
-use mathlib.Core.Bool.{Bool, true, false, _&&_, not, cond, and-false}
+use mathlib.Core.Path.{_≡_, refl, sym, ap, ap₂, subst, _∙_}
+use mathlib.Core.Bool.{Bool, true, false, _&&_, cond}
 use mathlib.Core.List.{[], _∷_}
 use mathlib.Core.Option.{Option, none, some}
 use native.Mathlib.Omega.{arith}
@@ -11,72 +11,16 @@ use lib.ListN.{length}
 use lib.Dec.{eqb, eqb·suc-zero}
 use Rattle.model.specs.declared.State.{State}
 use Rattle.model.specs.Answers.{Reply, reply}
-use Rattle.model.specs.Memory.{keysHeld}
-use Rattle.model.specs.Calls.{suggested, growthDue}
 use Rattle.model.specs.Walk.{Tables, tablesBy, tablesOf}
 use Rattle.model.specs.Sequences.{Outcome, World, world, KeyCall, Call, kept, perform, carriedState, carry, PlainMap, valueFor, withPairs, mapAnswer, mapDoes}
-use Rattle.refinement.specs.Worlds.{UndamagedAt, Holds, takesStep, mayGrow}
-use Rattle.refinement.specs.Demand2.{AnswersAs}
-use Rattle.refinement.specs.Demand3.{Lengths, lengthsOf, Ideal, ideal, keyAnswer, resizeAnswer, stepAnswer, stepsFirst, onAnswer, grows, thenGrows, predict}
-use Rattle.invariant.proofs.FromUndamaged.{undamaged-shape}
+use Rattle.refinement.specs.Worlds.{takesStep}
+use Rattle.refinement.specs.Demand3.{lengthsOf, Ideal, keyAnswer, stepAnswer, stepsFirst, onAnswer, predict}
 use Rattle.refinement.proofs.HiddenSteps.{alone, before-growth, Rides, on-rides, on-alone}
-use Rattle.refinement.proofs.Demand1Calls.{good-lengths}
-use Rattle.refinement.proofs.Growth.{growsAt, resizedWorld, grownWorld, Follows, follows}
-use Rattle.refinement.proofs.Demand1Steps.{before-good}
 use Rattle.refinement.proofs.Refusals.{before-keeps}
-use Rattle.refinement.proofs.IdealSteps.{growth-plain, any-first, two-answered, same-pairs, one-stays}
-use Rattle.refinement.proofs.Agreement.{Agrees, Comes, Steps, agrees-undamaged, agrees-holds, holds-agrees}
+use Rattle.refinement.proofs.IdealSteps.{any-first, two-answered, same-pairs, one-stays}
+use Rattle.refinement.proofs.Agreement.{Agrees, Comes, Steps}
 use Rattle.refinement.proofs.KeyedSteps.{stays, keyed-steps}
-use Rattle.refinement.proofs.TableSteps.{resize-steps}
 use Rattle.refinement.proofs.RehashSteps.{step-steps}
-
--- growth, from a world that agrees: the ideal tells it from its own keys, sizes and permission
-growth-agrees : (v : World) (j : Ideal) → Agrees v j → (l : Lengths) → lengthsOf v ≡ l
-    → Agrees (grownWorld v) (grows l j (j .tables))
-unfolding grownWorld growsAt resizedWorld grows predict tablesOf tablesBy
-growth-agrees v j a l same =
-    subst (λ (t : Tables). Agrees (grownWorld v) (grows l j t)) (a .tables) (by (v .state .rehashing) refl)
-  where
-    s : State
-    s = v .state
-
-    keys : ℕ
-    keys = length (j .plain .pairs)
-
-    then : ℕ → World
-    then n = carry v (perform v (Call.resize (suggested true n)))
-
-    tables : s .rehashing ≡ false → j .tables ≡ Tables.one (s .«old_size»)
-    tables f = sym (a .tables) ∙ ap (λ (b : Bool). tablesBy b (s .«old_size») (s .«new_size»)) f
-
-    resized : s .rehashing ≡ false → Agrees (then keys) (resizeAnswer l j (suggested true keys) (Tables.one (s .«old_size»)) .state)
-    resized f =
-        subst (λ (t : Tables). Agrees (then keys) (resizeAnswer l j (suggested true keys) t .state)) (tables f)
-        (resize-steps v j a l same (suggested true keys) .agrees)
-
-    chosen : s .rehashing ≡ false → (t : Bool)
-        → Agrees (cond t (then keys) v) (cond t (resizeAnswer l j (suggested true keys) (Tables.one (s .«old_size»)) .state) j)
-    chosen f true = resized f
-    chosen f false = a
-
-    by : (f : Bool) → s .rehashing ≡ f
-        → Agrees (cond (not (s .rehashing) && growthDue (s .«resize_allowed») (s .«old_size») (keysHeld s)) (then (keysHeld s)) v)
-        (grows l j (tablesBy f (s .«old_size») (s .«new_size»)))
-    by true f =
-        subst
-        (λ (b : Bool).
-        Agrees (cond (not b && growthDue (s .«resize_allowed») (s .«old_size») (keysHeld s)) (then (keysHeld s)) v) j)
-        (sym f) a
-    by false f =
-        subst
-        (λ (b : Bool).
-        Agrees (cond (not b && growthDue (s .«resize_allowed») (s .«old_size») (keysHeld s)) (then (keysHeld s)) v)
-        (grows l j (Tables.one (s .«old_size»))))
-        (sym f)
-        (subst₂
-        (λ (p : Bool) (n : ℕ).
-        Agrees (cond (growthDue p (s .«old_size») n) (then n) v) (grows l j (Tables.one (s .«old_size»))))
-        (sym (a .allowed)) (a .count) (chosen f (growthDue (j .allowed) (s .«old_size») keys)))
 
 -- a call answered 0 leaves the same world, whichever it was given
 carried-alike : (w v : World) (o : Outcome) → o .reply .number ≡ 0 → carry w o ≡ carry v o
@@ -189,7 +133,7 @@ module _ (w : World) (i : Ideal) (a : Agrees w i) (key : ℕ) (c : KeyCall) wher
                   (sym (ap (carry w) is ∙ carried-alike w v (alone v key c) z)) (there .agrees);
             })
 
-  comes : Comes w o meant
+  pub comes : Comes w (before-growth w key c) (onAnswer i c (mapDoes (i .plain) key c))
   comes = by (takesStep c) (w .state .rehashing) refl refl
     where
       by : (t f : Bool) → takesStep c ≡ t → w .state .rehashing ≡ f → Comes w o meant
@@ -197,69 +141,3 @@ module _ (w : World) (i : Ideal) (a : Agrees w i) (key : ℕ) (c : KeyCall) wher
       by true false t f = plain (ap₂ _&&_ t f)
       by false true t f = plain (ap₂ _&&_ t f)
       by false false t f = plain (ap₂ _&&_ t f)
-
-  -- and then growth
-  module _ (l : Lengths) (same : lengthsOf w ≡ l) where
-    abbrev O : Outcome
-    O = perform w (Call.on key c)
-
-    -- none follows
-    unchanged : O ≡ o → (mayGrow c && eqb (meant .number) 0) ≡ false → Comes w O (thenGrows l c meant)
-    unfolding thenGrows reply
-    unchanged is no-growth =
-        subst (λ (p : Outcome). Comes w p (thenGrows l c meant)) (sym is)
-        (record {
-          number = comes .number;
-          values = comes .values;
-          agrees =
-              subst (λ (t : Bool). Agrees (carry w o) (cond t (grows l (meant .state) (meant .state .tables)) (meant .state)))
-              (sym no-growth) (comes .agrees);
-        })
-
-    grown-comes : Comes w O (thenGrows l c meant)
-    unfolding thenGrows reply
-    grown-comes = by (follows w key c)
-      where
-        by : Follows w c o O → Comes w O (thenGrows l c meant)
-        by (Follows.never f is) = unchanged is (ap (λ (t : Bool). t && eqb (meant .number) 0) f)
-        by (Follows.refused n f is) =
-            unchanged is
-            (ap (λ (m : ℕ). mayGrow c && eqb m 0) (sym (comes .number) ∙ f)
-            ∙ ap (λ (t : Bool). mayGrow c && t) (eqb·suc-zero n)
-            ∙ and-false (mayGrow c))
-        by (Follows.answered may before after values grew) =
-            let meant-zero : meant .number ≡ 0 = sym (comes .number) ∙ before in
-            record {
-              number = after ∙ sym meant-zero;
-              values = values ∙ comes .values;
-              agrees =
-                  subst₂ (λ (v : World) (t : Bool). Agrees v (cond t (grows l (meant .state) (meant .state .tables)) (meant .state)))
-                  (sym grew) (sym (ap₂ (λ (t : Bool) (m : ℕ). t && eqb m 0) may meant-zero))
-                  (growth-agrees (carry w o) (meant .state) (comes .agrees) l (good-lengths (before-good w key c) ∙ same));
-            }
-
-    pub on-steps : Steps w (Call.on key c) (predict l i (Call.on key c))
-    unfolding predict
-    on-steps = record { number = grown-comes .number; values = λ f. grown-comes .values; agrees = grown-comes .agrees }
-
--- demand 2, its first half: on any undamaged store they answer as the map
-pub as-the-map : (w : World) (m : PlainMap) → UndamagedAt w → Holds w m → (key : ℕ) (c : KeyCall)
-    → AnswersAs perform w (Call.on key c) (mapDoes m key c)
-unfolding UndamagedAt thenGrows onAnswer keyAnswer reply ideal
-as-the-map w m undamaged holds key c =
-    let (i, is, a) = holds-agrees w (undamaged-shape undamaged) m holds in
-    subst (λ (n : PlainMap). AnswersAs perform w (Call.on key c) (mapDoes n key c)) is (of-ideal i a)
-  where
-    of-ideal : (i : Ideal) → Agrees w i → AnswersAs perform w (Call.on key c) (mapDoes (i .plain) key c)
-    of-ideal i a =
-        let there = grown-comes w i a key c (lengthsOf w) refl in
-        let meant = onAnswer i c (mapDoes (i .plain) key c) in
-        let then = thenGrows (lengthsOf w) c meant .state in
-        record {
-          number = there .number;
-          values = there .values;
-          undamaged = agrees-undamaged (carry w (perform w (Call.on key c))) then (there .agrees);
-          holds =
-              subst (λ (n : PlainMap). Holds (carry w (perform w (Call.on key c))) n) (growth-plain (lengthsOf w) c meant)
-              (agrees-holds (carry w (perform w (Call.on key c))) then (there .agrees));
-        }

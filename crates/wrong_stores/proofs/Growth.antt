@@ -8,14 +8,15 @@ use lib.ListN.{replicate}
 use borrow.Author.Tests.{eqb-false}
 use Rattle.model.specs.Calls as calls
 use Rattle.model.specs.Walk.{Tables}
-use Rattle.model.specs.Sequences.{World, world, Call, Outcome, carry}
+use Rattle.model.specs.Sequences.{World, world, Call, Outcome, perform, carry, run}
 use Rattle.model.proofs.Tests.{true-not-false}
 use Rattle.refinement.specs.Demand1.{Demand1}
 use Rattle.refinement.specs.Demand3.{Demand3, SequenceHolds, lengthsOf, begun, startNumber}
+use Rattle.refinement.specs.RehashesEnd.{Ongoing}
 use Rattle.refinement.proofs.HiddenSteps as hidden
 use Rattle.wrong_stores.specs.Growth as growth
 use Rattle.wrong_stores.specs.Growth.{neverGrows, growsForbidden, neverForced, growsLate, forcedEarly, forcedByKeys, growsForBefore, growsToTwo, growsHalfway, growsFromRest, shrinks, deletesShrinking, deletesGrowing, stepsGrowing, allowsGrowing, refusesCramped, startsForbidding, keepsPermission, allowsAgain, refusesPermission, allowsAnyState}
-use Rattle.wrong_stores.proofs.Start.{computing, zeros, forbid, add, delete, at, apart, neither}
+use Rattle.wrong_stores.proofs.Start.{computing, zeros, started, forbid, add, delete, at, apart, neither}
 
 abbrev allow : Call
 allow = Call.allowResize true
@@ -168,3 +169,15 @@ pub allowsAnyState-excluded : Demand1 allowsAnyState → ⊥
 unfolding computing allowsAnyState
 allowsAnyState-excluded d =
     neither (λ h. eqb-false 0 1 refl (h .1)) (λ h. h .0 (λ s. true-not-false (sym s))) (d .numbers zeros allow)
+
+-- Ours: an add whose step ends a rehash, and behind which the next one begins. It is another one: `RehashesEnd` counts its
+-- steps from there on.
+
+abbrev endsNext : World
+endsNext = run perform (started perform 4) (allow ∷ add 0 10 ∷ Call.resize 2 ∷ [])
+
+pub begins-anew : (endsNext .state .rehashing ≡ true)
+    × (run perform endsNext (add 1 11 ∷ []) .state .rehashing ≡ true)
+    × (¬ Ongoing (run perform endsNext (add 1 11 ∷ [])) endsNext)
+unfolding computing
+begins-anew = (refl, refl, λ on. true-not-false (sym (on .1)))

@@ -127,23 +127,23 @@ module _ (does : World → Call → Outcome) (calls : List Call) (left : run doe
         look = rw (left, looks) turned-look;
       }
 
+-- a call answered 0, with those values
+abbrev answered : Call → List ℕ → Event
+answered c values = record { call = c; number = 0; values = values; lent = [] }
+
 pub addsAtEnd-passes : Demand2 perform → Demand3 perform → SequenceHolds addsAtEnd (lengthsOf zeros) (started addsAtEnd 1) (startedIdeal 1) twoKeys
 unfolding computing addsAtEnd reordering relinked wrong.head wrong.toEnd ours turned
 addsAtEnd-passes d2 d =
-    turned-passes addsAtEnd twoKeys refl refl refl (λ cursor lent. refl) refl d2 (at d 1 refl twoKeys)
+    turned-passes addsAtEnd twoKeys refl refl (alike (answered (add 1 10) [] ∷ answered (add 2 20) [] ∷ []) refl refl)
+    (λ cursor lent. refl) refl d2 (at d 1 refl twoKeys)
 
 pub findsToFront-passes : Demand2 perform → Demand3 perform
     → SequenceHolds findsToFront (lengthsOf zeros) (started findsToFront 1) (startedIdeal 1) (add 1 10 ∷ add 2 20 ∷ find 1 ∷ [])
 unfolding computing findsToFront reordering relinked wrong.head wrong.toFront ours turned
 findsToFront-passes d2 d =
-    turned-passes findsToFront (add 1 10 ∷ add 2 20 ∷ find 1 ∷ []) refl refl (alike seen refl refl) (λ cursor lent. refl) refl d2
+    turned-passes findsToFront (add 1 10 ∷ add 2 20 ∷ find 1 ∷ []) refl refl
+    (alike (answered (add 1 10) [] ∷ answered (add 2 20) [] ∷ answered (find 1) (10 ∷ []) ∷ []) refl refl) (λ cursor lent. refl) refl d2
     (at d 1 refl _)
-  where
-    answered : Call → List ℕ → Event
-    answered c values = record { call = c; number = 0; values = values; lent = [] }
-
-    seen : List Event
-    seen = answered (add 1 10) [] ∷ answered (add 2 20) [] ∷ answered (find 1) (10 ∷ []) ∷ []
 
 -- Demand 1.
 

@@ -32,7 +32,7 @@ pub struct State {
     // The first entry of the free list, 0 where there is none.
     pub free_head: u32,
     pub capacity: u32,
-    // Whether a table that is full of keys may grow by itself.
+    // Whether a table with as many keys as buckets may grow by itself (the specification's permission).
     pub resize_allowed: bool,
 }
 
@@ -109,7 +109,7 @@ pub enum ResizeAnswer {
     Refused(Error),
 }
 
-// The state has the new permission.
+// Set: the state has the permission that was given.
 pub enum AllowAnswer {
     Set(State),
     Refused(Error),

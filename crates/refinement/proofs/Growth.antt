@@ -34,7 +34,7 @@ pub grown-lengths : (w : World) → lengthsOf (grownWorld w) ≡ lengthsOf w
 unfolding grownWorld resizedWorld
 grown-lengths w = by (growsAt w)
   where
-    by : (t : Bool) → lengthsOf (cond t (carry w (perform w (Call.resize (suggested true (keysHeld (w .state)))))) w) ≡ lengthsOf w
+    by : (t : Bool) → lengthsOf (cond t (resizedWorld w) w) ≡ lengthsOf w
     by true = good-lengths (resized-good w (suggested true (keysHeld (w .state))))
     by false = refl
 

@@ -78,7 +78,8 @@ unfolding resizing deletesShrinking newSize
 deletesShrinking-excluded d =
     apart newSize (Tables.two 16 4) (Tables.one 16) refl (at d 16 refl (allow ∷ add 1 10 ∷ delete 1 ∷ []) .matches .tables)
 
--- a delete leaves one key for one bucket; so does a step, or the permission, that no add follows
+-- one key for one bucket, behind a delete, behind a step that ends a rehash, and when growth comes to be allowed: no add
+-- follows, and so no growth
 pub deletesGrowing-excluded : Demand3 deletesGrowing → ⊥
 unfolding resizing deletesGrowing newSize
 deletesGrowing-excluded d =

@@ -17,7 +17,7 @@ use Rattle.model.specs.declared.AddAnswer.{AddAnswer}
 use Rattle.model.specs.declared.StepAnswer.{StepAnswer}
 use Rattle.model.specs.Limits.{legalSize}
 use Rattle.model.specs.Memory.{sizeOf, usedOf, keysHeld}
-use Rattle.model.specs.Calls.{After, sound, oriented, checked, back, writing, changed, stateOf, oldNew, recounted, lookup, withCount, pushed, target, takeable, added, addAlone, rehashStep, unlessRefused, callAfter, stepFirst, isAdded, addAfterStep}
+use Rattle.model.specs.Calls.{After, sound, oriented, checked, back, writing, changed, stateOf, oldNew, recounted, lookup, withCount, pushed, target, takeable, added, addAlone, rehashStep, unlessRefused, callAfter, stepDue, stepFirst, isAdded, addAfterStep}
 use Rattle.model.proofs.Soundness.{Sound, sound-facts, Counted}
 
 pub record Growable (s : State) : Type 0 where
@@ -95,7 +95,7 @@ module _ (key value : ℕ) where
 
   pub add-leaves : (s : State) (first second entries : List ℕ) → AddLeaves (addAfterStep s first second entries key value)
   unfolding AddLeaves addAfterStep stepFirst callAfter unlessRefused isAdded
-  add-leaves s first second entries = by (s .rehashing)
+  add-leaves s first second entries = by (stepDue s)
     where
       kept : (a : After AddAnswer) → AddLeaves a → AddLeaves (unlessRefused isAdded first second entries a)
       kept (After.after (AddAnswer.Refused e) x y z) h = tt

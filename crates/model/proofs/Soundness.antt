@@ -7,7 +7,7 @@ use mathlib.Core.List.{List}
 use lib.ListN.{length}
 use lib.Dec.{leb, eqb}
 use Rattle.model.specs.declared.State.{State}
-use Rattle.model.specs.Limits.{largestCapacity, legalCapacity, legalSize}
+use Rattle.model.specs.Limits.{largestCapacity, legalCapacity, legalSize, mostSafeIterators}
 use Rattle.model.specs.Memory.{keysHeld, soundCapacity, soundTable, soundRehash, soundBase, soundState}
 use Rattle.model.specs.Calls.{sound}
 use Rattle.model.proofs.Tests.{Tells, told, tested, tells-true, tells-same, tells-and, tells-not, tells-le, tells-eq, true-not-false}
@@ -33,6 +33,7 @@ pub record Sound (s : State) (current other entries : ℕ) : Type 0 where
   pub old-fits : s .«old_size» ≤ current
   pub used-fits : s .«old_used» + s .«new_used» ≤ s .capacity
   pub free-fits : s .«free_head» ≤ s .capacity
+  pub iterators-fit : s .«safe_iterators» ≤ mostSafeIterators
   pub resting : s .rehashing ≡ false → Resting s
   pub rehashing : s .rehashing ≡ true → Rehashing s other
 
@@ -59,15 +60,18 @@ module _ (s : State) where
       ((((1 ≤ s .capacity) × (s .capacity ≤ largestCapacity) × (s .capacity * 3 ≤ entries))
       × ((legalSize (s .«old_size») ≡ true) × (s .«old_size» ≤ current)))
       × (s .«old_used» + s .«new_used» ≤ s .capacity)
-      × (s .«free_head» ≤ s .capacity))
+      × (s .«free_head» ≤ s .capacity)
+      × (s .«safe_iterators» ≤ mostSafeIterators))
       (soundBase current entries s)
   unfolding soundBase keysHeld
   tells-base current entries =
-      tells-same (λ h. (h .0 .0, h .0 .1, h .1)) (λ h. ((h .0, h .1), h .2))
+      tells-same (λ h. (h .0 .0 .0, h .0 .0 .1, h .0 .1, h .1)) (λ h. (((h .0, h .1), h .2), h .3))
+      (tells-and
       (tells-and
       (tells-and (tells-and (tells-capacity entries (s .capacity)) (tells-table current (s .«old_size»)))
       (tells-le (s .«old_used» + s .«new_used») (s .capacity)))
       (tells-le (s .«free_head») (s .capacity)))
+      (tells-le (s .«safe_iterators») mostSafeIterators))
 
   tells-rehashing : (other : ℕ) → Tells (Rehashing s other) (soundRehash other s true)
   unfolding soundRehash
@@ -107,6 +111,7 @@ module _ (s : State) where
         old-fits = h .0 .0 .1 .1;
         used-fits = h .0 .1;
         free-fits = h .0 .2;
+        iterators-fit = h .0 .3;
         resting = h .1 .0;
         rehashing = h .1 .1;
       })
@@ -115,6 +120,7 @@ module _ (s : State) where
           ((h .some-entries, h .capacity-limit, h .entries-fit), (h .old-legal, h .old-fits)),
           h .used-fits,
           h .free-fits,
+          h .iterators-fit,
         ),
         (h .resting, h .rehashing),
       ))

@@ -17,7 +17,7 @@ use Rattle.model.specs.declared.Ahead.{Ahead}
 use Rattle.model.specs.declared.StepAnswer.{StepAnswer}
 use Rattle.model.specs.Limits.{emptyVisits}
 use Rattle.model.specs.Memory.{sizeOf, usedOf, keysHeld, Place, budgetAt, chainAt}
-use Rattle.model.specs.Calls.{After, sound, oriented, checked, back, writing, stateOf, oldNew, retabled, Chains, ahead, moved, advanced, finished, settled, stepDone, movedChain, movedFrom, aheadOf, stepped, rehashStep}
+use Rattle.model.specs.Calls.{After, sound, oriented, checked, back, writing, stateOf, oldNew, retabled, Chains, ahead, moved, advanced, finished, settled, stepDone, movedChain, movedFrom, aheadOf, stepTaken, paused, stepped, rehashStep}
 use Rattle.model.proofs.Moved.{moved-length}
 use Rattle.model.proofs.Linked.{read-sound}
 use Rattle.model.proofs.Soundness.{Sound, sound-facts, sound-test}
@@ -54,6 +54,7 @@ module _ (s : State) (current other entries : ℕ) (h : Sound s current other en
         old-fits = h .old-fits;
         used-fits = omega (arith, h .used-fits);
         free-fits = h .free-fits;
+        iterators-fit = h .iterators-fit;
         resting = λ f. let z : _≡_ {A = ℕ} 0 1 = cc in absurd (omega arith);
         rehashing =
             λ f.
@@ -76,6 +77,7 @@ module _ (s : State) (current other entries : ℕ) (h : Sound s current other en
         old-fits = h .rehashing e .new-fits;
         used-fits = omega (arith, h .used-fits);
         free-fits = h .free-fits;
+        iterators-fit = h .iterators-fit;
         resting = λ f. record { no-size = refl; no-keys = refl; no-index = refl };
         rehashing = λ f. let z : _≡_ {A = ℕ} 0 1 = cc in absurd (omega arith);
       }
@@ -111,7 +113,7 @@ StepLeaves s current other entries (After.after (StepAnswer.Stepped count t) c o
     × Onward s (length c) (length o) (length z) t
 
 module _ (s : State) (current other entries : List ℕ) (h : Sound s (length current) (length other) (length entries))
-    (e : s .rehashing ≡ true) where
+    (e : s .rehashing ≡ true) (unpaused : paused s ≡ false) where
   abbrev Leaves : After StepAnswer → Type 0
   Leaves a = StepLeaves s current other entries a
 
@@ -153,8 +155,11 @@ module _ (s : State) (current other entries : List ℕ) (h : Sound s (length cur
       by (Ahead.Filled b) k = chain-leaves b (k .1) (chainAt s current other entries (Place.bucket Table.Old b)) refl
 
   pub step-leaves : StepLeaves s current other entries (stepped s current other entries (s .rehashing))
-  unfolding stepped
-  step-leaves = subst (λ (f : Bool). Leaves (stepped s current other entries f)) (sym e) (by (eqb (s .«old_used») 0))
+  unfolding stepped stepTaken
+  step-leaves =
+      subst (λ (f : Bool). Leaves (stepped s current other entries f)) (sym e)
+      (subst (λ (f : Bool). Leaves (cond f (After.after (StepAnswer.Refused Error.Paused) current other entries) (stepTaken s current other entries)))
+      (sym unpaused) (by (eqb (s .«old_used») 0)))
     where
       by : (t : Bool)
           → Leaves (cond t (After.after (stepDone s 0 (s .«rehash_index»)) current other entries) (movedFrom s current other entries (aheadOf s current)))
@@ -173,7 +178,7 @@ RehashLeaves s first second entries (After.after (StepAnswer.Stepped count t) x 
     × Follows s t
     × (oriented (t .«second_is_current») (λ current other. sound t current other z) x y ≡ true)
 
-module _ (s : State) (first second entries : List ℕ) (e : s .rehashing ≡ true) where
+module _ (s : State) (first second entries : List ℕ) (e : s .rehashing ≡ true) (unpaused : paused s ≡ false) where
   -- by the flag of the state before, and of the one after
   onward-sound : (f : Bool) → s .«second_is_current» ≡ f → (t : State) (c o z : List ℕ)
       → Onward s (length c) (length o) (length z) t
@@ -212,7 +217,7 @@ module _ (s : State) (first second entries : List ℕ) (e : s .rehashing ≡ tru
       (λ (t : Bool).
       StepLeaves s current other entries
       (cond t (stepped s current other entries (s .rehashing)) (After.after (StepAnswer.Refused Error.BadState) current other entries)))
-      (sym h) (step-leaves s current other entries (sound-facts s current other entries h) e)
+      (sym h) (step-leaves s current other entries (sound-facts s current other entries h) e unpaused)
 
   pub rehash-leaves : oriented (s .«second_is_current») (λ current other. sound s current other entries) first second ≡ true
       → RehashLeaves s first second entries (rehashStep s first second entries)

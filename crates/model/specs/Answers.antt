@@ -13,7 +13,9 @@ use Rattle.model.specs.declared.DeleteAnswer.{DeleteAnswer}
 use Rattle.model.specs.declared.ResizeAnswer.{ResizeAnswer}
 use Rattle.model.specs.declared.StepAnswer.{StepAnswer}
 use Rattle.model.specs.declared.SizeAnswer.{SizeAnswer}
-use Rattle.model.specs.declared.AllowAnswer.{AllowAnswer}
+use Rattle.model.specs.declared.StateAnswer.{StateAnswer}
+use Rattle.model.specs.declared.BeginAnswer.{BeginAnswer}
+use Rattle.model.specs.declared.EndAnswer.{EndAnswer}
 use Rattle.model.specs.declared.ScanAnswer.{ScanAnswer}
 
 -- the number, the values in the program's order, and what comes back: the store's state, or that of a map or an ideal
@@ -34,6 +36,10 @@ errorNumber Error.Full = 5
 errorNumber Error.BadSize = 6
 errorNumber Error.Rehashing = 7
 errorNumber Error.NotRehashing = 8
+errorNumber Error.Changed = 15
+errorNumber Error.NoSafeIterator = 16
+errorNumber Error.TooManyIterators = 17
+errorNumber Error.Paused = 18
 
 -- Each takes the state that the call was given, where it was given one.
 
@@ -70,16 +76,25 @@ unfoldable pub sizeReply : State → SizeAnswer → Reply State
 sizeReply s (SizeAnswer.Suggested size) = reply 0 (size ∷ []) s
 sizeReply s (SizeAnswer.Refused e) = reply (errorNumber e) (0 ∷ []) s
 
-unfoldable pub allowReply : State → AllowAnswer → Reply State
-allowReply s (AllowAnswer.Set t) = reply 0 [] t
-allowReply s (AllowAnswer.Refused e) = reply (errorNumber e) [] s
+-- of the permission, and of a safe iterator's begin and end
+unfoldable pub stateReply : State → StateAnswer → Reply State
+stateReply s (StateAnswer.Set t) = reply 0 [] t
+stateReply s (StateAnswer.Refused e) = reply (errorNumber e) [] s
+
+unfoldable pub beginReply : State → BeginAnswer → Reply State
+beginReply s (BeginAnswer.Begun fingerprint) = reply 0 (fingerprint ∷ []) s
+beginReply s (BeginAnswer.Refused e) = reply (errorNumber e) (0 ∷ []) s
+
+unfoldable pub endReply : State → EndAnswer → Reply State
+endReply s EndAnswer.Ended = reply 0 [] s
+endReply s (EndAnswer.Refused e) = reply (errorNumber e) [] s
 
 -- A look answers the live table. A live table has a bucket, so an empty look is a refusal.
 unfoldable pub tableReply : State → List ℕ → Reply State
 tableReply s [] = reply 1 [] s
 tableReply s (head ∷ rest) = reply 0 (head ∷ rest) s
 
--- the next cursor, then the number of keys
+-- the next cursor, or an iterator's next place, then the number of keys
 unfoldable pub scanReply : State → ScanAnswer → Reply State
 scanReply s (ScanAnswer.Scanned cursor count) = reply 0 (cursor ∷ count ∷ []) s
 scanReply s (ScanAnswer.Short count) = reply 9 (0 ∷ count ∷ []) s

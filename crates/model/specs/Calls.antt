@@ -18,7 +18,7 @@ use Rattle.model.specs.declared.DeleteAnswer.{DeleteAnswer}
 use Rattle.model.specs.declared.ResizeAnswer.{ResizeAnswer}
 use Rattle.model.specs.declared.StepAnswer.{StepAnswer}
 use Rattle.model.specs.declared.SizeAnswer.{SizeAnswer}
-use Rattle.model.specs.declared.AllowAnswer.{AllowAnswer}
+use Rattle.model.specs.declared.StateAnswer.{StateAnswer}
 use Rattle.model.specs.Keys.{bucketOf}
 use Rattle.model.specs.Limits.{largestExponent, legalCapacity, legalSize, emptyVisits, leastSuggestion, forceRatio}
 use Rattle.model.specs.Memory.{linkOf, keyOf, valueOf, setLink, setKey, setValue, setEntry, sizeOf, usedOf, bucketsOf, keysHeld, soundState, Place, keyPlace, chainAt}
@@ -61,8 +61,8 @@ changed Table.Old answer current other buckets entries = After.after answer buck
 changed Table.New answer current other buckets entries = After.after answer current buckets entries
 
 -- A state, its sizes and counts by the table.
-unfoldable pub stateOf : Bool → (Table → ℕ) → (Table → ℕ) → Bool → ℕ → ℕ → ℕ → Bool → State
-stateOf second size used rehashing index free capacity allowed =
+unfoldable pub stateOf : Bool → (Table → ℕ) → (Table → ℕ) → Bool → ℕ → ℕ → ℕ → Bool → ℕ → State
+stateOf second size used rehashing index free capacity allowed iterators =
     record {
       «second_is_current» = second;
       «old_size» = size Table.Old;
@@ -74,30 +74,33 @@ stateOf second size used rehashing index free capacity allowed =
       «free_head» = free;
       capacity = capacity;
       «resize_allowed» = allowed;
+      «safe_iterators» = iterators;
     }
 
 unfoldable pub oldNew : ℕ → ℕ → Table → ℕ
 oldNew old new Table.Old = old
 oldNew old new Table.New = new
 
--- The state that a call leaves is one of four: one table with no keys, which may grow, ..
+-- The state that a call leaves is one of four: one table with no keys, which may grow, and no safe iterator, ..
 unfoldable pub emptyState : ℕ → ℕ → ℕ → State
-emptyState size free capacity = stateOf false (oldNew size 0) (oldNew 0 0) false 0 free capacity true
+emptyState size free capacity = stateOf false (oldNew size 0) (oldNew 0 0) false 0 free capacity true 0
 
 -- .. another free head and other counts, ..
 unfoldable pub recounted : State → ℕ → (Table → ℕ) → State
 recounted s free used =
     stateOf (s .«second_is_current») (sizeOf s) used (s .rehashing) (s .«rehash_index») free (s .capacity) (s .«resize_allowed»)
+    (s .«safe_iterators»)
 
 -- .. other tables: the current buffer, the sizes, the counts, whether a rehash is under way, the next bucket
 unfoldable pub retabled : State → Bool → (Table → ℕ) → (Table → ℕ) → Bool → ℕ → State
 retabled s second size used rehashing index =
-    stateOf second size used rehashing index (s .«free_head») (s .capacity) (s .«resize_allowed»)
+    stateOf second size used rehashing index (s .«free_head») (s .capacity) (s .«resize_allowed») (s .«safe_iterators»)
 
--- .. or another permission to grow
-unfoldable pub permitted : State → Bool → State
-permitted s allowed =
-    stateOf (s .«second_is_current») (sizeOf s) (usedOf s) (s .rehashing) (s .«rehash_index») (s .«free_head») (s .capacity) allowed
+-- .. or another permission to grow and another number of safe iterators, which say nothing of the memory
+unfoldable pub noted : State → Bool → ℕ → State
+noted s allowed iterators =
+    stateOf (s .«second_is_current») (sizeOf s) (usedOf s) (s .rehashing) (s .«rehash_index») (s .«free_head») (s .capacity)
+    allowed iterators
 
 -- Start
 
@@ -117,7 +120,7 @@ freeEntries n (suc behind) = freeLink n behind ∷ 0 ∷ 0 ∷ freeEntries (suc 
 
 -- what a refused start hands back
 unfoldable pub noState : State
-noState = stateOf false (oldNew 0 0) (oldNew 0 0) false 0 0 0 false
+noState = stateOf false (oldNew 0 0) (oldNew 0 0) false 0 0 0 false 0
 
 -- the first bucket buffer and the entry buffer, by their lengths
 unfoldable pub longEnough : ℕ → ℕ → ℕ → ℕ → Bool
@@ -336,19 +339,30 @@ movedFrom s current other entries (Ahead.Filled b) =
 unfoldable pub aheadOf : State → List ℕ → Ahead
 aheadOf s current = ahead current (s .«rehash_index») (s .«old_size» - s .«rehash_index») emptyVisits
 
-unfoldable pub stepped : State → List ℕ → List ℕ → List ℕ → Bool → After StepAnswer
-stepped s current other entries false = After.after (StepAnswer.Refused Error.NotRehashing) current other entries
-stepped s current other entries true =
+-- during a rehash, with no safe iterator
+unfoldable pub stepTaken : State → List ℕ → List ℕ → List ℕ → After StepAnswer
+stepTaken s current other entries =
     cond (eqb (s .«old_used») 0)
     (After.after (stepDone s 0 (s .«rehash_index»)) current other entries)
     (movedFrom s current other entries (aheadOf s current))
+
+-- safe iterators hold up the rehash
+unfoldable pub paused : State → Bool
+paused s = ltb 0 (s .«safe_iterators»)
+
+unfoldable pub stepped : State → List ℕ → List ℕ → List ℕ → Bool → After StepAnswer
+stepped s current other entries false = After.after (StepAnswer.Refused Error.NotRehashing) current other entries
+stepped s current other entries true =
+    cond (paused s)
+    (After.after (StepAnswer.Refused Error.Paused) current other entries)
+    (stepTaken s current other entries)
 
 unfoldable pub rehashStep : State → List ℕ → List ℕ → List ℕ → After StepAnswer
 rehashStep s first second entries =
     writing s first second entries (StepAnswer.Refused Error.BadState)
     (λ current other. stepped s current other entries (s .rehashing))
 
--- The step that comes first: add and delete during a rehash
+-- The step that comes first: add and delete during a rehash that is not held up
 
 -- what an answered call leaves; a refused one leaves these buffers
 unfoldable pub unlessRefused : {A : Type 0} → (A → Bool) → List ℕ → List ℕ → List ℕ → After A → After A
@@ -363,10 +377,13 @@ callAfter refused done call first second entries (After.after (StepAnswer.Refuse
 callAfter refused done call first second entries (After.after (StepAnswer.Stepped count t) x y z) =
     unlessRefused done first second entries (call t x y z)
 
+unfoldable pub stepDue : State → Bool
+stepDue s = s .rehashing && not (paused s)
+
 unfoldable pub stepFirst : {A : Type 0} → (Error → A) → (A → Bool) → (State → List ℕ → List ℕ → List ℕ → After A)
     → State → List ℕ → List ℕ → List ℕ → After A
 stepFirst refused done call s first second entries =
-    cond (s .rehashing)
+    cond (stepDue s)
     (callAfter refused done call first second entries (rehashStep s first second entries))
     (call s first second entries)
 
@@ -439,10 +456,10 @@ add s first second entries key value = thenGrown (addAfterStep s first second en
 
 -- Permission to grow
 
-unfoldable pub allowResize : State → List ℕ → List ℕ → List ℕ → Bool → AllowAnswer
+unfoldable pub allowResize : State → List ℕ → List ℕ → List ℕ → Bool → StateAnswer
 allowResize s first second entries allowed =
-    reading s first second entries (AllowAnswer.Refused Error.BadState)
-    (λ current other. AllowAnswer.Set (permitted s allowed))
+    reading s first second entries (StateAnswer.Refused Error.BadState)
+    (λ current other. StateAnswer.Set (noted s allowed (s .«safe_iterators»)))
 
 -- Look
 

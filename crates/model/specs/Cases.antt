@@ -10,7 +10,7 @@ use Rattle.model.specs.declared.State.{State}
 use Rattle.model.specs.Answers.{Reply}
 use Rattle.model.specs.Memory.{Place, chainAt}
 use Rattle.model.specs.Calls.{stateOf, oldNew, emptyState, freeEntries, noState, suggested}
-use Rattle.model.specs.Sequences.{World, world, KeyCall, Call, perform, run}
+use Rattle.model.specs.Sequences.{World, world, KeyCall, StateCall, Call, perform, run}
 
 -- A walk's cursor at one live table, or at two; the cursors of a whole walk; any cursor; the suggested size for some keys,
 -- and for every number of keys above a given one; some calls in a world, each of which answers that number; the values of an
@@ -75,27 +75,27 @@ unfoldable pub bucketZero : ℕ → ℕ → List ℕ
 bucketZero a b = 2 ∷ a ∷ 10 ∷ 0 ∷ b ∷ 20 ∷ 0 ∷ 7 ∷ 70 ∷ []
 
 unfoldable pub resting : ℕ → ℕ → World
-resting a b = world (stateOf false (oldNew 2 0) (oldNew 2 0) false 0 3 3 true) (1 ∷ 0 ∷ []) [] (bucketZero a b)
+resting a b = world (stateOf false (oldNew 2 0) (oldNew 2 0) false 0 3 3 true 0) (1 ∷ 0 ∷ []) [] (bucketZero a b)
 
 unfoldable pub moving : ℕ → ℕ → World
-moving a b = world (stateOf false (oldNew 2 4) (oldNew 2 0) true 0 3 3 true) (1 ∷ 0 ∷ []) (replicate 4 0) (bucketZero a b)
+moving a b = world (stateOf false (oldNew 2 4) (oldNew 2 0) true 0 3 3 true 0) (1 ∷ 0 ∷ []) (replicate 4 0) (bucketZero a b)
 
 unfoldable pub inBoth : ℕ → World
 inBoth b =
-    world (stateOf false (oldNew 2 4) (oldNew 1 1) true 0 3 3 true) (1 ∷ 0 ∷ []) (2 ∷ 0 ∷ 0 ∷ 0 ∷ [])
+    world (stateOf false (oldNew 2 4) (oldNew 1 1) true 0 3 3 true 0) (1 ∷ 0 ∷ []) (2 ∷ 0 ∷ 0 ∷ 0 ∷ [])
     (0 ∷ 2 ∷ 10 ∷ 0 ∷ b ∷ 20 ∷ 0 ∷ 7 ∷ 70 ∷ [])
 
 -- In another one, key b is the only one held, in bucket b of an old table of 16, and `next` is the next bucket to move.
 unfoldable pub sparse : ℕ → ℕ → World
 sparse b next =
-    world (stateOf false (oldNew 16 2) (oldNew 1 0) true next 0 1 true) (set (replicate 16 0) b 1) (replicate 2 0)
+    world (stateOf false (oldNew 16 2) (oldNew 1 0) true next 0 1 true 0) (set (replicate 16 0) b 1) (replicate 2 0)
     (0 ∷ b ∷ 10 ∷ [])
 
 -- Stores of five entries during a rehash from size 2 to 4, the first buffer current: the keys that the state counts in each
 -- table, the first free entry, the buckets of each table, the first entries.
 unfoldable pub rehashing : (old new free : ℕ) → List ℕ → List ℕ → List ℕ → World
 rehashing old new free buckets others entries =
-    world (stateOf false (oldNew 2 4) (oldNew old new) true 0 free 5 true) buckets others (entries ++ replicate 12 0)
+    world (stateOf false (oldNew 2 4) (oldNew old new) true 0 free 5 true 0) buckets others (entries ++ replicate 12 0)
 
 -- keys 0 and 4 on the chain of the old table's bucket 0, and key 8 on that of the new one's, linked on to that entry; the
 -- state counts two keys in each table
@@ -133,7 +133,7 @@ adding (suc n) = adding n ++ Call.on (suc n) (KeyCall.add 30) ∷ []
 -- so many keys in one table of that size, added while growth is not allowed; then it is, or not
 unfoldable pub filled : (size others keys : ℕ) → Bool → World
 filled size others keys allowed =
-    after size others (Call.allowResize false ∷ adding keys ++ Call.allowResize allowed ∷ [])
+    after size others (Call.note (StateCall.allowResize false) ∷ adding keys ++ Call.note (StateCall.allowResize allowed) ∷ [])
 
 -- one of each call that reads a bucket's chain, but for a step: on a key, on another one to be added, and a walk call
 unfoldable pub readers : ℕ → ℕ → List Call
@@ -175,8 +175,8 @@ cases =
     ∷ Row.adds (filled 2 32 10 false) 0 2 32
     ∷ Row.adds (after 8 2 (adding 3 ++ Call.resize 2 ∷ [])) 0 8 2
     ∷ Row.adds (after 8 2 (Call.on 8 (KeyCall.add 30) ∷ Call.resize 2 ∷ [])) 0 2 4
-    ∷ Row.answers (after 4 4 (Call.allowResize false ∷ [])) (Call.allowResize true ∷ []) 0
-    ∷ Row.answers (world noState [] [] []) (Call.allowResize true ∷ []) 1
+    ∷ Row.answers (after 4 4 (Call.note (StateCall.allowResize false) ∷ [])) (Call.note (StateCall.allowResize true) ∷ []) 0
+    ∷ Row.answers (world noState [] [] []) (Call.note (StateCall.allowResize true) ∷ []) 1
     ∷ Row.answers (resting 2 4) (readers 2 6) 0
     ∷ Row.answers (resting 2 5) (readers 2 6) 2
     ∷ Row.answers (resting 5 2) (readers 2 6) 2

@@ -6,5 +6,6 @@ pub mod Memory
 pub mod Answers
 pub mod Calls
 pub mod Walk
+pub mod Iterators
 pub mod Sequences
 pub mod Cases

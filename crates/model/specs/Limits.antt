@@ -34,3 +34,7 @@ leastSuggestion = 4
 -- with more than so many keys for each bucket a table grows, whether that is allowed or not
 unfoldable pub forceRatio : ℕ
 forceRatio = 5
+
+-- the most safe iterators at a time
+unfoldable pub mostSafeIterators : ℕ
+mostSafeIterators = 255

@@ -10,7 +10,7 @@ use Rattle.cursor.specs.Member.{In}
 use Rattle.model.specs.declared.State.{State}
 use Rattle.model.specs.declared.Table.{Table}
 use Rattle.model.specs.Keys.{bucketOf}
-use Rattle.model.specs.Limits.{legalCapacity, legalSize}
+use Rattle.model.specs.Limits.{legalCapacity, legalSize, mostSafeIterators}
 
 -- Entries are numbered from 1, and 0 means none. An entry is three numbers: link, key, value.
 
@@ -82,6 +82,7 @@ soundBase current entries s =
     && soundTable current (s .«old_size»)
     && leb (keysHeld s) (s .capacity)
     && leb (s .«free_head») (s .capacity)
+    && leb (s .«safe_iterators») mostSafeIterators
 
 unfoldable pub soundState : ℕ → ℕ → ℕ → State → Bool
 soundState current other entries s = soundBase current entries s && soundRehash other s (s .rehashing)

@@ -6,14 +6,16 @@ use mathlib.Core.Option.{Option, none, some}
 use lib.ListN.{length}
 use lib.Dec.{eqb}
 use Rattle.model.specs.declared.State.{State}
-use Rattle.model.specs.Answers.{Reply, reply, initReply, findReply, updateReply, addReply, deleteReply, resizeReply, stepReply, sizeReply, allowReply, tableReply, scanReply}
+use Rattle.model.specs.Answers.{Reply, reply, initReply, findReply, updateReply, addReply, deleteReply, resizeReply, stepReply, sizeReply, stateReply, beginReply, endReply, tableReply, scanReply}
 use Rattle.model.specs.Calls.{After}
 use Rattle.model.specs.Calls as calls
 use Rattle.model.specs.Walk.{AfterScan}
 use Rattle.model.specs.Walk as walk
+use Rattle.model.specs.Iterators as iterators
 
--- The calls, by what they do: find, change, add and delete name a key, and are what the plain map is fed; suggested size
--- and look only read, and so does a walk call, which is lent a list besides the three buffers.
+-- The calls, by what they do: find, change, add and delete name a key, and are what the plain map is fed; suggested size,
+-- look, and an iterator's begin and end only read; the permission, and a safe iterator's begin and end, set a field of the
+-- state. Walk calls and those that iterate only read too, and are lent a list besides the three buffers.
 
 pub data KeyCall : Type 0 where
   find : KeyCall
@@ -24,6 +26,13 @@ pub data KeyCall : Type 0 where
 pub data ReadCall : Type 0 where
   suggestedSize : (growing : Bool) → ReadCall
   currentTable : ReadCall
+  beginIterator : ReadCall
+  endIterator : (fingerprint : ℕ) → ReadCall
+
+pub data StateCall : Type 0 where
+  allowResize : (allowed : Bool) → StateCall
+  beginSafe : StateCall
+  endSafe : StateCall
 
 pub data Call : Type 0 where
   init : (capacity size : ℕ) → Call
@@ -31,8 +40,9 @@ pub data Call : Type 0 where
   resize : (size : ℕ) → Call
   rehashStep : Call
   scan : (cursor : ℕ) (lent : List ℕ) → Call
+  iterate : (place : ℕ) (lent : List ℕ) → Call
   read : ReadCall → Call
-  allowResize : (allowed : Bool) → Call
+  note : StateCall → Call
 
 -- the state that the caller holds, and the three lent buffers
 pub record World : Type 0 where
@@ -44,7 +54,7 @@ pub record World : Type 0 where
 unfoldable pub world : State → List ℕ → List ℕ → List ℕ → World
 world state first second entries = record { state = state; first = first; second = second; entries = entries }
 
--- what a call answers and leaves; the lent list is empty but for a walk call
+-- what a call answers and leaves; the lent list is empty where none is lent
 pub record Outcome : Type 0 where
   pub reply : Reply State
   pub first : List ℕ
@@ -76,10 +86,16 @@ perform w (Call.on key KeyCall.delete) = left (deleteReply (w .state)) (given w 
 perform w (Call.resize size) = left (resizeReply (w .state)) (given w calls.resize size)
 perform w Call.rehashStep = left (stepReply (w .state)) (given w calls.rehashStep)
 perform w (Call.scan cursor lent) = keptScan w (given w walk.scan lent cursor)
+perform w (Call.iterate place lent) = keptScan w (given w iterators.iterate lent place)
 perform w (Call.read (ReadCall.suggestedSize growing)) =
     kept w (sizeReply (w .state) (given w calls.suggestedSize growing)) []
 perform w (Call.read ReadCall.currentTable) = kept w (tableReply (w .state) (given w calls.currentTable)) []
-perform w (Call.allowResize allowed) = kept w (allowReply (w .state) (given w calls.allowResize allowed)) []
+perform w (Call.read ReadCall.beginIterator) = kept w (beginReply (w .state) (given w iterators.beginIterator)) []
+perform w (Call.read (ReadCall.endIterator fingerprint)) =
+    kept w (endReply (w .state) (given w iterators.endIterator fingerprint)) []
+perform w (Call.note (StateCall.allowResize allowed)) = kept w (stateReply (w .state) (given w calls.allowResize allowed)) []
+perform w (Call.note StateCall.beginSafe) = kept w (stateReply (w .state) (given w iterators.beginSafe)) []
+perform w (Call.note StateCall.endSafe) = kept w (stateReply (w .state) (given w iterators.endSafe)) []
 
 -- A history. Each call is lent the buffers as the one before left them, and given the state that came back from the
 -- last call answered 0.

@@ -15,6 +15,9 @@ pub const LEAST_SUGGESTION: u32 = 4;
 // With more than so many keys for each bucket a table grows, whether that is allowed or not.
 pub const FORCE_RATIO: u32 = 5;
 
+// The most safe iterators at a time.
+pub const MOST_SAFE_ITERATORS: u32 = 255;
+
 // What the caller holds between calls (SPECIFICATION, "The memory"), in the order given there.
 pub struct State {
     // Which bucket buffer is the current one: the second, or else the first.
@@ -34,6 +37,8 @@ pub struct State {
     pub capacity: u32,
     // Whether a table with as many keys as buckets may grow by itself (the specification's permission).
     pub resize_allowed: bool,
+    // How many safe iterators have begun and not ended (the specification's pause count). While there are any, no key moves.
+    pub safe_iterators: u32,
 }
 
 // Why a call refused (SPECIFICATION, "Answers"). A walk that is short of room says so in its own answer.
@@ -46,6 +51,14 @@ pub enum Error {
     BadSize,
     Rehashing,
     NotRehashing,
+    // An iterator's end: the fingerprint is another than at its begin.
+    Changed,
+    // A safe iterator's end: none has begun.
+    NoSafeIterator,
+    // A safe iterator's begin: there are as many as there can be.
+    TooManyIterators,
+    // A step: a safe iterator holds up the rehash.
+    Paused,
 }
 
 // The two live tables. The only one counts as the old one.
@@ -109,9 +122,20 @@ pub enum ResizeAnswer {
     Refused(Error),
 }
 
-// Set: the state has the permission that was given.
-pub enum AllowAnswer {
+// The permission, and a safe iterator's begin and end: the state with that field set.
+pub enum StateAnswer {
     Set(State),
+    Refused(Error),
+}
+
+// An iterator's begin answers the fingerprint that its end asks for.
+pub enum BeginAnswer {
+    Begun(u64),
+    Refused(Error),
+}
+
+pub enum EndAnswer {
+    Ended,
     Refused(Error),
 }
 
@@ -126,7 +150,8 @@ pub enum SizeAnswer {
     Refused(Error),
 }
 
-// A walk call answers the next cursor and how many keys it handed out; a short one, how many it would have.
+// A walk call answers the next cursor and how many keys it handed out; a short one, how many it would have. So does a call
+// that iterates, with the next place.
 pub enum ScanAnswer {
     Scanned(u32, u32),
     Short(u32),

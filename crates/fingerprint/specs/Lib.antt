@@ -1,0 +1,2 @@
+-- The fingerprint of a list of numbers, and cases of it.
+pub mod Mix

@@ -1,0 +1,1 @@
+// The fingerprint that an iterator keeps.

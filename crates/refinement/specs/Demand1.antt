@@ -10,12 +10,13 @@ use lib.ListN.{length}
 use Rattle.cursor.specs.Member.{In}
 use Rattle.model.specs.declared.State.{State}
 use Rattle.model.specs.declared.Table.{Table}
-use Rattle.model.specs.Limits.{legalCapacity, legalSize, emptyVisits}
+use Rattle.model.specs.Limits.{legalCapacity, legalSize, emptyVisits, mostSafeIterators}
 use Rattle.model.specs.Memory.{linkOf, keyOf, keysHeld, Place, keyPlace, headAt, budgetAt, belongs}
 use Rattle.model.specs.Answers.{reply}
-use Rattle.model.specs.Calls.{sound, noState}
+use Rattle.model.specs.Calls.{sound, noState, stepDue}
 use Rattle.model.specs.Walk.{tablesOf, groupPlaces}
-use Rattle.model.specs.Sequences.{World, KeyCall, ReadCall, Call, Outcome, kept, perform, carry}
+use Rattle.model.specs.Iterators.{bucketAt, endPlace, fingerprintOf}
+use Rattle.model.specs.Sequences.{World, KeyCall, ReadCall, StateCall, Call, Outcome, kept, perform, carry}
 use Rattle.refinement.specs.Worlds.{current, other, takesStep}
 
 -- By the state's flag, current is the bucket buffer of the old table (or the only one), other the other one.
@@ -121,6 +122,29 @@ GroupDamaged w cursor = (0 < keysHeld (w .state)) × (Damaged w (places w cursor
 unfoldable pub Short : World → ℕ → List ℕ → Type 0
 Short w cursor lent = (0 < keysHeld (w .state)) × (n : ℕ) × KeysOn w (places w cursor) n × (length lent < n * 2)
 
+-- A call that iterates reads the first filled bucket from its place on.
+
+unfoldable pub placeAt : World → ℕ → Place
+placeAt w n = bucketAt (tablesOf (w .state)) n
+
+pub record FirstFrom (w : World) (place n : ℕ) : Type 0 where
+  pub from-place : place ≤ n
+  pub before-end : n < endPlace (tablesOf (w .state))
+  pub filled : ¬ (headOf w (placeAt w n) ≡ 0)
+  pub empty-before : (m : ℕ) → place ≤ m → m < n → headOf w (placeAt w m) ≡ 0
+
+-- there is one, and its chain is not sound
+unfoldable pub BucketDamaged : World → ℕ → Type 0
+BucketDamaged w place = (n : ℕ) × FirstFrom w place n × (¬ SoundChain w (placeAt w n))
+
+-- .. or it has that many keys
+unfoldable pub KeysFrom : World → ℕ → ℕ → Type 0
+KeysFrom w place count = (n : ℕ) × FirstFrom w place n × ChainAt w (placeAt w n) count
+
+-- the list has fewer than two places for each
+unfoldable pub ShortFrom : World → ℕ → List ℕ → Type 0
+ShortFrom w place lent = (count : ℕ) × KeysFrom w place count × (length lent < count * 2)
+
 -- The table: for each call its numbers, in the table's order, and when each is given.
 
 pub record Row : Type 1 where
@@ -148,22 +172,40 @@ unfoldable pub onRows : World → ℕ → KeyCall → Bool → List Row
 onRows w key c false = aloneRows w key c
 onRows w key c true = row 2 (StepDamaged w) ∷ aloneRows (stepWorld w) key c
 
+unfoldable pub readRows : World → ReadCall → List Row
+readRows w (ReadCall.suggestedSize growing) = []
+readRows w ReadCall.currentTable = []
+readRows w ReadCall.beginIterator = []
+readRows w (ReadCall.endIterator fingerprint) = row 15 (¬ (fingerprint ≡ fingerprintOf (w .state))) ∷ []
+
+unfoldable pub noteRows : World → StateCall → List Row
+noteRows w (StateCall.allowResize allowed) = []
+noteRows w StateCall.beginSafe = row 17 (mostSafeIterators ≤ w .state .«safe_iterators») ∷ []
+noteRows w StateCall.endSafe = row 16 (w .state .«safe_iterators» ≡ 0) ∷ []
+
 unfoldable pub rows : World → Call → List Row
 rows w (Call.init capacity size) =
     row 6 (¬ ((legalCapacity capacity ≡ true) × (legalSize size ≡ true)))
     ∷ row 1 ((length (w .first) < size) ⊎ (length (w .entries) < capacity * 3))
     ∷ []
-rows w (Call.on key c) = row 1 (BadState w) ∷ onRows w key c (takesStep c && w .state .rehashing)
+rows w (Call.on key c) = row 1 (BadState w) ∷ onRows w key c (takesStep c && stepDue (w .state))
 rows w (Call.resize size) =
     row 1 (BadState w)
     ∷ row 7 (w .state .rehashing ≡ true)
     ∷ row 6 ((¬ (legalSize size ≡ true)) ⊎ (size ≡ w .state .«old_size») ⊎ (length (other w) < size))
     ∷ []
-rows w Call.rehashStep = row 1 (BadState w) ∷ row 8 (w .state .rehashing ≡ false) ∷ row 2 (StepDamaged w) ∷ []
+rows w Call.rehashStep =
+    row 1 (BadState w)
+    ∷ row 8 (w .state .rehashing ≡ false)
+    ∷ row 18 (0 < w .state .«safe_iterators»)
+    ∷ row 2 (StepDamaged w)
+    ∷ []
 rows w (Call.scan cursor lent) =
     row 1 (BadState w) ∷ row 2 (GroupDamaged w cursor) ∷ row 9 (Short w cursor lent) ∷ []
-rows w (Call.read c) = row 1 (BadState w) ∷ []
-rows w (Call.allowResize allowed) = row 1 (BadState w) ∷ []
+rows w (Call.iterate place lent) =
+    row 1 (BadState w) ∷ row 2 (BucketDamaged w place) ∷ row 9 (ShortFrom w place lent) ∷ []
+rows w (Call.read c) = row 1 (BadState w) ∷ readRows w c
+rows w (Call.note c) = row 1 (BadState w) ∷ noteRows w c
 
 -- the number is that of the first row whose condition holds, and 0 if none does
 unfoldable pub Decides : ℕ → List Row → Type 0
@@ -177,8 +219,8 @@ unfoldable pub Leaves : World → Outcome → State → List ℕ → List ℕ �
 Leaves w o back values lent = o ≡ kept w (reply (o .reply .number) values back) lent
 
 -- with 9 the keys to be handed out, else 0
-pub record RefusedCount (w : World) (cursor number count : ℕ) : Type 0 where
-  pub short : number ≡ 9 → KeysOn w (places w cursor) count
+pub record RefusedCount (due : ℕ → Type 0) (number count : ℕ) : Type 0 where
+  pub short : number ≡ 9 → due count
   pub else : ¬ (number ≡ 9) → count ≡ 0
 
 unfoldable pub keyZeros : KeyCall → List ℕ
@@ -187,16 +229,25 @@ keyZeros (KeyCall.update value) = []
 keyZeros (KeyCall.add value) = []
 keyZeros KeyCall.delete = []
 
+unfoldable pub readZeros : ReadCall → List ℕ
+readZeros (ReadCall.suggestedSize growing) = 0 ∷ []
+readZeros ReadCall.currentTable = []
+readZeros ReadCall.beginIterator = 0 ∷ []
+readZeros (ReadCall.endIterator fingerprint) = []
+
+unfoldable pub LeavesList : World → Outcome → (ℕ → Type 0) → List ℕ → Type 0
+LeavesList w o due lent =
+    (count : ℕ) × RefusedCount due (o .reply .number) count × Leaves w o (w .state) (0 ∷ count ∷ []) lent
+
 unfoldable pub LeavesAll : World → Call → Outcome → Type 0
 LeavesAll w (Call.init capacity size) o = Leaves w o noState [] []
 LeavesAll w (Call.on key c) o = Leaves w o (w .state) (keyZeros c) []
 LeavesAll w (Call.resize size) o = Leaves w o (w .state) [] []
 LeavesAll w Call.rehashStep o = Leaves w o (w .state) (0 ∷ 0 ∷ []) []
-LeavesAll w (Call.scan cursor lent) o =
-    (count : ℕ) × RefusedCount w cursor (o .reply .number) count × Leaves w o (w .state) (0 ∷ count ∷ []) lent
-LeavesAll w (Call.read (ReadCall.suggestedSize growing)) o = Leaves w o (w .state) (0 ∷ []) []
-LeavesAll w (Call.read ReadCall.currentTable) o = Leaves w o (w .state) [] []
-LeavesAll w (Call.allowResize allowed) o = Leaves w o (w .state) [] []
+LeavesAll w (Call.scan cursor lent) o = LeavesList w o (KeysOn w (places w cursor)) lent
+LeavesAll w (Call.iterate place lent) o = LeavesList w o (KeysFrom w place) lent
+LeavesAll w (Call.read c) o = Leaves w o (w .state) (readZeros c) []
+LeavesAll w (Call.note c) o = Leaves w o (w .state) [] []
 
 pub record Demand1 (does : World → Call → Outcome) : Type 0 where
   pub numbers : (w : World) (c : Call) → Decides (does w c .reply .number) (rows w c)

@@ -1,24 +1,27 @@
 -- Demand 3, one claim about a whole sequence of calls, for any meaning of the calls. An ideal store is fed the same
 -- calls; from their arguments and the lengths of the lent buffers alone it says what each answers (but for what a look shows,
 -- which is said of the memory) and where each key is.
-use Prim.Native.Nat.{ℕ, zero, suc, _+_, _*_, _≤_, _<_, max, min}
+use Prim.Native.Nat.{ℕ, zero, suc, _+_, _-_, _*_, _≤_, _<_, max, min}
 use mathlib.Core.Path.{_≡_}
 use mathlib.Core.Bool.{Bool, true, false, _&&_, cond, not}
 use mathlib.Core.List.{List, [], _∷_, _++_}
+use mathlib.Core.Option.{Option, none, some}
 use lib.ListN.{length, take, drop, getD}
 use lib.Dec.{leb, ltb, eqb}
 use Rattle.cursor.specs.Member.{In, Distinct, any, keep}
 use Rattle.cursor.specs.Next.{next}
+use Rattle.fingerprint.specs.Mix.{fingerprint}
 use Rattle.model.specs.declared.Table.{Table}
 use Rattle.model.specs.Keys.{bucketOf}
-use Rattle.model.specs.Limits.{legalCapacity, legalSize, emptyVisits}
+use Rattle.model.specs.Limits.{legalCapacity, legalSize, emptyVisits, mostSafeIterators}
 use Rattle.model.specs.Memory.{Place}
 use Rattle.model.specs.Answers.{Reply, reply}
 use Rattle.model.specs.Calls.{longEnough, acceptable, suggested, growthDue, oldNew}
 use Rattle.model.specs.Walk.{Tables, tablesOf, smallerOf, groupPlaces}
-use Rattle.model.specs.Sequences.{World, KeyCall, ReadCall, Call, Outcome, carry, run, Event, events, Pair, PlainMap, keysOf, mapDoes}
+use Rattle.model.specs.Iterators.{endPlace, firstPlace, numbersOf}
+use Rattle.model.specs.Sequences.{World, KeyCall, ReadCall, StateCall, Call, Outcome, carry, run, Event, events, Pair, PlainMap, keysOf, mapDoes}
 use Rattle.refinement.specs.Worlds.{current, UndamagedAt, Held, Holds, takesStep, mayGrow}
-use Rattle.refinement.specs.Demand2.{nextCursor, HandsOut}
+use Rattle.refinement.specs.Demand2.{nextCursor, HandsOut, placeBehind, IteratesOut}
 
 -- The lengths of the lent buffers.
 
@@ -31,7 +34,7 @@ unfoldable pub lengthsOf : World → Lengths
 lengthsOf w = record { first = length (w .first); second = length (w .second); entries = length (w .entries) }
 
 -- The ideal: the plain map, the live tables, whether the second bucket buffer is the current one; during a rehash the keys
--- still in the old table, and the next bucket to move; and whether growth is allowed.
+-- still in the old table, and the next bucket to move; whether growth is allowed; and the number of safe iterators.
 
 pub record Ideal : Type 0 where
   pub plain : PlainMap
@@ -40,14 +43,23 @@ pub record Ideal : Type 0 where
   pub unmoved : List ℕ
   pub index : ℕ
   pub allowed : Bool
+  pub iterators : ℕ
 
-unfoldable pub ideal : PlainMap → Tables → Bool → List ℕ → ℕ → Bool → Ideal
-ideal plain tables turned unmoved index allowed =
-    record { plain = plain; tables = tables; turned = turned; unmoved = unmoved; index = index; allowed = allowed }
+unfoldable pub ideal : PlainMap → Tables → Bool → List ℕ → ℕ → Bool → ℕ → Ideal
+ideal plain tables turned unmoved index allowed iterators =
+    record {
+      plain = plain;
+      tables = tables;
+      turned = turned;
+      unmoved = unmoved;
+      index = index;
+      allowed = allowed;
+      iterators = iterators;
+    }
 
 -- after a start
 unfoldable pub begun : ℕ → ℕ → Ideal
-begun capacity size = ideal (record { capacity = capacity; pairs = [] }) (Tables.one size) false [] 0 true
+begun capacity size = ideal (record { capacity = capacity; pairs = [] }) (Tables.one size) false [] 0 true 0
 
 unfoldable pub among : ℕ → List ℕ → Bool
 among key keys = any (λ k. eqb k key) keys
@@ -81,14 +93,14 @@ unfoldable pub keyAnswer : Ideal → Reply PlainMap → Reply Ideal
 keyAnswer i r =
     reply (r .number) (r .values)
     (ideal (r .state) (i .tables) (i .turned) (keep (λ k. among k (keysOf (r .state .pairs))) (i .unmoved)) (i .index)
-    (i .allowed))
+    (i .allowed) (i .iterators))
 
 -- A resize is refused during a rehash, and else goes by its size.
 unfoldable pub resizeAnswer : Lengths → Ideal → ℕ → Tables → Reply Ideal
 resizeAnswer l i size (Tables.two old new) = reply 7 [] i
 resizeAnswer l i size (Tables.one old) =
     cond (acceptable old (cond (i .turned) (l .first) (l .second)) size)
-    (reply 0 [] (ideal (i .plain) (Tables.two old size) (i .turned) (keysOf (i .plain .pairs)) 0 (i .allowed)))
+    (reply 0 [] (ideal (i .plain) (Tables.two old size) (i .turned) (keysOf (i .plain .pairs)) 0 (i .allowed) (i .iterators)))
     (reply 6 [] i)
 
 -- A step moves all the keys of the lowest bucket that an unmoved key calls for. But it passes only so many empty buckets: if
@@ -102,21 +114,26 @@ lowest size b (k ∷ ks) = lowest size (min b (bucketOf k size)) ks
 -- so many moved, these keys still unmoved, that bucket the next one; with none unmoved the rehash is over
 unfoldable pub afterStep : Ideal → ℕ → ℕ → ℕ → List ℕ → ℕ → Reply Ideal
 afterStep i old new count [] next =
-    reply 0 (count ∷ 0 ∷ []) (ideal (i .plain) (Tables.one new) (not (i .turned)) [] 0 (i .allowed))
+    reply 0 (count ∷ 0 ∷ []) (ideal (i .plain) (Tables.one new) (not (i .turned)) [] 0 (i .allowed) (i .iterators))
 afterStep i old new count (k ∷ ks) next =
-    reply 0 (count ∷ 1 ∷ []) (ideal (i .plain) (Tables.two old new) (i .turned) (k ∷ ks) next (i .allowed))
+    reply 0 (count ∷ 1 ∷ []) (ideal (i .plain) (Tables.two old new) (i .turned) (k ∷ ks) next (i .allowed) (i .iterators))
 
-unfoldable pub stepAnswer : Ideal → Tables → List ℕ → Reply Ideal
-stepAnswer i (Tables.one size) unmoved = reply 8 (0 ∷ 0 ∷ []) i
-stepAnswer i (Tables.two old new) [] = afterStep i old new 0 [] (i .index)
-stepAnswer i (Tables.two old new) (k ∷ ks) =
+unfoldable pub stepTaken : Ideal → ℕ → ℕ → List ℕ → Reply Ideal
+stepTaken i old new [] = afterStep i old new 0 [] (i .index)
+stepTaken i old new (k ∷ ks) =
     let b = lowest old (bucketOf k old) ks in
     let moves : ℕ → Bool = λ j. eqb (bucketOf j old) b in
     cond (ltb b (i .index + emptyVisits))
     (afterStep i old new (length (keep moves (k ∷ ks))) (keep (λ j. not (moves j)) (k ∷ ks)) (suc b))
     (afterStep i old new 0 (k ∷ ks) (i .index + emptyVisits))
 
--- Add and delete, where they are answered 0, take a step first; with one table that changes nothing.
+-- safe iterators hold it up
+unfoldable pub stepAnswer : Ideal → Tables → List ℕ → Reply Ideal
+stepAnswer i (Tables.one size) unmoved = reply 8 (0 ∷ 0 ∷ []) i
+stepAnswer i (Tables.two old new) unmoved =
+    cond (ltb 0 (i .iterators)) (reply 18 (0 ∷ 0 ∷ []) i) (stepTaken i old new unmoved)
+
+-- Add and delete, where they are answered 0, take a step first; with one table, or held up, that changes nothing.
 unfoldable pub stepsFirst : Ideal → KeyCall → ℕ → Ideal
 stepsFirst i c number = cond (takesStep c && eqb number 0) (stepAnswer i (i .tables) (i .unmoved) .state) i
 
@@ -149,27 +166,87 @@ inGroup i cursor key =
 unfoldable pub groupPairs : Ideal → ℕ → List Pair
 groupPairs i cursor = keep (λ p. inGroup i cursor (p .key)) (i .plain .pairs)
 
--- two places of the list for each
-unfoldable pub scanAnswer : Ideal → ℕ → ℕ → ℕ → Reply Ideal
-scanAnswer i cursor count places =
-    cond (leb (count * 2) places)
-    (reply 0 (nextCursor (length (i .plain .pairs)) (next (smallerOf (i .tables)) cursor) ∷ count ∷ []) i)
-    (reply 9 (0 ∷ count ∷ []) i)
+-- A call that iterates has those of the first bucket, from its place on, that a key is in.
 
--- Suggested size, and a look, whose values are those of the memory, below.
+-- the place of a key's bucket, in the table that has the key
+unfoldable pub placeIn : Tables → Table → ℕ → ℕ
+placeIn (Tables.one size) t b = b
+placeIn (Tables.two old new) t b = oldNew 0 old t + b
+
+unfoldable pub placeOf : Ideal → ℕ → ℕ
+placeOf i key =
+    let t = tableOf (i .tables) (i .unmoved) key in
+    placeIn (i .tables) t (bucketOf key (sizeIn (i .tables) t))
+
+unfoldable pub isAt : Ideal → ℕ → Pair → Bool
+isAt i n p = eqb (placeOf i (p .key)) n
+
+unfoldable pub firstHeld : Ideal → ℕ → Option ℕ
+firstHeld i place = firstPlace (λ n. any (isAt i n) (i .plain .pairs)) (i .tables) place
+
+unfoldable pub bucketPairs : Ideal → Option ℕ → List Pair
+bucketPairs i none = []
+bucketPairs i (some n) = keep (isAt i n) (i .plain .pairs)
+
+unfoldable pub placePairs : Ideal → ℕ → List Pair
+placePairs i place = bucketPairs i (firstHeld i place)
+
+-- what either answers: the next cursor or place and the number of pairs, if the list has two places for each
+unfoldable pub handAnswer : Ideal → ℕ → ℕ → ℕ → Reply Ideal
+handAnswer i next count places =
+    cond (leb (count * 2) places) (reply 0 (next ∷ count ∷ []) i) (reply 9 (0 ∷ count ∷ []) i)
+
+-- The fingerprint, of the current buffer, the live sizes, and the keys held in each table.
+
+unfoldable pub liveSizes : Tables → Table → ℕ
+liveSizes (Tables.one size) = oldNew size 0
+liveSizes (Tables.two old new) = oldNew old new
+
+unfoldable pub keysIn : Tables → ℕ → ℕ → Table → ℕ
+keysIn (Tables.one size) keys unmoved = oldNew keys 0
+keysIn (Tables.two old new) keys unmoved = oldNew unmoved (keys - unmoved)
+
+unfoldable pub idealPrint : Ideal → ℕ
+idealPrint i =
+    fingerprint
+    (numbersOf (i .turned) (liveSizes (i .tables)) (keysIn (i .tables) (length (i .plain .pairs)) (length (i .unmoved))))
+
+-- Suggested size; a look, whose values are those of the memory, below; an iterator's begin and end.
 unfoldable pub readAnswer : Ideal → ReadCall → Reply Ideal
 readAnswer i (ReadCall.suggestedSize growing) = reply 0 (suggested growing (length (i .plain .pairs)) ∷ []) i
 readAnswer i ReadCall.currentTable = reply 0 [] i
+readAnswer i ReadCall.beginIterator = reply 0 (idealPrint i ∷ []) i
+readAnswer i (ReadCall.endIterator fingerprint) = reply (cond (eqb fingerprint (idealPrint i)) 0 15) [] i
+
+-- The permission; a safe iterator's begin and end.
+
+unfoldable pub withNotes : Ideal → Bool → ℕ → Ideal
+withNotes i allowed iterators = ideal (i .plain) (i .tables) (i .turned) (i .unmoved) (i .index) allowed iterators
+
+unfoldable pub endAnswer : Ideal → ℕ → Reply Ideal
+endAnswer i zero = reply 16 [] i
+endAnswer i (suc iterators) = reply 0 [] (withNotes i (i .allowed) iterators)
+
+unfoldable pub noteAnswer : Ideal → StateCall → Reply Ideal
+noteAnswer i (StateCall.allowResize allowed) = reply 0 [] (withNotes i allowed (i .iterators))
+noteAnswer i StateCall.beginSafe =
+    cond (ltb (i .iterators) mostSafeIterators)
+    (reply 0 [] (withNotes i (i .allowed) (suc (i .iterators))))
+    (reply 17 [] i)
+noteAnswer i StateCall.endSafe = endAnswer i (i .iterators)
 
 unfoldable pub predict : Lengths → Ideal → Call → Reply Ideal
 predict l i (Call.init capacity size) = startAnswer i capacity size (startNumber l capacity size)
 predict l i (Call.on key c) = thenGrows l c (onAnswer i c (mapDoes (i .plain) key c))
 predict l i (Call.resize size) = resizeAnswer l i size (i .tables)
 predict l i Call.rehashStep = stepAnswer i (i .tables) (i .unmoved)
-predict l i (Call.scan cursor lent) = scanAnswer i cursor (length (groupPairs i cursor)) (length lent)
+predict l i (Call.scan cursor lent) =
+    handAnswer i (nextCursor (length (i .plain .pairs)) (next (smallerOf (i .tables)) cursor)) (length (groupPairs i cursor))
+    (length lent)
+predict l i (Call.iterate place lent) =
+    handAnswer i (placeBehind (i .tables) (firstHeld i place)) (length (placePairs i place)) (length lent)
 predict l i (Call.read c) = readAnswer i c
-predict l i (Call.allowResize allowed) =
-    reply 0 [] (ideal (i .plain) (i .tables) (i .turned) (i .unmoved) (i .index) allowed)
+predict l i (Call.note c) = noteAnswer i c
 
 unfoldable pub replay : Lengths → Ideal → List Call → Ideal
 replay l i [] = i
@@ -184,14 +261,14 @@ pairsIn (suc n) [] = []
 pairsIn (suc n) (key ∷ []) = []
 pairsIn (suc n) (key ∷ value ∷ rest) = record { key = key; value = value } ∷ pairsIn n rest
 
--- those that an answered walk call hands out: its values are the next cursor and how many they are
+-- those that an answered call hands out: its values are the next cursor or place and how many they are
 unfoldable pub handedOut : Event → List Pair
 handedOut e = pairsIn (getD (e .values) 1 0) (e .lent)
 
--- an answered walk call hands out the ideal's pairs, no more and no fewer, no key twice; the list beyond them stays
-pub record WalkCall (i : Ideal) (e : Event) (cursor : ℕ) (lent : List ℕ) : Type 0 where
-  pub only : (p : Pair) → In p (handedOut e) → In p (groupPairs i cursor)
-  pub all : (p : Pair) → In p (groupPairs i cursor) → In p (handedOut e)
+-- it hands out the ideal's pairs, no more and no fewer, no key twice; the list beyond them stays
+pub record HandsPairs (due : List Pair) (e : Event) (lent : List ℕ) : Type 0 where
+  pub only : (p : Pair) → In p (handedOut e) → In p due
+  pub all : (p : Pair) → In p due → In p (handedOut e)
   pub none-twice : Distinct (keysOf (handedOut e))
   pub beyond : drop (length (handedOut e) * 2) (e .lent) ≡ drop (length (handedOut e) * 2) lent
 
@@ -199,8 +276,12 @@ pub record AsPredicted (l : Lengths) (i : Ideal) (e : Event) : Type 0 where
   pub number : e .number ≡ predict l i (e .call) .number
   pub values : (e .call ≡ Call.read ReadCall.currentTable → ⊥) → e .values ≡ predict l i (e .call) .values
   pub answered-walk : (cursor : ℕ) (lent : List ℕ) → e .call ≡ Call.scan cursor lent → e .number ≡ 0
-      → WalkCall i e cursor lent
+      → HandsPairs (groupPairs i cursor) e lent
   pub refused-walk : (cursor : ℕ) (lent : List ℕ) → e .call ≡ Call.scan cursor lent → (e .number ≡ 0 → ⊥)
+      → e .lent ≡ lent
+  pub answered-pass : (place : ℕ) (lent : List ℕ) → e .call ≡ Call.iterate place lent → e .number ≡ 0
+      → HandsPairs (placePairs i place) e lent
+  pub refused-pass : (place : ℕ) (lent : List ℕ) → e .call ≡ Call.iterate place lent → (e .number ≡ 0 → ⊥)
       → e .lent ≡ lent
 
 unfoldable pub Answered : Lengths → Ideal → List Event → Type 0
@@ -261,13 +342,14 @@ pub record WalkHolds (visits : List Visit) (ended : Bool) : Type 0 where
   pub covers : ended ≡ true → (key : ℕ) → HeldAtEach key visits → In key (keysHanded visits)
 
 -- The store has what the ideal has: the pairs, the live tables, the current buffer, the next bucket to move, the permission,
--- and each key in the table that the ideal says; and the buffers are as long as they were.
+-- the number of safe iterators, and each key in the table that the ideal says; and the buffers are as long as they were.
 pub record Matches (l : Lengths) (w : World) (i : Ideal) : Type 0 where
   pub contents : Holds w (i .plain)
   pub tables : tablesOf (w .state) ≡ i .tables
   pub turned : w .state .«second_is_current» ≡ i .turned
   pub index : w .state .«rehash_index» ≡ i .index
   pub allowed : w .state .«resize_allowed» ≡ i .allowed
+  pub iterators : w .state .«safe_iterators» ≡ i .iterators
   pub each-table : (key value : ℕ) (h : Held w key value) → h .table ≡ tableOf (i .tables) (i .unmoved) key
   pub lengths : lengthsOf w ≡ l
 
@@ -277,9 +359,12 @@ pub record SequenceHolds (does : World → Call → Outcome) (l : Lengths) (w : 
   pub matches : Matches l (run does w calls) (replay l i calls)
   pub answers : Answered l i (events does w calls)
   pub walks : (visits : List Visit) (ended : Bool) → Walk l 0 i (events does w calls) visits ended → WalkHolds visits ended
-  -- at any walk call or look that comes next, and so at every one of a sequence: the exact keys and their order; the table
+  -- at any walk call, call that iterates or look that comes next, and so at every one of a sequence: the exact keys and
+  -- their order; the table
   pub exact : (cursor : ℕ) (lent : List ℕ) → does (run does w calls) (Call.scan cursor lent) .reply .number ≡ 0
       → HandsOut does (run does w calls) cursor lent
+  pub exact-pass : (place : ℕ) (lent : List ℕ) → does (run does w calls) (Call.iterate place lent) .reply .number ≡ 0
+      → IteratesOut does (run does w calls) place lent
   pub look : does (run does w calls) (Call.read ReadCall.currentTable) .reply .values
       ≡ take (run does w calls .state .«old_size») (current (run does w calls))
 

@@ -33,7 +33,8 @@ isStep (Call.on key c) = false
 isStep (Call.resize size) = false
 isStep (Call.scan cursor lent) = false
 isStep (Call.read c) = false
-isStep (Call.allowResize allowed) = false
+isStep (Call.iterate place lent) = false
+isStep (Call.note c) = false
 
 unfoldable pub answeredStep : World → Call → Outcome → Bool
 answeredStep w c o =

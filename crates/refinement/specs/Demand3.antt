@@ -169,14 +169,14 @@ groupPairs i cursor = keep (λ p. inGroup i cursor (p .key)) (i .plain .pairs)
 -- A call that iterates has those of the first bucket, from its place on, that a key is in.
 
 -- the place of a key's bucket, in the table that has the key
-unfoldable pub placeIn : Tables → Table → ℕ → ℕ
-placeIn (Tables.one size) t b = b
-placeIn (Tables.two old new) t b = oldNew 0 old t + b
+unfoldable pub placeNumber : Tables → Table → ℕ → ℕ
+placeNumber (Tables.one size) t b = b
+placeNumber (Tables.two old new) t b = oldNew 0 old t + b
 
 unfoldable pub placeOf : Ideal → ℕ → ℕ
 placeOf i key =
     let t = tableOf (i .tables) (i .unmoved) key in
-    placeIn (i .tables) t (bucketOf key (sizeIn (i .tables) t))
+    placeNumber (i .tables) t (bucketOf key (sizeIn (i .tables) t))
 
 unfoldable pub isAt : Ideal → ℕ → Pair → Bool
 isAt i n p = eqb (placeOf i (p .key)) n

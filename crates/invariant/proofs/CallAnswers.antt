@@ -20,7 +20,7 @@ use Rattle.model.specs.declared.AddAnswer.{AddAnswer}
 use Rattle.model.specs.declared.DeleteAnswer.{DeleteAnswer}
 use Rattle.model.specs.declared.StepAnswer.{StepAnswer}
 use Rattle.model.specs.Memory.{Place, Live, keysHeld, sizeOf, keyOf, valueOf, setValue}
-use Rattle.model.specs.Calls.{After, lookup, held, found, updated, takeable, target, pushed, added, removed, deleted, stepDone, movedChain, movedFrom, aheadOf, stepped}
+use Rattle.model.specs.Calls.{After, lookup, held, found, updated, takeable, target, pushed, added, removed, deleted, stepDone, movedChain, movedFrom, aheadOf, stepTaken, paused, stepped}
 use Rattle.invariant.proofs.Shape.{IsBucket, Shape}
 use Rattle.invariant.proofs.ToUndamaged.{chain-at}
 use Rattle.invariant.proofs.FirstEntries.{free-taken}
@@ -105,20 +105,7 @@ module _ {s : State} {current other entries : List ℕ} (h : Shape s current oth
           (After.after (AddAnswer.Refused Error.Damaged) current other entries))
           (free-taken h f .2)
 
-  -- A step goes by whether a rehash is under way, and whether the old table holds keys.
-
-  step-rehashing : (empty : Bool) → s .rehashing ≡ true → eqb (s .«old_used») 0 ≡ empty
-      → stepped s current other entries (s .rehashing)
-      ≡ cond empty (After.after (stepDone s 0 (s .«rehash_index»)) current other entries)
-      (movedFrom s current other entries (aheadOf s current))
-  unfolding stepped
-  step-rehashing empty t e =
-      ap (stepped s current other entries) t
-      ∙ ap
-      (λ (f : Bool).
-      cond f (After.after (stepDone s 0 (s .«rehash_index»)) current other entries)
-      (movedFrom s current other entries (aheadOf s current)))
-      e
+  -- A step goes by whether a rehash is under way, whether safe iterators hold it up, and whether the old table holds keys.
 
   -- with no rehash it is refused
   pub step-none : s .rehashing ≡ false
@@ -127,26 +114,57 @@ module _ {s : State} {current other entries : List ℕ} (h : Shape s current oth
   unfolding stepped
   step-none f = ap (stepped s current other entries) f
 
-  -- with no keys in the old table it moves none
-  pub step-idle : s .rehashing ≡ true → s .«old_used» ≡ 0
+  step-rehashing : (held-up : Bool) → s .rehashing ≡ true → paused s ≡ held-up
       → stepped s current other entries (s .rehashing)
-      ≡ After.after (stepDone s 0 (s .«rehash_index»)) current other entries
-  step-idle t e = step-rehashing true t (eq-eqb (s .«old_used») 0 e)
+      ≡ cond held-up (After.after (StepAnswer.Refused Error.Paused) current other entries) (stepTaken s current other entries)
+  unfolding stepped
+  step-rehashing held-up t e =
+      ap (stepped s current other entries) t
+      ∙ ap
+      (λ (f : Bool).
+      cond f (After.after (StepAnswer.Refused Error.Paused) current other entries) (stepTaken s current other entries))
+      e
 
-  module _ (t : s .rehashing ≡ true) (f : s .«old_used» ≢ 0) (b : ℕ) where
+  -- with a safe iterator it is refused
+  pub step-paused : s .rehashing ≡ true → paused s ≡ true
+      → stepped s current other entries (s .rehashing) ≡ After.after (StepAnswer.Refused Error.Paused) current other entries
+  step-paused t e = step-rehashing true t e
+
+  -- with none it is taken
+  pub step-taken : s .rehashing ≡ true → paused s ≡ false
+      → stepped s current other entries (s .rehashing) ≡ stepTaken s current other entries
+  step-taken t e = step-rehashing false t e
+
+  taken-by : (empty : Bool) → eqb (s .«old_used») 0 ≡ empty
+      → stepTaken s current other entries
+      ≡ cond empty (After.after (stepDone s 0 (s .«rehash_index»)) current other entries)
+      (movedFrom s current other entries (aheadOf s current))
+  unfolding stepTaken
+  taken-by empty e =
+      ap
+      (λ (f : Bool).
+      cond f (After.after (stepDone s 0 (s .«rehash_index»)) current other entries)
+      (movedFrom s current other entries (aheadOf s current)))
+      e
+
+  -- with no keys in the old table it moves none
+  pub step-idle : s .«old_used» ≡ 0
+      → stepTaken s current other entries ≡ After.after (stepDone s 0 (s .«rehash_index»)) current other entries
+  step-idle e = taken-by true (eq-eqb (s .«old_used») 0 e)
+
+  module _ (f : s .«old_used» ≢ 0) (b : ℕ) where
     -- else it goes by what comes: with as many empty buckets as it passes it moves none either
     pub step-passes : aheadOf s current ≡ Ahead.Empty b
-        → stepped s current other entries (s .rehashing) ≡ After.after (stepDone s 0 b) current other entries
+        → stepTaken s current other entries ≡ After.after (stepDone s 0 b) current other entries
     unfolding movedFrom
-    step-passes e =
-        step-rehashing false t (ne-eqb (s .«old_used») 0 f) ∙ ap (movedFrom s current other entries) e
+    step-passes e = taken-by false (ne-eqb (s .«old_used») 0 f) ∙ ap (movedFrom s current other entries) e
 
     -- and it moves the chain of the first filled bucket
     pub step-moves : aheadOf s current ≡ Ahead.Filled b → b < s .«old_size»
-        → stepped s current other entries (s .rehashing)
+        → stepTaken s current other entries
         ≡ movedChain s current other entries b (some (h .at (Place.bucket Table.Old b)))
     unfolding movedFrom Live sizeOf
     step-moves e live =
-        step-rehashing false t (ne-eqb (s .«old_used») 0 f)
+        taken-by false (ne-eqb (s .«old_used») 0 f)
         ∙ ap (movedFrom s current other entries) e
         ∙ ap (movedChain s current other entries b) (chain-at h (Place.bucket Table.Old b) live)

@@ -145,6 +145,7 @@ module _ (capacity size : ℕ) (first second entries : List ℕ) (limits : (lega
         old-fits = omega (arith, started-buckets-length, fits .0);
         used-fits = omega arith;
         free-fits = within .0;
+        iterators-fit = omega arith;
         rehashing = λ e. let z : _≡_ {A = ℕ} 0 1 = cc in absurd (omega arith);
         resting = λ e. record { no-size = refl; no-keys = refl; no-index = refl };
       })

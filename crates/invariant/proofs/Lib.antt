@@ -23,7 +23,7 @@ pub mod Add
 pub mod Delete
 pub mod Update
 pub mod Resize
-pub mod Permission
+pub mod Noted
 pub mod RehashMove
 pub mod RehashEnd
 -- what the calls look up and answer

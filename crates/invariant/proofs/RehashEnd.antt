@@ -42,7 +42,7 @@ module _ {s : State} {current other entries : List ℕ} (h : Shape s current oth
   finished-sound =
       let state = facts h in
       sound-again (finished s) other current entries state refl refl (before .new-legal) (before .new-fits)
-      (omega (arith, state .used-fits)) (state .free-fits)
+      (omega (arith, state .used-fits)) (state .free-fits) (state .iterators-fit)
       (λ e. let z : _≡_ {A = ℕ} 0 1 = cc in absurd (omega arith))
       (λ e. record { no-size = refl; no-keys = refl; no-index = refl })
 

@@ -204,7 +204,7 @@ module _ (s : State) (used : Table → ℕ) (same-used : (t : Table) → used t 
       record {
         state-sound =
             sound-again reindexed current other entries state refl refl (state .old-legal) (state .old-fits)
-            (omega (arith, kept-keys, state .used-fits)) (state .free-fits)
+            (omega (arith, kept-keys, state .used-fits)) (state .free-fits) (state .iterators-fit)
             (λ e.
             record {
               new-legal = before .new-legal;
@@ -328,7 +328,7 @@ module _ {s : State} {current other entries : List ℕ} (shape : Shape s current
         entries = entries';
         is = refl;
         shape = reindex moved-state used same-used (suc b) all rehashing below passed;
-        same = record { current = refl; capacity = refl; sizes = same-size; rehashing = sym rehashing; allowed = refl };
+        same = record { current = refl; capacity = refl; sizes = same-size; rehashing = sym rehashing; allowed = refl; iterators = refl };
         keys-held = omega (arith, no-more);
         index-is = refl;
         held-only = λ t l i. held-only (all .at) went t l;
@@ -363,7 +363,7 @@ passed-store {s} {current} {other} {entries} shape rehashing b below empty =
       entries = entries;
       is = refl;
       shape = reindex s (oldNew (s .«old_used» - 0) (s .«new_used» + 0)) same-used b shape rehashing below empty;
-      same = record { current = refl; capacity = refl; sizes = same-size; rehashing = sym rehashing; allowed = refl };
+      same = record { current = refl; capacity = refl; sizes = same-size; rehashing = sym rehashing; allowed = refl; iterators = refl };
       keys-held = omega arith;
       index-is = refl;
       held-only = λ t l i k v h. h;

@@ -396,6 +396,7 @@ module _ {s : State} {current other entries : List ℕ} (shape : Shape s current
       (before .old-legal) (omega (arith, before .old-fits, lengths .buckets-length Table.Old))
       (omega (arith, free-count-after))
       (linked-head (m' .entries) (s .capacity) (m' .free) (relinked-at Place.free) (chain-after Place.free tt))
+      (before .iterators-fit)
       (λ e.
       let rehash = before .rehashing e in
       record {

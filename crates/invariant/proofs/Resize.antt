@@ -45,7 +45,7 @@ module _ {s : State} {current other entries : List ℕ} (h : Shape s current oth
   resized-sound =
       let state = facts h in
       sound-again (resizing s size) current (cleared size other) entries state refl refl (state .old-legal)
-      (state .old-fits) (omega (arith, state .used-fits)) (state .free-fits)
+      (state .old-fits) (omega (arith, state .used-fits)) (state .free-fits) (state .iterators-fit)
       (λ e.
       record {
         new-legal = allowed (s .«old_size») (length other) size accepted .0;

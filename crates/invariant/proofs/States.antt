@@ -9,21 +9,21 @@ use lib.ListN.{length}
 use Rattle.model.specs.declared.State.{State}
 use Rattle.model.specs.declared.Table.{Table}
 use Rattle.model.specs.Keys.{bucketOf}
-use Rattle.model.specs.Limits.{legalSize}
+use Rattle.model.specs.Limits.{legalSize, mostSafeIterators}
 use Rattle.model.specs.Memory.{Place, Live, sizeOf, soundState}
 use Rattle.model.specs.Calls.{sound}
 use Rattle.model.proofs.Soundness.{Resting, Rehashing, Sound, sound-test}
 use Rattle.invariant.proofs.Shape.{Home}
 
--- as sound as before, but for the old table, the counts and the free head
+-- as sound as before, but for the old table, the counts, the free head and the safe iterators
 pub sound-again : {s : State} {current other entries : ℕ} (s' : State) (current' other' entries' : List ℕ)
     → Sound s current other entries → s' .capacity ≡ s .capacity → length entries' ≡ entries
     → legalSize (s' .«old_size») ≡ true → s' .«old_size» ≤ length current' → s' .«old_used» + s' .«new_used» ≤ s .capacity
-    → s' .«free_head» ≤ s .capacity → (s' .rehashing ≡ true → Rehashing s' (length other'))
+    → s' .«free_head» ≤ s .capacity → s' .«safe_iterators» ≤ mostSafeIterators → (s' .rehashing ≡ true → Rehashing s' (length other'))
     → (s' .rehashing ≡ false → Resting s')
     → soundState (length current') (length other') (length entries') s' ≡ true
 unfolding sound
-sound-again s' current' other' entries' before capacity entries legal fits used free rehashing resting =
+sound-again s' current' other' entries' before capacity entries legal fits used free iterators rehashing resting =
     sound-test s' current' other' entries'
     (record {
       some-entries = omega (arith, before .some-entries);
@@ -33,6 +33,7 @@ sound-again s' current' other' entries' before capacity entries legal fits used 
       old-fits = fits;
       used-fits = omega arith;
       free-fits = omega arith;
+      iterators-fit = iterators;
       resting = resting;
       rehashing = rehashing;
     })

@@ -24,18 +24,19 @@ pub record HeldIn (entries ns : List ℕ) (key value : ℕ) : Type 0 where
 abbrev pub held-as : {entries ns ms : List ℕ} {key value : ℕ} → ns ≡ ms → HeldIn entries ns key value → HeldIn entries ms key value
 held-as {entries} {ns} {ms} {key} {value} e h = subst (λ (ls : List ℕ). HeldIn entries ls key value) e h
 
--- the same capacity, the same tables in the same buffers, and the same permission
+-- the same capacity, the same tables in the same buffers, the same permission and the same safe iterators
 pub record SameTables (s s' : State) : Type 0 where
   pub current : s' .«second_is_current» ≡ s .«second_is_current»
   pub capacity : s' .capacity ≡ s .capacity
   pub sizes : (t : Table) → sizeOf s' t ≡ sizeOf s t
   pub rehashing : s' .rehashing ≡ s .rehashing
   pub allowed : s' .«resize_allowed» ≡ s .«resize_allowed»
+  pub iterators : s' .«safe_iterators» ≡ s .«safe_iterators»
 
 pub recounted-same : (s : State) (free : ℕ) (used : Table → ℕ) → SameTables s (recounted s free used)
 unfolding recounted stateOf sizeOf
 recounted-same s free used =
-    record { current = refl; capacity = refl; sizes = sizes; rehashing = refl; allowed = refl }
+    record { current = refl; capacity = refl; sizes = sizes; rehashing = refl; allowed = refl; iterators = refl }
   where
     sizes : (t : Table) → sizeOf (recounted s free used) t ≡ sizeOf s t
     sizes Table.Old = refl

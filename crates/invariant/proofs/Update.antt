@@ -82,7 +82,7 @@ module _ {s : State} {current other entries : List ℕ} (shape : Shape s current
       entries = setValue entries n value;
       is = refl;
       shape = updated-shape shape n value;
-      same = record { current = refl; capacity = refl; sizes = λ t. refl; rehashing = refl; allowed = refl };
+      same = record { current = refl; capacity = refl; sizes = λ t. refl; rehashing = refl; allowed = refl; iterators = refl };
       keys-held = refl;
       index-is = refl;
       held-only =

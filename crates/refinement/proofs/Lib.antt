@@ -34,11 +34,15 @@ pub mod Counts
 pub mod Trails
 pub mod Walks
 pub mod HandOuts
+-- passes, while safe iterators hold up the rehash
+pub mod PausedPlaces
+pub mod PassMoments
 -- sequences, demands 2 and 3, and what follows from demand 3
 pub mod Histories
 pub mod Demand2
 pub mod Demand3
 pub mod ExactlyOnce
+pub mod SafeIterators
 pub mod CalledBuckets
 pub mod IdealCalls
 pub mod RehashesEnd

@@ -18,7 +18,7 @@ use Rattle.model.specs.Memory.{Place}
 use Rattle.model.specs.Answers.{Reply, reply}
 use Rattle.model.specs.Calls.{longEnough, acceptable, suggested, growthDue, oldNew}
 use Rattle.model.specs.Walk.{Tables, tablesOf, smallerOf, groupPlaces}
-use Rattle.model.specs.Iterators.{endPlace, firstPlace, numbersOf}
+use Rattle.model.specs.Iterators.{firstPlace, numbersOf}
 use Rattle.model.specs.Sequences.{World, KeyCall, ReadCall, StateCall, Call, Outcome, carry, run, Event, events, Pair, PlainMap, keysOf, mapDoes}
 use Rattle.refinement.specs.Worlds.{current, UndamagedAt, Held, Holds, takesStep, mayGrow}
 use Rattle.refinement.specs.Demand2.{nextCursor, HandsOut, placeBehind, IteratesOut}

@@ -40,9 +40,9 @@ stays key before (v ∷ vs) = cond (among key (v .held) && not before) 1 0 + sta
 pub record PassHolds (moments : List Visit) (ended : Bool) : Type 0 where
   -- by the end each key held at each moment has been handed out exactly once
   pub exactly-once : ended ≡ true → (key : ℕ) → HeldAtEach key moments → times key moments ≡ 1
-  -- at any time any key was handed out at most once for each time that it came to be held: not twice, unless it was deleted
-  -- and added again in between
-  pub no-doubles : (key : ℕ) → times key moments ≤ stays key false moments
+  -- from any moment on any key is handed out at most once for each time that it is held or comes to be held: not twice,
+  -- unless it was deleted and added again in between
+  pub no-doubles : (before rest : List Visit) → moments ≡ before ++ rest → (key : ℕ) → times key rest ≤ stays key false rest
 
 -- After a start answered 0, some calls, and the begin of a safe iterator answered 0, whatever the calls: of every pass from
 -- place 0 on.

@@ -17,3 +17,4 @@ pub mod StepFirst
 pub mod AddLeaves
 pub mod Pairs
 pub mod Suggested
+pub mod FirstPlace

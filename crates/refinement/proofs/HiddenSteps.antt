@@ -2,7 +2,7 @@
 -- Assumes nothing.
 use Prim.Native.Nat.{ℕ, suc}
 use mathlib.Core.Path.{_≡_, refl, sym, ap, subst, _∙_}
-use mathlib.Core.Bool.{Bool, true, false, _&&_, cond}
+use mathlib.Core.Bool.{Bool, true, false, _&&_, not, cond}
 use mathlib.Core.List.{List, []}
 use native.Mathlib.Omega.{arith}
 use Rattle.model.specs.declared.State.{State}
@@ -11,7 +11,7 @@ use Rattle.model.specs.declared.AddAnswer.{AddAnswer}
 use Rattle.model.specs.declared.DeleteAnswer.{DeleteAnswer}
 use Rattle.model.specs.declared.StepAnswer.{StepAnswer}
 use Rattle.model.specs.Answers.{Reply, reply, errorNumber, addReply, deleteReply, stepReply}
-use Rattle.model.specs.Calls.{After, unlessRefused, stepFirst, isAdded, isDeleted}
+use Rattle.model.specs.Calls.{After, paused, unlessRefused, stepDue, stepFirst, isAdded, isDeleted}
 use Rattle.model.specs.Calls as calls
 use Rattle.model.specs.Sequences.{World, world, KeyCall, Call, Outcome, kept, left, given, perform, carriedState, carry}
 use Rattle.model.proofs.StepFirst.{resting-first, stepping-first}
@@ -50,6 +50,20 @@ some-number Error.Full = (4, refl)
 some-number Error.BadSize = (5, refl)
 some-number Error.Rehashing = (6, refl)
 some-number Error.NotRehashing = (7, refl)
+some-number Error.Changed = (14, refl)
+some-number Error.NoSafeIterator = (15, refl)
+some-number Error.TooManyIterators = (16, refl)
+some-number Error.Paused = (17, refl)
+
+-- a step is due during a rehash that no safe iterator holds up
+pub due-facts : (s : State) → stepDue s ≡ true → (s .rehashing ≡ true) × (paused s ≡ false)
+unfolding stepDue
+due-facts s due = by (s .rehashing) (paused s) due
+  where
+    by : (t held-up : Bool) → (t && not held-up) ≡ true → (t ≡ true) × (held-up ≡ false)
+    by true false e = (refl, refl)
+    by true true e = let z : _≡_ {A = ℕ} 0 1 = cc in absurd (omega arith)
+    by false held-up e = let z : _≡_ {A = ℕ} 0 1 = cc in absurd (omega arith)
 
 -- an answer that refuses gives back the state that it was given, and one that does not gives its own
 data Kind {A : Type 0} (done : A → Bool) (replies : State → A → Reply State) (a : A) : Type 0 where
@@ -104,14 +118,14 @@ module _ {A : Type 0} (refused : Error → A) (done : A → Bool) (replies : Sta
       (ap (λ (r : Reply State). kept w r []) (refuses (w .state) e ∙ ap (λ (m : ℕ). reply m [] (w .state)) is))
   rides-by (After.after (StepAnswer.Stepped count t) x y z) = on-world count t x y z (call t x y z) refl
 
-  rides : w .state .rehashing ≡ true
+  rides : stepDue (w .state) ≡ true
       → Rides w (perform w Call.rehashStep) then (left (replies (w .state)) (given w (stepFirst refused done call)))
   unfolding perform given
   rides e =
       subst (λ (a : After A). Rides w (perform w Call.rehashStep) then (left (replies (w .state)) a))
       (stepping-first refused done call (w .state) (w .first) (w .second) (w .entries) e) (rides-by (given w calls.rehashStep))
 
-  rests : w .state .rehashing ≡ false → given w (stepFirst refused done call) ≡ given w call
+  rests : stepDue (w .state) ≡ false → given w (stepFirst refused done call) ≡ given w call
   unfolding given
   rests e = sym (resting-first refused done call (w .state) (w .first) (w .second) (w .entries) e)
 
@@ -136,7 +150,7 @@ module _ (w : World) (key : ℕ) where
   abbrev deletes : State → List ℕ → List ℕ → List ℕ → After DeleteAnswer
   deletes s first second entries = calls.deleteAlone s first second entries key
 
-  pub on-rides : (c : KeyCall) → takesStep c ≡ true → w .state .rehashing ≡ true
+  pub on-rides : (c : KeyCall) → takesStep c ≡ true → stepDue (w .state) ≡ true
       → Rides w (perform w Call.rehashStep) (λ v. alone v key c) (before-growth w key c)
   unfolding takesStep alone before-growth perform given calls.addAfterStep calls.delete addReply deleteReply reply
   on-rides KeyCall.find t e = let z : _≡_ {A = ℕ} 0 1 = cc in absurd (omega arith)
@@ -147,7 +161,7 @@ module _ (w : World) (key : ℕ) where
       rides DeleteAnswer.Refused isDeleted deleteReply (λ s error. refl) deleted-kind deletes w e
 
   -- and else it is the call alone
-  pub on-alone : (c : KeyCall) → (takesStep c && w .state .rehashing) ≡ false → before-growth w key c ≡ alone w key c
+  pub on-alone : (c : KeyCall) → (takesStep c && stepDue (w .state)) ≡ false → before-growth w key c ≡ alone w key c
   unfolding takesStep alone before-growth perform given calls.addAfterStep calls.delete addReply deleteReply reply
   on-alone KeyCall.find e = refl
   on-alone (KeyCall.update value) e = refl

@@ -1,7 +1,7 @@
--- What the calls find in the memory that they read, in demand 1's words: a lookup's answer, a walk call's entries, and what
--- a step meets.
+-- What the calls find in the memory that they read, in demand 1's words: a lookup's answer, a walk call's entries, what a
+-- step meets, and what a call that iterates does.
 -- Assumes nothing.
-use Prim.Native.Nat.{ℕ, _+_, _-_, _<_}
+use Prim.Native.Nat.{ℕ, _+_, _-_, _<_, _≤_}
 use mathlib.Core.Path.{_≡_, refl, sym, subst, _∙_}
 use mathlib.Core.Bool.{Bool, true, false}
 use mathlib.Core.List.{List, [], _∷_, map}
@@ -16,13 +16,17 @@ use Rattle.model.specs.declared.Ahead.{Ahead}
 use Rattle.model.specs.Limits.{emptyVisits}
 use Rattle.model.specs.Memory.{Place, bucketsOf, keyPlace, headAt, chainAt}
 use Rattle.model.specs.Calls.{firstWith, searched, both, lookupIn, lookupWhile, lookup, aheadOf}
-use Rattle.model.specs.Walk.{joined, chainsAt}
+use Rattle.model.specs.Walk.{tablesOf, joined, chainsAt}
+use Rattle.model.specs.Iterators.{endPlace, filled}
 use Rattle.model.specs.Sequences.{World}
 use Rattle.model.proofs.StepAhead.{AllEmpty, Comes, ahead-comes}
+use Rattle.model.proofs.FirstPlace.{NonePass, Found, first-found}
 use Rattle.refinement.specs.Worlds.{current, other}
-use Rattle.refinement.specs.Demand1.{headOf, SoundChain, Damaged, OnChain, liveTables, keyPlaces, EmptyFrom, FirstFilled, EndFirst, KeysOn}
+use Rattle.refinement.specs.Demand1.{headOf, SoundChain, Damaged, OnChain, liveTables, keyPlaces, EmptyFrom, FirstFilled, EndFirst, KeysOn, placeAt, FirstFrom}
+use Rattle.refinement.specs.Demand2.{firstFilled}
 use Rattle.invariant.proofs.Lists.{in-middle}
 use Rattle.invariant.proofs.Lookups.{FirstIn, first-in}
+use Rattle.refinement.proofs.Demand1Tests.{Passes, not-given, given, passes-ne}
 use Rattle.refinement.proofs.Demand1Chains.{AtPlace, place-read, place-chain, place-sound, same-count, on-chain, in-chain}
 
 -- one of a list is such
@@ -39,6 +43,17 @@ module _ {A : Type 0} {Q : A → Type 0} (x : A) (xs : List A) where
   some-not : ¬ Q x → ¬ Some Q xs → ¬ Some Q (x ∷ xs)
   some-not f g (y, inl e, q) = f (subst Q e q)
   some-not f g (y, inr i, q) = g (y, i, q)
+
+-- of the heads from one number on there is one first that is not 0
+module _ (head : ℕ → ℕ) (from : ℕ) where
+  abbrev EmptyTo : ℕ → Type 0
+  EmptyTo end = (m : ℕ) → from ≤ m → m < end → head m ≡ 0
+
+  one-first : (m n : ℕ) → from ≤ m → ¬ (head m ≡ 0) → EmptyTo m → from ≤ n → ¬ (head n ≡ 0) → EmptyTo n → m ≡ n
+  one-first m n below-m filled-m to-m below-n filled-n to-n =
+      let not-later : ¬ (n < m) = λ l. filled-n (to-m n below-n l) in
+      let not-earlier : ¬ (m < n) = λ l. filled-m (to-n m below-m l) in
+      omega arith
 
 module _ (w : World) where
   -- ---- a lookup
@@ -162,10 +177,42 @@ module _ (w : World) where
       by (Ahead.Empty b) (is, below, before) = (is, omega arith, before)
       by Ahead.End (reach, before) = (omega arith, λ b l m. before b l (omega arith))
 
-  -- there is one first filled bucket
-  not-before : (b c : ℕ) → FirstFilled w b → FirstFilled w c → ¬ (b < c)
-  unfolding EmptyFrom
-  not-before b c f g l = f .filled (g .empty-before b (f .from-next) l)
-
   pub same-first : (b c : ℕ) → FirstFilled w b → FirstFilled w c → b ≡ c
-  same-first b c f g = omega (arith, not-before b c f g, not-before c b g f)
+  unfolding EmptyFrom
+  same-first b c f g =
+      one-first (λ b. headOf w (Place.bucket Table.Old b)) (w .state .«rehash_index») b c (f .from-next) (f .filled)
+      (f .empty-before) (g .from-next) (g .filled) (g .empty-before)
+
+  -- ---- what a call that iterates meets
+
+  -- the test that it makes of a place
+  abbrev fills : ℕ → Bool
+  fills n = filled (w .state) (current w) (other w) n
+
+  passes-filled : (n : ℕ) → Passes (headOf w (placeAt w n) ≡ 0) (fills n)
+  unfolding headOf placeAt filled
+  passes-filled n = passes-ne _ 0
+
+  module _ (place : ℕ) where
+    unfoldable pub PassMeets : Option ℕ → Type 0
+    PassMeets none = (n : ℕ) → ¬ FirstFrom w place n
+    PassMeets (some n) = FirstFrom w place n
+
+    pub pass-meets : PassMeets (firstFilled w place)
+    unfolding PassMeets firstFilled Found NonePass
+    pass-meets = by (firstFilled w place) (first-found fills (tablesOf (w .state)) place)
+      where
+        by : (o : Option ℕ) → Found fills place (endPlace (tablesOf (w .state))) o → PassMeets o
+        by none nowhere = λ n f. f .filled (given (passes-filled n) (nowhere n (f .from-place) (f .before-end)))
+        by (some n) f =
+            record {
+              from-place = f .from-place;
+              before-end = f .before-end;
+              filled = not-given (passes-filled n) (f .passes);
+              empty-before = λ m from below. given (passes-filled m) (f .none-before m from below);
+            }
+
+    pub same-from : (m n : ℕ) → FirstFrom w place m → FirstFrom w place n → m ≡ n
+    same-from m n f g =
+        one-first (λ n. headOf w (placeAt w n)) place m n (f .from-place) (f .filled) (f .empty-before) (g .from-place)
+        (g .filled) (g .empty-before)

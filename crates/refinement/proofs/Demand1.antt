@@ -79,8 +79,9 @@ state-first w (Call.on key c) n f b d = first-row n 1 _ _ b d
 state-first w (Call.resize size) n f b d = first-row n 1 _ _ b d
 state-first w Call.rehashStep n f b d = first-row n 1 _ _ b d
 state-first w (Call.scan cursor lent) n f b d = first-row n 1 _ _ b d
+state-first w (Call.iterate place lent) n f b d = first-row n 1 _ _ b d
 state-first w (Call.read c) n f b d = first-row n 1 _ _ b d
-state-first w (Call.allowResize allowed) n f b d = first-row n 1 _ _ b d
+state-first w (Call.note c) n f b d = first-row n 1 _ _ b d
 
 pub no-store : (does : World → Call → Outcome) → Demand1 does → (w : World) (c : Call) → w .state ≡ noState
     → ((capacity size : ℕ) → ¬ (c ≡ Call.init capacity size)) → does w c .reply .number ≡ 1

@@ -1,5 +1,6 @@
--- What every call answers and leaves, with no step before it, in one walk over its definition: the number of the first row
--- that is given; where it is refused all that was there, and where it is answered the lengths of the buffers.
+-- What a call answers and leaves, with no step before it, in one walk over its definition: the number of the first row
+-- that is given; where it is refused all that was there, and where it is answered the lengths of the buffers. All calls but
+-- those that are lent a list.
 -- Assumes nothing.
 use Prim.Native.Nat.{ℕ, zero, suc, _+_, _*_, _<_, _≤_}
 use mathlib.Core.Path.{_≡_, refl, sym, ap, subst}
@@ -20,22 +21,22 @@ use Rattle.model.specs.declared.AddAnswer.{AddAnswer}
 use Rattle.model.specs.declared.DeleteAnswer.{DeleteAnswer}
 use Rattle.model.specs.declared.ResizeAnswer.{ResizeAnswer}
 use Rattle.model.specs.declared.StepAnswer.{StepAnswer}
-use Rattle.model.specs.declared.ScanAnswer.{ScanAnswer}
-use Rattle.model.specs.Answers.{Reply, reply, errorNumber, initReply, findReply, updateReply, addReply, deleteReply, resizeReply, stepReply, sizeReply, allowReply, tableReply, scanReply}
-use Rattle.model.specs.Limits.{largestExponent, legalCapacity, legalSize, emptyVisits}
+use Rattle.model.specs.declared.StateAnswer.{StateAnswer}
+use Rattle.model.specs.Answers.{Reply, reply, errorNumber, initReply, findReply, updateReply, addReply, deleteReply, resizeReply, stepReply, sizeReply, stateReply, beginReply, endReply, tableReply}
+use Rattle.model.specs.Limits.{largestExponent, legalCapacity, legalSize, emptyVisits, mostSafeIterators}
 use Rattle.model.specs.Memory.{linkOf, bucketsOf, keysHeld, Place, chainAt}
-use Rattle.model.specs.Calls.{After, oriented, reading, writing, changed, lookup, held, found, updated, push, pushed, target, takeable, added, unlinkBucket, unlinkEntry, removed, deleted, longEnough, acceptable, resized, stepDone, movedChain, movedFrom, stepped}
+use Rattle.model.specs.Calls.{After, oriented, reading, writing, changed, lookup, held, found, updated, push, pushed, target, takeable, added, unlinkBucket, unlinkEntry, removed, deleted, longEnough, acceptable, resized, stepDone, movedChain, movedFrom, stepTaken, paused, stepped}
 use Rattle.model.specs.Calls as calls
-use Rattle.model.specs.Walk.{AfterScan, tablesOf, group, chainsAt, atMost, scanned}
-use Rattle.model.specs.Walk as walk
-use Rattle.model.specs.Sequences.{World, world, KeyCall, ReadCall, Call, Outcome, kept, keptScan, left, given, perform, carry}
+use Rattle.model.specs.Iterators.{oneMore, oneFewer}
+use Rattle.model.specs.Iterators as iterators
+use Rattle.model.specs.Sequences.{World, world, KeyCall, ReadCall, StateCall, Call, Outcome, kept, left, given, perform, carry}
 use Rattle.model.proofs.Tests.{Tells, true-not-false, tells-true, tells-and, tells-eq, tells-le}
 use Rattle.model.proofs.Power.{legal-pos}
 use Rattle.model.proofs.Soundness.{sound-facts}
 use Rattle.model.proofs.Fields.{length-setLink, length-setKey, length-setValue, length-setEntry}
 use Rattle.model.proofs.Moved.{moved-length}
 use Rattle.refinement.specs.Worlds.{current, other}
-use Rattle.refinement.specs.Demand1.{BadState, Damaged, keyPlaces, KeyHeld, Full, FreeListDamaged, SoundChain, EmptyFrom, FirstFilled, EndFirst, StepDamaged, places, KeysOn, TooMany, GroupDamaged, Short, Row, row, keyRows, aloneRows, rows, Decides, Leaves, keyZeros, LeavesAll}
+use Rattle.refinement.specs.Demand1.{BadState, Damaged, keyPlaces, KeyHeld, Full, FreeListDamaged, SoundChain, EmptyFrom, FirstFilled, EndFirst, StepDamaged, Row, row, keyRows, aloneRows, readRows, noteRows, rows, Decides, Leaves, keyZeros, readZeros, LeavesList, LeavesAll}
 use Rattle.refinement.specs.Demand3.{lengthsOf}
 use Rattle.invariant.proofs.ClearedBuckets.{length-cleared}
 use Rattle.invariant.proofs.Init.{started-buckets-length, started-entries-length}
@@ -43,8 +44,8 @@ use Rattle.invariant.proofs.Resize.{allowed}
 use Rattle.refinement.proofs.Orientation.{firstBy, secondBy, worldBy, world-kept, soundAt, reads, put, writes}
 use Rattle.refinement.proofs.HiddenSteps.{alone}
 use Rattle.refinement.proofs.Demand1Chains.{AtPlace, place-read, place-sound}
-use Rattle.refinement.proofs.Demand1Tests.{Passes, passes-same, passes-not, passes-or, passes-le, passes-ne}
-use Rattle.refinement.proofs.Demand1Reads.{Says, lookup-says, Entries, places-say, same-keys, StepMeets, step-meets, same-first}
+use Rattle.refinement.proofs.Demand1Tests.{Passes, passes-same, passes-not, passes-or, passes-le, passes-lt, passes-ne}
+use Rattle.refinement.proofs.Demand1Reads.{Says, lookup-says, StepMeets, step-meets, same-first}
 
 -- ---- an outcome that goes by the table
 
@@ -70,24 +71,29 @@ module _ {w : World} {c : Call} where
   leaves (Good.past h g) f = leaves g f
   leaves (Good.answered n l) f = absurd (f n)
 
-  -- a test that refuses where it fails
-  gated : {A : Type 0} {t : Bool} {r : Row} {rs : List Row} (f : A → Outcome) {x y : A} → Passes (r .given) t
+  -- a test that refuses where it fails, and one that refuses where it holds
+  pub gated : {A : Type 0} {t : Bool} {r : Row} {rs : List Row} (f : A → Outcome) {x y : A} → Passes (r .given) t
       → (t ≡ true → Good w c rs (f x)) → Refuses w c (r .number) (f y) → Good w c (r ∷ rs) (f (cond t x y))
   gated f (Passes.passed n) g r = Good.past n (g refl)
   gated f (Passes.failed p) g r = Good.refused p r
 
+  barred : {A : Type 0} {t : Bool} {r : Row} {rs : List Row} (f : A → Outcome) {x y : A} → Tells (r .given) t
+      → Refuses w c (r .number) (f x) → (¬ (r .given) → Good w c rs (f y)) → Good w c (r ∷ rs) (f (cond t x y))
+  barred f (Tells.holds p) r g = Good.refused p r
+  barred f (Tells.fails n) r g = Good.past n (g n)
+
 -- demand 1 says of a refusal that it leaves the buffers
 pub leaves-kept : (w : World) (c : Call) (o : Outcome) → LeavesAll w c o
     → (r : Reply State) × (lent : List ℕ) × (o ≡ kept w r lent)
-unfolding LeavesAll Leaves
+unfolding LeavesAll LeavesList Leaves
 leaves-kept w (Call.init capacity size) o l = (_, _, l)
 leaves-kept w (Call.on key c) o l = (_, _, l)
 leaves-kept w (Call.resize size) o l = (_, _, l)
 leaves-kept w Call.rehashStep o l = (_, _, l)
 leaves-kept w (Call.scan cursor lent) o (count, c, l) = (_, _, l)
-leaves-kept w (Call.read (ReadCall.suggestedSize growing)) o l = (_, _, l)
-leaves-kept w (Call.read ReadCall.currentTable) o l = (_, _, l)
-leaves-kept w (Call.allowResize allowed) o l = (_, _, l)
+leaves-kept w (Call.iterate place lent) o (count, c, l) = (_, _, l)
+leaves-kept w (Call.read c) o l = (_, _, l)
+leaves-kept w (Call.note c) o l = (_, _, l)
 
 pub good-lengths : {w : World} {c : Call} {rs : List Row} {o : Outcome} → Good w c rs o → lengthsOf (carry w o) ≡ lengthsOf w
 unfolding carry kept world lengthsOf
@@ -110,7 +116,7 @@ module _ (w : World) where
   flag = w .state .«second_is_current»
 
   -- given these, and the entries; and all three as they are
-  abbrev here : {A : Type 0} → (State → List ℕ → List ℕ → List ℕ → A) → A
+  abbrev pub here : {A : Type 0} → (State → List ℕ → List ℕ → List ℕ → A) → A
   here call = call (w .state) (current w) (other w) (w .entries)
 
   abbrev stay : {A : Type 0} → A → After A
@@ -134,7 +140,7 @@ module _ (w : World) where
   passes-state = passes-not (tells-true (soundAt w))
 
   -- a call that reads
-  read : {A : Type 0} {rs : List Row} {c : Call} (out : A → Outcome) (refusal : A) (call : List ℕ → List ℕ → A)
+  pub read : {A : Type 0} {rs : List Row} {c : Call} (out : A → Outcome) (refusal : A) (call : List ℕ → List ℕ → A)
       → Refuses w c 1 (out refusal) → (soundAt w ≡ true → Good w c rs (out (call (current w) (other w))))
       → Good w c (row 1 (BadState w) ∷ rs) (out (reading (w .state) (w .first) (w .second) (w .entries) refusal call))
   unfolding row
@@ -195,22 +201,14 @@ module _ (w : World) where
       → Good w c (row 5 (Full w) ∷ row 2 (FreeListDamaged w) ∷ [])
       (put w (addReply (w .state)) (here added key value Lookup.Absent))
   unfolding row added addReply reply errorNumber pushed push Full
-  added-good {c} key value refuse = room (tells-eq (keysHeld (w .state)) (w .state .capacity))
+  added-good {c} key value refuse =
+      barred (put w (addReply (w .state))) (tells-eq (keysHeld (w .state)) (w .state .capacity)) (refuse Error.Full)
+      (λ room. gated (put w (addReply (w .state))) (passes-free room) (λ h. pushes) (refuse Error.Damaged))
     where
       pushes : Good w c [] (put w (addReply (w .state)) (here pushed key value (target (w .state .rehashing))))
       pushes =
           changed-done (addReply (w .state)) (target (w .state .rehashing)) _ _ _ refl (simp length-set)
           (simp (length-setValue, length-setKey, length-setLink))
-
-      room : {t : Bool} → Tells (Full w) t
-          → Good w c (row 5 (Full w) ∷ row 2 (FreeListDamaged w) ∷ [])
-          (put w (addReply (w .state))
-          (cond t (stay (AddAnswer.Refused Error.Full))
-          (cond (takeable (w .state) (w .entries)) (here pushed key value (target (w .state .rehashing)))
-          (stay (AddAnswer.Refused Error.Damaged)))))
-      room (Tells.holds e) = Good.refused e (refuse Error.Full)
-      room (Tells.fails f) =
-          Good.past f (gated (put w (addReply (w .state))) (passes-free f) (λ h. pushes) (refuse Error.Damaged))
 
   pub alone-good : (key : ℕ) (c : KeyCall) → Good w (Call.on key c) (row 1 (BadState w) ∷ aloneRows w key c) (alone w key c)
   unfolding alone perform aloneRows keyRows row given calls.find found calls.update updated calls.addAlone added calls.deleteAlone deleted removed held unlinkEntry LeavesAll Leaves keyZeros findReply updateReply addReply deleteReply reply errorNumber kept carry lengthsOf world
@@ -311,74 +309,21 @@ module _ (w : World) where
         moved-good (omega arith) b first (here chainAt (Place.bucket Table.Old b)) (place-read w (Place.bucket Table.Old b))
 
     stepped-good : (t : Bool)
-        → Good w Call.rehashStep (row 8 (t ≡ false) ∷ row 2 (StepDamaged w) ∷ [])
+        → Good w Call.rehashStep
+        (row 8 (t ≡ false) ∷ row 18 (0 < w .state .«safe_iterators») ∷ row 2 (StepDamaged w) ∷ [])
         (put w (stepReply (w .state)) (here stepped t))
-    unfolding row stepped errorNumber
+    unfolding row stepped stepTaken paused errorNumber
     stepped-good false = Good.refused refl (refuse Error.NotRehashing)
-    stepped-good true = Good.past true-not-false (from-good _ (step-meets w) (tells-eq (w .state .«old_used») 0))
+    stepped-good true =
+        Good.past true-not-false
+        (barred (put w (stepReply (w .state))) (tells-le 1 (w .state .«safe_iterators»)) (refuse Error.Paused)
+        (λ unpaused. from-good _ (step-meets w) (tells-eq (w .state .«old_used») 0)))
 
   pub step-good : Good w Call.rehashStep (rows w Call.rehashStep) (perform w Call.rehashStep)
   unfolding perform rows given calls.rehashStep LeavesAll Leaves stepReply reply kept
   step-good =
       written Call.rehashStep (stepReply (w .state)) StepAnswer.Refused (λ e. (refl, refl)) _
       (λ refuse. stepped-good refuse (w .state .rehashing))
-
-  -- ---- a walk call
-
-  -- refused with no count
-  scan-refuses : (cursor : ℕ) (lent : List ℕ) (e : Error) → ¬ (errorNumber e ≡ 9)
-      → Refuses w (Call.scan cursor lent) (errorNumber e) (keptScan w (AfterScan.after (ScanAnswer.Refused e) lent))
-  unfolding LeavesAll Leaves keptScan kept scanReply reply
-  scan-refuses cursor lent e f = (refl, (0, record { short = λ n. absurd (f n); else = λ n. refl }, refl))
-
-  -- two places of the list for each key
-  passes-short : (cursor : ℕ) (lent ns : List ℕ) → 0 < keysHeld (w .state) → KeysOn w (places w cursor) (length ns)
-      → Passes (Short w cursor lent) (leb (length ns * 2) (length lent))
-  unfolding Short
-  passes-short cursor lent ns pos keys =
-      passes-same (λ h. (pos, length ns, keys, h))
-      (λ s. omega (arith, s .3, same-keys w (places w cursor) (s .1) (length ns) (s .2) keys)) (passes-le _ _)
-
-  pub scan-good : (cursor : ℕ) (lent : List ℕ)
-      → Good w (Call.scan cursor lent) (rows w (Call.scan cursor lent)) (perform w (Call.scan cursor lent))
-  unfolding perform rows row given walk.scan atMost scanned scanReply reply errorNumber LeavesAll Leaves keptScan kept carry lengthsOf world places Entries GroupDamaged TooMany Short
-  scan-good cursor lent =
-      read (keptScan w) _ _ (scan-refuses cursor lent Error.BadState (λ e. omega arith))
-      (λ h.
-      by (here chainsAt (places w cursor)) (places-say w (places w cursor)) (group (tablesOf (w .state)) cursor .answered)
-      (tells-eq (keysHeld (w .state)) 0))
-    where
-      damaged : GroupDamaged w cursor
-          → Good w (Call.scan cursor lent) (row 2 (GroupDamaged w cursor) ∷ row 9 (Short w cursor lent) ∷ [])
-          (keptScan w (AfterScan.after (ScanAnswer.Refused Error.Damaged) lent))
-      damaged d = Good.refused d (scan-refuses cursor lent Error.Damaged (λ e. omega arith))
-
-      -- sound chains: no more entries than keys held
-      summed : (ns : List ℕ) → ¬ Damaged w (places w cursor) → KeysOn w (places w cursor) (length ns) → (next : ℕ)
-          → 0 < keysHeld (w .state) → {t : Bool} → Tells (length ns ≤ keysHeld (w .state)) t
-          → Good w (Call.scan cursor lent) (row 2 (GroupDamaged w cursor) ∷ row 9 (Short w cursor lent) ∷ [])
-          (keptScan w (scanned (w .entries) lent next (cond t (some ns) none)))
-      summed ns sound keys next pos (Tells.holds few) =
-          Good.past
-          (λ (d : GroupDamaged w cursor).
-          elim (d .1) [
-            | inl u ↦ sound u
-            | inr (n, k, many) ↦ omega (arith, same-keys w (places w cursor) n (length ns) k keys)
-          ])
-          (gated (keptScan w) (passes-short cursor lent ns pos keys) (λ f. Good.answered refl refl)
-          (refl, (length ns, record { short = λ e. keys; else = λ g. absurd (g refl) }, refl)))
-      summed ns sound keys next pos (Tells.fails many) = damaged (pos, inr (length ns, keys, omega arith))
-
-      by : (o : Option (List ℕ)) → Entries w (places w cursor) o → (next : ℕ) {t : Bool} → Tells (keysHeld (w .state) ≡ 0) t
-          → Good w (Call.scan cursor lent) (row 2 (GroupDamaged w cursor) ∷ row 9 (Short w cursor lent) ∷ [])
-          (keptScan w
-          (cond t (AfterScan.after (ScanAnswer.Scanned 0 0) lent) (scanned (w .entries) lent next (atMost (keysHeld (w .state)) o))))
-      by o h next (Tells.holds e) =
-          Good.past (λ (d : GroupDamaged w cursor). omega (arith, d .0))
-          (Good.past (λ (d : Short w cursor lent). omega (arith, d .0)) (Good.answered refl refl))
-      by none d next (Tells.fails f) = damaged (omega arith, inl d)
-      by (some ns) (sound, keys) next (Tells.fails f) =
-          summed ns sound keys next (omega arith) (tells-le (length ns) (keysHeld (w .state)))
 
   -- ---- init, and the calls that only read
 
@@ -404,7 +349,7 @@ module _ (w : World) where
   look-number (suc n) (b ∷ buckets) h l = refl
 
   pub read-good : (c : ReadCall) → Good w (Call.read c) (rows w (Call.read c)) (perform w (Call.read c))
-  unfolding perform rows row given calls.suggestedSize calls.currentTable sizeReply tableReply reply errorNumber LeavesAll Leaves kept carry lengthsOf world legalSize
+  unfolding perform rows readRows row given calls.suggestedSize calls.currentTable iterators.beginIterator iterators.endIterator sizeReply tableReply beginReply endReply reply errorNumber LeavesAll readZeros Leaves kept carry lengthsOf world legalSize
   read-good (ReadCall.suggestedSize growing) =
       read (λ a. kept w (sizeReply (w .state) a) []) _ _ (refl, refl) (λ h. Good.answered refl refl)
   read-good ReadCall.currentTable =
@@ -412,9 +357,29 @@ module _ (w : World) where
       (λ h.
       let sound = sound-facts (w .state) (current w) (other w) (w .entries) h in
       Good.answered (look-number _ _ (legal-pos largestExponent _ (sound .old-legal)) (sound .old-fits)) refl)
+  read-good ReadCall.beginIterator =
+      read (λ a. kept w (beginReply (w .state) a) []) _ _ (refl, refl) (λ h. Good.answered refl refl)
+  read-good (ReadCall.endIterator fingerprint) =
+      read (λ a. kept w (endReply (w .state) a) []) _ _ (refl, refl)
+      (λ h.
+      gated (λ a. kept w (endReply (w .state) a) []) (passes-not (tells-eq fingerprint _)) (λ e. Good.answered refl refl)
+      (refl, refl))
 
-  pub allow-good : (allowed : Bool)
-      → Good w (Call.allowResize allowed) (rows w (Call.allowResize allowed)) (perform w (Call.allowResize allowed))
-  unfolding perform rows row given calls.allowResize allowReply reply errorNumber LeavesAll Leaves kept carry lengthsOf world
-  allow-good allowed =
-      read (λ a. kept w (allowReply (w .state) a) []) _ _ (refl, refl) (λ h. Good.answered refl refl)
+  -- ---- the calls that set a field of the state
+
+  abbrev set-out : StateAnswer → Outcome
+  set-out a = kept w (stateReply (w .state) a) []
+
+  fewer-good : (iterators : ℕ)
+      → Good w (Call.note StateCall.endSafe) (row 16 (iterators ≡ 0) ∷ []) (set-out (oneFewer (w .state) iterators))
+  unfolding row oneFewer stateReply reply errorNumber LeavesAll Leaves kept carry lengthsOf world
+  fewer-good zero = Good.refused refl (refl, refl)
+  fewer-good (suc iterators) = Good.past (λ (e : suc iterators ≡ 0). omega arith) (Good.answered refl refl)
+
+  pub note-good : (c : StateCall) → Good w (Call.note c) (rows w (Call.note c)) (perform w (Call.note c))
+  unfolding perform rows noteRows row given calls.allowResize iterators.beginSafe iterators.endSafe oneMore stateReply reply errorNumber LeavesAll Leaves kept carry lengthsOf world
+  note-good (StateCall.allowResize allowed) = read set-out _ _ (refl, refl) (λ h. Good.answered refl refl)
+  note-good StateCall.beginSafe =
+      read set-out _ _ (refl, refl)
+      (λ h. gated set-out (passes-lt _ mostSafeIterators) (λ e. Good.answered refl refl) (refl, refl))
+  note-good StateCall.endSafe = read set-out _ _ (refl, refl) (λ h. fewer-good (w .state .«safe_iterators»))

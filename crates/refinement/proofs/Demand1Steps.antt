@@ -1,7 +1,7 @@
 -- The calls that take a step first go by the table too: first by the step's row, and then by their own in the world that the
 -- step leaves. So does one that growth follows. With them all calls do.
 -- Assumes nothing.
-use Prim.Native.Nat.{ℕ, suc}
+use Prim.Native.Nat.{ℕ, suc, _<_}
 use mathlib.Core.Path.{_≡_, refl, sym, ap, ap₂, subst, _∙_}
 use mathlib.Core.Bool.{Bool, true, false, _&&_}
 use mathlib.Core.List.{List, [], _∷_}
@@ -9,17 +9,18 @@ use mathlib.Core.Logic.{inl, inr}
 use native.Mathlib.Omega.{arith}
 use Rattle.model.specs.declared.StepAnswer.{StepAnswer}
 use Rattle.model.specs.Answers.{reply, stepReply}
-use Rattle.model.specs.Calls.{After}
+use Rattle.model.specs.Calls.{After, paused, stepDue}
 use Rattle.model.specs.Calls as calls
 use Rattle.model.specs.Sequences.{World, world, KeyCall, Call, Outcome, kept, left, given, perform, carriedState, carry}
-use Rattle.model.proofs.Tests.{Tells, tells-true, true-not-false}
+use Rattle.model.proofs.Tests.{Tells, true-not-false, told-not, tells-true, tells-le}
 use Rattle.model.proofs.StepLeaves.{RehashLeaves, rehash-leaves}
 use Rattle.refinement.specs.Worlds.{takesStep}
 use Rattle.refinement.specs.Demand1.{BadState, StepDamaged, Row, row, keyRows, aloneRows, stepWorld, onRows, rows, Decides, Leaves, keyZeros, LeavesAll}
 use Rattle.refinement.specs.Demand3.{lengthsOf}
 use Rattle.refinement.proofs.Orientation.{soundAt, oriented-read}
-use Rattle.refinement.proofs.HiddenSteps.{alone, before-growth, Rides, some-number, on-rides, on-alone}
-use Rattle.refinement.proofs.Demand1Calls.{Refuses, Good, decides, alone-good, resized-good, step-good, scan-good, init-good, read-good, allow-good}
+use Rattle.refinement.proofs.HiddenSteps.{alone, before-growth, Rides, some-number, due-facts, on-rides, on-alone}
+use Rattle.refinement.proofs.Demand1Calls.{Refuses, Good, decides, alone-good, resized-good, step-good, init-good, read-good, note-good}
+use Rattle.refinement.proofs.Demand1Lists.{scan-good, iterate-good}
 use Rattle.refinement.proofs.Growth.{Follows, grown-lengths, follows}
 
 -- rows of refusals: their numbers are not 0
@@ -47,13 +48,19 @@ module _ (w v : World) (c : Call) (o then : Outcome) (same : lengthsOf v ≡ len
   carried [] m (Good.answered z l) = let (zero, lengths) = answers z in Good.answered zero (lengths ∙ l ∙ same)
 
 module _ (w : World) where
+  -- no safe iterator holds up a step that is due
+  due-unpaused : stepDue (w .state) ≡ true → ¬ (0 < w .state .«safe_iterators»)
+  unfolding paused
+  due-unpaused due = told-not (tells-le 1 (w .state .«safe_iterators»)) (due-facts (w .state) due .1)
+
   -- what an answered step leaves
-  step-facts : w .state .rehashing ≡ true → soundAt w ≡ true → perform w Call.rehashStep .reply .number ≡ 0
+  step-facts : stepDue (w .state) ≡ true → soundAt w ≡ true → perform w Call.rehashStep .reply .number ≡ 0
       → (¬ BadState (stepWorld w)) × (lengthsOf (stepWorld w) ≡ lengthsOf w)
   unfolding stepWorld perform given BadState RehashLeaves world carry carriedState left stepReply reply lengthsOf
-  step-facts e h =
+  step-facts due h =
+      let (rehashing, unpaused) = due-facts (w .state) due in
       by (given w calls.rehashStep)
-      (rehash-leaves (w .state) (w .first) (w .second) (w .entries) e (oriented-read w (λ current other. calls.sound (w .state) current other (w .entries)) ∙ h))
+      (rehash-leaves (w .state) (w .first) (w .second) (w .entries) rehashing unpaused (oriented-read w (λ current other. calls.sound (w .state) current other (w .entries)) ∙ h))
     where
       by : (a : After StepAnswer) → RehashLeaves (w .state) (w .first) (w .second) (w .entries) a
           → left (stepReply (w .state)) a .reply .number ≡ 0
@@ -66,7 +73,7 @@ module _ (w : World) where
         λ k. record { first = l .0 k; second = l .1 k; entries = l .2 k },
       )
 
-  module _ (key : ℕ) (c : KeyCall) (takes : takesStep c ≡ true) (e : w .state .rehashing ≡ true) where
+  module _ (key : ℕ) (c : KeyCall) (takes : takesStep c ≡ true) (due : stepDue (w .state) ≡ true) where
     abbrev call : Call
     call = Call.on key c
 
@@ -104,9 +111,10 @@ module _ (w : World) where
     refused-good n is stays =
         elim step-row [
           | inl (bad, one) ↦ Good.refused bad (by 1 one)
-          | inr (good, inl (f, eight)) ↦ absurd (true-not-false (sym e ∙ f))
-          | inr (good, inr (f, inl (damaged, two))) ↦ Good.past good (Good.refused damaged (by 2 two))
-          | inr (good, inr (f, inr (g, zero))) ↦ absurd (omega arith)
+          | inr (good, inl (f, eight)) ↦ absurd (true-not-false (sym (due-facts (w .state) due .0) ∙ f))
+          | inr (good, inr (f, inl (held-up, eighteen))) ↦ absurd (due-unpaused due held-up)
+          | inr (good, inr (f, inr (u, inl (damaged, two)))) ↦ Good.past good (Good.refused damaged (by 2 two))
+          | inr (good, inr (f, inr (u, inr (g, zero)))) ↦ absurd (omega arith)
         ]
       where
         by : (m : ℕ) → step .reply .number ≡ m → Refuses w call m o
@@ -121,8 +129,9 @@ module _ (w : World) where
         elim step-row [
           | inl (bad, one) ↦ absurd (omega arith)
           | inr (good, inl (f, eight)) ↦ absurd (omega arith)
-          | inr (good, inr (f, inl (damaged, two))) ↦ absurd (omega arith)
-          | inr (good, inr (f, inr (g, z))) ↦ Good.past good (Good.past g (then good))
+          | inr (good, inr (f, inl (held-up, eighteen))) ↦ absurd (omega arith)
+          | inr (good, inr (f, inr (u, inl (damaged, two)))) ↦ absurd (omega arith)
+          | inr (good, inr (f, inr (u, inr (g, z)))) ↦ Good.past good (Good.past g (then good))
         ]
       where
         holds : {t : Bool} → Tells (soundAt w ≡ true) t → ¬ (¬ (soundAt w ≡ true)) → soundAt w ≡ true
@@ -135,13 +144,13 @@ module _ (w : World) where
 
         then : ¬ BadState w → Good w call (aloneRows (stepWorld w) key c) o
         then good =
-            let (sound, lengths) = step-facts e (holds (tells-true (soundAt w)) good) zero in
+            let (sound, lengths) = step-facts due (holds (tells-true (soundAt w)) good) zero in
             carried w (stepWorld w) call o (alone (stepWorld w) key c) lengths refuses answers (aloneRows (stepWorld w) key c)
             (key-numbered (stepWorld w) key c) (behind sound (alone-good (stepWorld w) key c))
 
     stepping-good : Good w call table o
     unfolding stepWorld carry world lengthsOf
-    stepping-good = by (on-rides w key c takes e)
+    stepping-good = by (on-rides w key c takes due)
       where
         by : Rides w step (λ v. alone v key c) o → Good w call table o
         by (Rides.step-refused n is stays) = refused-good n is stays
@@ -154,17 +163,17 @@ module _ (w : World) where
 
   pub before-good : (key : ℕ) (c : KeyCall) → Good w (Call.on key c) (rows w (Call.on key c)) (before-growth w key c)
   unfolding rows onRows
-  before-good key c = by (takesStep c) (w .state .rehashing) refl refl
+  before-good key c = by (takesStep c) (stepDue (w .state)) refl refl
     where
-      plain : (takesStep c && w .state .rehashing) ≡ false
-          → Good w (Call.on key c) (row 1 (BadState w) ∷ onRows w key c (takesStep c && w .state .rehashing)) (before-growth w key c)
+      plain : (takesStep c && stepDue (w .state)) ≡ false
+          → Good w (Call.on key c) (row 1 (BadState w) ∷ onRows w key c (takesStep c && stepDue (w .state))) (before-growth w key c)
       plain none =
           subst (λ (b : Bool). Good w (Call.on key c) (row 1 (BadState w) ∷ onRows w key c b) (before-growth w key c)) (sym none)
           (subst (λ (p : Outcome). Good w (Call.on key c) (row 1 (BadState w) ∷ aloneRows w key c) p) (sym (on-alone w key c none))
           (alone-good w key c))
 
-      by : (t f : Bool) → takesStep c ≡ t → w .state .rehashing ≡ f
-          → Good w (Call.on key c) (row 1 (BadState w) ∷ onRows w key c (takesStep c && w .state .rehashing)) (before-growth w key c)
+      by : (t f : Bool) → takesStep c ≡ t → stepDue (w .state) ≡ f
+          → Good w (Call.on key c) (row 1 (BadState w) ∷ onRows w key c (takesStep c && stepDue (w .state))) (before-growth w key c)
       by true true t f =
           subst (λ (b : Bool). Good w (Call.on key c) (row 1 (BadState w) ∷ onRows w key c b) (before-growth w key c))
           (sym (ap₂ _&&_ t f)) (stepping-good key c t f)
@@ -175,7 +184,7 @@ module _ (w : World) where
   -- growth changes no number, and no length
   rows-numbered : (key : ℕ) (c : KeyCall) → Numbered (rows w (Call.on key c))
   unfolding Numbered rows onRows row
-  rows-numbered key c = (0, refl, by (takesStep c && w .state .rehashing))
+  rows-numbered key c = (0, refl, by (takesStep c && stepDue (w .state)))
     where
       by : (t : Bool) → Numbered (onRows w key c t)
       by true = (1, refl, key-numbered (stepWorld w) key c)
@@ -205,5 +214,6 @@ good w (Call.on key c) = on-good w key c
 good w (Call.resize size) = resized-good w size
 good w Call.rehashStep = step-good w
 good w (Call.scan cursor lent) = scan-good w cursor lent
+good w (Call.iterate place lent) = iterate-good w place lent
 good w (Call.read c) = read-good w c
-good w (Call.allowResize allowed) = allow-good w allowed
+good w (Call.note c) = note-good w c

@@ -8,6 +8,7 @@ pub mod Demand1Tests
 pub mod Demand1Chains
 pub mod Demand1Reads
 pub mod Demand1Calls
+pub mod Demand1Lists
 pub mod Growth
 pub mod Demand1Steps
 pub mod Demand1

@@ -7,11 +7,14 @@ use mathlib.Core.List.{List, [], _∷_}
 use Rattle.model.specs.declared.State.{State}
 use Rattle.model.specs.declared.FindAnswer.{FindAnswer}
 use Rattle.model.specs.declared.SizeAnswer.{SizeAnswer}
+use Rattle.model.specs.declared.BeginAnswer.{BeginAnswer}
+use Rattle.model.specs.declared.EndAnswer.{EndAnswer}
 use Rattle.model.specs.declared.ScanAnswer.{ScanAnswer}
-use Rattle.model.specs.Answers.{Reply, reply, findReply, sizeReply, tableReply, scanReply}
+use Rattle.model.specs.Answers.{Reply, reply, findReply, sizeReply, beginReply, endReply, tableReply, scanReply}
 use Rattle.model.specs.Calls as calls
 use Rattle.model.specs.Walk.{AfterScan}
 use Rattle.model.specs.Walk as walk
+use Rattle.model.specs.Iterators as iterators
 use Rattle.model.specs.Sequences.{World, world, KeyCall, ReadCall, Call, Outcome, kept, keptScan, given, perform, carriedState, carry}
 use Rattle.refinement.specs.Demand1.{LeavesAll}
 use Rattle.refinement.proofs.HiddenSteps.{alone, before-growth}
@@ -46,7 +49,7 @@ module _ (w : World) where
       → carry w (before-growth w key c) ≡ w
   before-keeps key c n = left-keeps (Call.on key c) (before-growth w key c) (leaves (before-good w key c) n) n
 
-  -- find, a walk call, the suggested size and a look leave it whatever they answer
+  -- find, the calls that are lent a list, and those that only read leave it whatever they answer
 
   pub find-keeps : (key : ℕ) → carry w (perform w (Call.on key KeyCall.find)) ≡ w
   unfolding perform findReply reply
@@ -56,17 +59,22 @@ module _ (w : World) where
       by (FindAnswer.Found value) = kept-carried w _ _ (λ e. refl)
       by (FindAnswer.Refused error) = kept-carried w _ _ (λ e. refl)
 
+  list-keeps : (a : AfterScan) → carry w (keptScan w a) ≡ w
+  unfolding keptScan scanReply reply
+  list-keeps (AfterScan.after (ScanAnswer.Scanned next count) list) = kept-carried w _ _ (λ e. refl)
+  list-keeps (AfterScan.after (ScanAnswer.Short count) list) = kept-carried w _ _ (λ e. refl)
+  list-keeps (AfterScan.after (ScanAnswer.Refused error) list) = kept-carried w _ _ (λ e. refl)
+
   pub scan-keeps : (cursor : ℕ) (lent : List ℕ) → carry w (perform w (Call.scan cursor lent)) ≡ w
-  unfolding perform keptScan scanReply reply
-  scan-keeps cursor lent = by (given w walk.scan lent cursor)
-    where
-      by : (a : AfterScan) → carry w (keptScan w a) ≡ w
-      by (AfterScan.after (ScanAnswer.Scanned next count) list) = kept-carried w _ _ (λ e. refl)
-      by (AfterScan.after (ScanAnswer.Short count) list) = kept-carried w _ _ (λ e. refl)
-      by (AfterScan.after (ScanAnswer.Refused error) list) = kept-carried w _ _ (λ e. refl)
+  unfolding perform
+  scan-keeps cursor lent = list-keeps (given w walk.scan lent cursor)
+
+  pub iterate-keeps : (place : ℕ) (lent : List ℕ) → carry w (perform w (Call.iterate place lent)) ≡ w
+  unfolding perform
+  iterate-keeps place lent = list-keeps (given w iterators.iterate lent place)
 
   pub read-keeps : (c : ReadCall) → carry w (perform w (Call.read c)) ≡ w
-  unfolding perform sizeReply tableReply reply
+  unfolding perform sizeReply tableReply beginReply endReply reply
   read-keeps (ReadCall.suggestedSize growing) = by (given w calls.suggestedSize growing)
     where
       by : (a : SizeAnswer) → carry w (kept w (sizeReply (w .state) a) []) ≡ w
@@ -77,3 +85,13 @@ module _ (w : World) where
       by : (a : List ℕ) → carry w (kept w (tableReply (w .state) a) []) ≡ w
       by [] = kept-carried w _ _ (λ e. refl)
       by (head ∷ rest) = kept-carried w _ _ (λ e. refl)
+  read-keeps ReadCall.beginIterator = by (given w iterators.beginIterator)
+    where
+      by : (a : BeginAnswer) → carry w (kept w (beginReply (w .state) a) []) ≡ w
+      by (BeginAnswer.Begun fingerprint) = kept-carried w _ _ (λ e. refl)
+      by (BeginAnswer.Refused error) = kept-carried w _ _ (λ e. refl)
+  read-keeps (ReadCall.endIterator fingerprint) = by (given w iterators.endIterator fingerprint)
+    where
+      by : (a : EndAnswer) → carry w (kept w (endReply (w .state) a) []) ≡ w
+      by EndAnswer.Ended = kept-carried w _ _ (λ e. refl)
+      by (EndAnswer.Refused error) = kept-carried w _ _ (λ e. refl)

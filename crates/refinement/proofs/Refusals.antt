@@ -19,8 +19,7 @@ use Rattle.model.specs.Sequences.{World, world, KeyCall, ReadCall, Call, Outcom
 use Rattle.refinement.specs.Demand1.{LeavesAll}
 use Rattle.refinement.proofs.HiddenSteps.{alone, before-growth}
 use Rattle.refinement.proofs.Demand1Calls.{leaves, leaves-kept, alone-good}
-use Rattle.refinement.proofs.Demand1Steps.{before-good}
-use Rattle.refinement.proofs.Demand1.{demand1}
+use Rattle.refinement.proofs.Demand1Steps.{before-good, good}
 
 -- the buffers stay, and the state if the call is answered
 kept-carried : (w : World) (r : Reply State) (lent : List ℕ) → (r .number ≡ 0 → r .state ≡ w .state) → carry w (kept w r lent) ≡ w
@@ -40,7 +39,7 @@ module _ (w : World) where
       ap (carry w) is ∙ kept-carried w r lent (λ e. absurd (n (ap (λ (o : Outcome). o .reply .number) is ∙ e)))
 
   pub refused-keeps : (c : Call) → ¬ (perform w c .reply .number ≡ 0) → carry w (perform w c) ≡ w
-  refused-keeps c n = left-keeps c (perform w c) (demand1 .refusals w c n) n
+  refused-keeps c n = left-keeps c (perform w c) (leaves (good w c) n) n
 
   pub alone-keeps : (key : ℕ) (c : KeyCall) → ¬ (alone w key c .reply .number ≡ 0) → carry w (alone w key c) ≡ w
   alone-keeps key c n = left-keeps (Call.on key c) (alone w key c) (leaves (alone-good w key c) n) n

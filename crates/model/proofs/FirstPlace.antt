@@ -1,14 +1,13 @@
 -- The first place from one on that passes a test, said of the places: which one it is, and that none before it passes.
 -- Assumes nothing.
 use Prim.Native.Nat.{ℕ, zero, suc, _-_, _<_, _≤_}
-use mathlib.Core.Path.{_≡_, refl, sym, ap₂, subst, _∙_}
+use mathlib.Core.Path.{_≡_, refl, ap₂, subst}
 use mathlib.Core.Bool.{Bool, true, false, cond}
 use mathlib.Core.Option.{Option, none, some}
 use native.Mathlib.Decide.{decLt}
 use native.Mathlib.Omega.{arith}
 use Rattle.model.specs.Walk.{Tables}
 use Rattle.model.specs.Iterators.{endPlace, firstFrom, firstPlace}
-use Rattle.model.proofs.Tests.{true-not-false}
 
 module _ (test : ℕ → Bool) where
   -- from one place on, before an end
@@ -74,14 +73,6 @@ module _ (test : ℕ → Bool) where
   pub first-none : (tables : Tables) (place : ℕ) → firstPlace test tables place ≡ none → NonePass place (endPlace tables)
   unfolding Found
   first-none tables place e = subst (Found place (endPlace tables)) e (first-found tables place)
-
-  -- there is one first
-  not-earlier : (place end m n : ℕ) → FirstPass place end m → FirstPass place end n → ¬ (m < n)
-  unfolding NonePass
-  not-earlier place end m n f g l = true-not-false (sym (f .passes) ∙ g .none-before m (f .from-place) l)
-
-  pub one-first : (place end m n : ℕ) → FirstPass place end m → FirstPass place end n → m ≡ n
-  one-first place end m n f g = omega (arith, not-earlier place end m n f g, not-earlier place end n m g f)
 
 -- two tests that agree before the end find the same
 module _ (f g : ℕ → Bool) where

@@ -2,7 +2,7 @@
 -- Assumes nothing.
 use Prim.Native.Nat.{ℕ, suc, _*_, _<_, _≤_}
 use mathlib.Core.Path.{_≡_, refl, subst}
-use mathlib.Core.Bool.{Bool, true, false, cond}
+use mathlib.Core.Bool.{Bool, cond}
 use mathlib.Core.List.{List, [], _∷_}
 use mathlib.Core.Logic.{inl, inr}
 use mathlib.Core.Option.{Option, none, some}
@@ -12,14 +12,13 @@ use lib.ListN.{length}
 use Rattle.model.specs.declared.Error.{Error}
 use Rattle.model.specs.declared.ScanAnswer.{ScanAnswer}
 use Rattle.model.specs.Answers.{reply, errorNumber, scanReply}
-use Rattle.model.specs.Memory.{keysHeld, Place, chainAt}
+use Rattle.model.specs.Memory.{keysHeld, chainAt}
 use Rattle.model.specs.Walk.{AfterScan, tablesOf, group, chainsAt, atMost, scanned}
 use Rattle.model.specs.Walk as walk
 use Rattle.model.specs.Iterators.{handed}
 use Rattle.model.specs.Iterators as iterators
 use Rattle.model.specs.Sequences.{World, world, Call, Outcome, kept, keptScan, given, perform, carry}
 use Rattle.model.proofs.Tests.{Tells, tells-eq, tells-le}
-use Rattle.refinement.specs.Worlds.{current, other}
 use Rattle.refinement.specs.Demand1.{ChainAt, SoundChain, Damaged, places, KeysOn, TooMany, GroupDamaged, Short, placeAt, FirstFrom, BucketDamaged, KeysFrom, ShortFrom, row, rows, Leaves, LeavesList, LeavesAll}
 use Rattle.refinement.specs.Demand2.{firstFilled}
 use Rattle.refinement.specs.Demand3.{lengthsOf}

@@ -13,9 +13,10 @@ use Rattle.model.specs.Sequences.{World, Call, Outcome, kept, perform}
 use Rattle.model.proofs.Soundness.{sound-facts}
 use Rattle.refinement.specs.Worlds.{current, other, UndamagedAt}
 use Rattle.refinement.specs.Demand1.{BadState, GroupDamaged, Row, row, rows, Decides, Demand1}
+use Rattle.refinement.specs.Demand2.{handing}
 use Rattle.refinement.proofs.Demand1Calls.{decides, leaves}
 use Rattle.refinement.proofs.Demand1Steps.{good}
-use Rattle.refinement.proofs.GroupEntries.{enough, handsOut, isShort, walk-call}
+use Rattle.refinement.proofs.GroupEntries.{enough, isShort, handsOrShort, walk-call}
 
 -- Demand 1.
 pub demand1 : Demand1 perform
@@ -44,19 +45,24 @@ second-row n m k first second rs f g (inl h) = absurd (f (h .1))
 second-row n m k first second rs f g (inr (h, inl i)) = absurd (g (i .1))
 second-row n m k first second rs f g (inr (h, inr i)) = i .0
 
-pub never-damaged : (w : World) → UndamagedAt w → (cursor : ℕ) → ¬ GroupDamaged w cursor
-unfolding rows kept reply
-never-damaged w u cursor =
-    by (enough w cursor []) (perform w (Call.scan cursor [])) (walk-call w u cursor []) (demand1 .numbers w (Call.scan cursor []))
+hands-undamaged : (w : World) (lent : List ℕ) (next : ℕ) (ns : List ℕ) (o : Outcome) (bad damaged : Type 0) (rs : List Row)
+    → o ≡ handsOrShort w lent next ns → Decides (o .reply .number) (row 1 bad ∷ row 2 damaged ∷ rs) → ¬ damaged
+unfolding handing kept reply
+hands-undamaged w lent next ns o bad damaged rs = by (enough w lent next ns)
   where
-    by : (t : Bool) (o : Outcome) → o ≡ cond t (handsOut w cursor []) (isShort w cursor [])
-        → Decides (o .reply .number) (rows w (Call.scan cursor [])) → ¬ GroupDamaged w cursor
-    by true o e d =
+    by : (t : Bool) → o ≡ cond t (handing w lent next ns) (isShort w lent next ns)
+        → Decides (o .reply .number) (row 1 bad ∷ row 2 damaged ∷ rs) → ¬ damaged
+    by true e d =
         let zero : o .reply .number ≡ 0 = ap (λ (o : Outcome). o .reply .number) e in
-        second-row _ 1 2 _ _ _ (λ h. omega arith) (λ h. omega arith) d
-    by false o e d =
+        second-row _ 1 2 bad damaged rs (λ h. omega arith) (λ h. omega arith) d
+    by false e d =
         let nine : o .reply .number ≡ 9 = ap (λ (o : Outcome). o .reply .number) e in
-        second-row _ 1 2 _ _ _ (λ h. omega arith) (λ h. omega arith) d
+        second-row _ 1 2 bad damaged rs (λ h. omega arith) (λ h. omega arith) d
+
+pub never-damaged : (w : World) → UndamagedAt w → (cursor : ℕ) → ¬ GroupDamaged w cursor
+unfolding rows
+never-damaged w u cursor =
+    hands-undamaged w [] _ _ _ _ _ _ (walk-call w u cursor []) (demand1 .numbers w (Call.scan cursor []))
 
 -- the state of zeros is no store: every call but init tests the state first, and refuses it
 

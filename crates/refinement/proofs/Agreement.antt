@@ -1,6 +1,6 @@
 -- What the induction over a sequence keeps, on a state and its buffers: the store has a shape, its live buckets hold the
--- ideal's pairs, its live tables, current buffer, next bucket and permission are the ideal's, and during a rehash the keys
--- in the old table are those that the ideal says.
+-- ideal's pairs, its live tables, current buffer, next bucket, permission and safe iterators are the ideal's, and during a
+-- rehash the keys in the old table are those that the ideal says.
 -- Assumes nothing.
 use Prim.Native.Nat.{ℕ, _<_}
 use mathlib.Core.Path.{_≡_, refl, sym, ap, subst, _∙_}
@@ -55,6 +55,7 @@ pub record AgreesOn (s : State) (current other entries : List ℕ) (i : Ideal) :
   pub turned : s .«second_is_current» ≡ i .turned
   pub index : s .«rehash_index» ≡ i .index
   pub allowed : s .«resize_allowed» ≡ i .allowed
+  pub iterators : s .«safe_iterators» ≡ i .iterators
   pub unmoved-in : (key : ℕ) → In key (i .unmoved) → HeldOld s entries (shape .at) key
   pub in-unmoved : s .rehashing ≡ true → (key : ℕ) → HeldOld s entries (shape .at) key → In key (i .unmoved)
   pub unmoved-once : Distinct (i .unmoved)
@@ -185,6 +186,7 @@ module _ (w : World) (i : Ideal) (a : Agrees w i) where
         turned = a .turned;
         index = a .index;
         allowed = a .allowed;
+        iterators = a .iterators;
         each-table =
             λ key value h.
             in-table a key value (h .table) (h .index) (h .live) (held-at w (a .shape) key value h .held);
@@ -202,7 +204,7 @@ pub holds-agrees : (w : World) (shape : Shape (w .state) (current w) (other w) (
 unfolding oldKeys ideal IsBucket Live sizeOf
 holds-agrees w shape m h = (
   ideal m (tablesOf (w .state)) (w .state .«second_is_current») (keep in-old (keysOf (m .pairs))) (w .state .«rehash_index»)
-      (w .state .«resize_allowed»),
+      (w .state .«resize_allowed») (w .state .«safe_iterators»),
   refl,
   record {
     shape = shape;
@@ -215,6 +217,7 @@ holds-agrees w shape m h = (
     turned = refl;
     index = refl;
     allowed = refl;
+    iterators = refl;
     unmoved-in =
         λ key j.
         let (n, k, e) =
@@ -259,6 +262,7 @@ pub record Says (s : State) (keys index : ℕ) (places : Place → ℕ → ℕ �
   pub turned : s .«second_is_current» ≡ i .turned
   pub next : index ≡ i .index
   pub allowed : s .«resize_allowed» ≡ i .allowed
+  pub iterators : s .«safe_iterators» ≡ i .iterators
   pub in-map : (t : Place) → Live s t → IsBucket t → (k v : ℕ) → places t k v → valueFor k (i .plain .pairs) ≡ some v
   pub in-store : (k v : ℕ) → valueFor k (i .plain .pairs) ≡ some v → (t : Place) × Live s t × IsBucket t × places t k v
   pub in-unmoved : s .rehashing ≡ true → (b k v : ℕ) → b < s .«old_size» → places (Place.bucket Table.Old b) k v
@@ -302,6 +306,7 @@ module _ {A : Type 0} {s : State} {answer : State → A} {outcome : After A} {ke
         turned = l .same .current ∙ says .turned;
         index = l .index-is ∙ says .next;
         allowed = l .same .allowed ∙ says .allowed;
+        iterators = l .same .iterators ∙ says .iterators;
         unmoved-in =
             λ k j.
             let (b, v, live, p) = says .unmoved-in k j in
@@ -319,15 +324,15 @@ module _ {A : Type 0} {s : State} {answer : State → A} {outcome : After A} {ke
 -- So does one with other tables, where every entry is held as before.
 pub retabled-agrees : {s s' : State} {current other current' other' entries : List ℕ} {i : Ideal}
     (a : AgreesOn s current other entries i) (h : Shape s' current' other' entries) → s' .capacity ≡ s .capacity
-    → keysHeld s' ≡ keysHeld s → s' .«resize_allowed» ≡ s .«resize_allowed»
+    → keysHeld s' ≡ keysHeld s → s' .«resize_allowed» ≡ s .«resize_allowed» → s' .«safe_iterators» ≡ s .«safe_iterators»
     → ((key value : ℕ) → HeldAt s' entries (h .at) key value → HeldAt s entries (a .shape .at) key value)
     → ((key value : ℕ) → HeldAt s entries (a .shape .at) key value → HeldAt s' entries (h .at) key value)
     → (unmoved : List ℕ) → ((key : ℕ) → In key unmoved → HeldOld s' entries (h .at) key)
     → (s' .rehashing ≡ true → (key : ℕ) → HeldOld s' entries (h .at) key → In key unmoved) → Distinct unmoved
     → AgreesOn s' current' other' entries
-    (ideal (i .plain) (tablesOf s') (s' .«second_is_current») unmoved (s' .«rehash_index») (i .allowed))
+    (ideal (i .plain) (tablesOf s') (s' .«second_is_current») unmoved (s' .«rehash_index») (i .allowed) (i .iterators))
 unfolding ideal
-retabled-agrees a h capacity count allowed before after unmoved unmoved-in in-unmoved once =
+retabled-agrees a h capacity count allowed iterators before after unmoved unmoved-in in-unmoved once =
     record {
       shape = h;
       capacity = a .capacity ∙ sym capacity;
@@ -339,6 +344,7 @@ retabled-agrees a h capacity count allowed before after unmoved unmoved-in in-un
       turned = refl;
       index = refl;
       allowed = allowed ∙ a .allowed;
+      iterators = iterators ∙ a .iterators;
       unmoved-in = unmoved-in;
       in-unmoved = in-unmoved;
       unmoved-once = once;

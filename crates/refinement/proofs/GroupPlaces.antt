@@ -24,9 +24,9 @@ use Rattle.model.specs.Calls.{oldNew}
 use Rattle.model.specs.Walk.{Tables, smallerOf, group, smallFirst, groupPlaces}
 use Rattle.model.proofs.Power.{exponent-lt, power-of}
 use Rattle.model.proofs.Tests.{Tells, tells-and, tells-eq, tells-same}
-use Rattle.refinement.specs.Demand3.{Ideal, tableOf, sizeIn, isBucket, inGroup}
+use Rattle.refinement.specs.Demand3.{Ideal, tableOf, sizeIn, isBucket, inGroup, liveSizes}
 use Rattle.invariant.proofs.Lists.{in-map, of-map, distinct-map, tells-any}
-use Rattle.refinement.proofs.LiveTables.{Legal, sizes, Buckets}
+use Rattle.refinement.proofs.LiveTables.{Legal, Buckets}
 
 -- ---- the bucket of a key
 
@@ -37,8 +37,8 @@ placeIn t unmoved key =
     Place.bucket u (bucketOf key (sizeIn t u))
 
 pub size-in : (t : Tables) (unmoved : List ℕ) (key : ℕ)
-    → sizeIn t (tableOf t unmoved key) ≡ sizes t (tableOf t unmoved key)
-unfolding tableOf sizeIn sizes oldNew
+    → sizeIn t (tableOf t unmoved key) ≡ liveSizes t (tableOf t unmoved key)
+unfolding tableOf sizeIn liveSizes oldNew
 size-in (Tables.one size) unmoved key = refl
 size-in (Tables.two old new) unmoved key = refl
 
@@ -76,10 +76,10 @@ pub record GroupLaws (t : Tables) : Type 0 where
       → In (placeIn t unmoved key) (groupPlaces t cursor)
   pub near : (cursor key : ℕ) (unmoved : List ℕ) → In (placeIn t unmoved key) (groupPlaces t cursor)
       → Near live cursor key
-  pub buckets : (cursor : ℕ) → Buckets (sizes t) (groupPlaces t cursor)
+  pub buckets : (cursor : ℕ) → Buckets (liveSizes t) (groupPlaces t cursor)
 
 one-laws : (b : ℕ) → b ≤ 32 → GroupLaws (Tables.one (2 ^ b))
-unfolding smallerOf group groupPlaces smallFirst placeIn tableOf sizeIn sizes oldNew bucketOf hash oneTable
+unfolding smallerOf group groupPlaces smallFirst placeIn tableOf sizeIn liveSizes oldNew bucketOf hash oneTable
 one-laws b fits =
     record {
       live = Live.one b;
@@ -142,12 +142,12 @@ module _ (b c : ℕ) (less : b < c) (fits : c ≤ 32) where
     swept : LargeBuckets b c cursor large
     swept = two-large b c cursor less fits
 
-    sizes-of : (t : Table) → (sizes (tables t) t ≡ 2 ^ b) × (sizes (tables t) (opposite t) ≡ 2 ^ c)
-    unfolding ranked sizes oldNew opposite
+    sizes-of : (t : Table) → (liveSizes (tables t) t ≡ 2 ^ b) × (liveSizes (tables t) (opposite t) ≡ 2 ^ c)
+    unfolding ranked liveSizes oldNew opposite
     sizes-of Table.Old = (refl, refl)
     sizes-of Table.New = (refl, refl)
 
-    two-buckets : (t : Table) → Buckets (sizes (tables t)) (places t)
+    two-buckets : (t : Table) → Buckets (liveSizes (tables t)) (places t)
     unfolding smallFirst twoTables
     two-buckets t =
         record {

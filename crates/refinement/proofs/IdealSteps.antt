@@ -1,26 +1,30 @@
--- The ideal's step: refused, or so many keys moved and the rest unmoved. The step that a call takes first, or none; and the
--- growth that follows it, or none.
+-- What the ideal answers, by cases: a step is refused, or so many keys moved and the rest are unmoved; a call that hands out,
+-- one that reads, a note. The step that a call takes first, or none; and the growth that follows it, or none.
 -- Assumes nothing.
-use Prim.Native.Nat.{ℕ, _+_, _≤_}
+use Prim.Native.Nat.{ℕ, zero, suc, _+_, _*_, _<_, _≤_}
 use mathlib.Core.Path.{_≡_, refl, sym, ap, _∙_}
 use mathlib.Core.Bool.{Bool, true, false, _&&_, cond}
 use mathlib.Core.List.{List, [], _∷_}
 use native.Mathlib.Omega.{arith}
 use lib.ListN.{length}
-use lib.Dec.{ltb, eqb}
+use lib.Dec.{leb, ltb, eqb}
+use borrow.Author.Tests.{ltb-true, ltb-false}
 use Rattle.model.specs.Keys.{bucketOf}
-use Rattle.model.specs.Limits.{emptyVisits}
+use Rattle.model.specs.Limits.{emptyVisits, mostSafeIterators}
 use Rattle.model.specs.Answers.{Reply, reply}
 use Rattle.model.specs.Calls.{acceptable, suggested, growthDue}
 use Rattle.model.specs.Walk.{Tables}
-use Rattle.model.specs.Sequences.{KeyCall}
+use Rattle.model.specs.Sequences.{KeyCall, ReadCall, StateCall}
 use Rattle.refinement.specs.Worlds.{takesStep, mayGrow}
-use Rattle.refinement.specs.Demand3.{Lengths, Ideal, ideal, resizeAnswer, lowest, afterStep, stepAnswer, stepsFirst, grows, thenGrows}
+use Rattle.refinement.specs.Demand3.{Lengths, Ideal, ideal, resizeAnswer, lowest, afterStep, stepTaken, stepAnswer, stepsFirst, grows, thenGrows, handAnswer, idealPrint, readAnswer, withNotes, endAnswer, noteAnswer}
 
--- what holds of both answers of a test holds of the one given
+-- what holds of both answers of a test, of each where the test comes out so, holds of the one given
+pub by-test : {A : Type 0} (P : A → Type 0) (t : Bool) (x y : A) → (t ≡ true → P x) → (t ≡ false → P y) → P (cond t x y)
+by-test P true x y p q = p refl
+by-test P false x y p q = q refl
+
 pub either : {A : Type 0} (P : A → Type 0) (t : Bool) (x y : A) → P x → P y → P (cond t x y)
-either P true x y p q = p
-either P false x y p q = q
+either P t x y p q = by-test P t x y (λ e. p) (λ e. q)
 
 pub one-at-most : (t : Bool) (m n : ℕ) → m ≤ 1 → n ≤ 1 → cond t m n ≤ 1
 one-at-most = either (λ (k : ℕ). k ≤ 1)
@@ -29,16 +33,53 @@ pub one-not-two : {size old new : ℕ} → Tables.one size ≡ Tables.two old ne
 one-not-two e = let z : _≡_ {A = ℕ} 0 1 = cc in omega arith
 
 module _ (i : Ideal) (P : Reply Ideal → Type 0) where
-  -- what holds of a refused step, and of every other, holds of the ideal's
+  -- what holds of a step that is taken
+  any-taken : (old new : ℕ) (unmoved : List ℕ) → ((count : ℕ) (ks : List ℕ) (next : ℕ) → P (afterStep i old new count ks next))
+      → P (stepTaken i old new unmoved)
+  unfolding stepTaken
+  any-taken old new [] done = done 0 [] (i .index)
+  any-taken old new (k ∷ ks) done =
+      either P (ltb (lowest old (bucketOf k old) ks) (i .index + emptyVisits)) _ _ (done _ _ _) (done _ _ _)
+
+  -- .. and of a refused one, with one table or held up by safe iterators, holds of the ideal's
   pub any-step : (tables : Tables) (unmoved : List ℕ) → ((size : ℕ) → tables ≡ Tables.one size → P (reply 8 (0 ∷ 0 ∷ []) i))
-      → ((old new : ℕ) → tables ≡ Tables.two old new → (count : ℕ) (ks : List ℕ) (next : ℕ) → P (afterStep i old new count ks next))
+      → (0 < i .iterators → P (reply 18 (0 ∷ 0 ∷ []) i))
+      → ((old new : ℕ) → tables ≡ Tables.two old new → i .iterators ≡ 0
+      → (count : ℕ) (ks : List ℕ) (next : ℕ) → P (afterStep i old new count ks next))
       → P (stepAnswer i tables unmoved)
   unfolding stepAnswer
-  any-step (Tables.one size) unmoved refused done = refused size refl
-  any-step (Tables.two old new) [] refused done = done old new refl 0 [] (i .index)
-  any-step (Tables.two old new) (k ∷ ks) refused done =
-      either P (ltb (lowest old (bucketOf k old) ks) (i .index + emptyVisits)) _ _ (done old new refl _ _ _)
-      (done old new refl _ _ _)
+  any-step (Tables.one size) unmoved refused paused done = refused size refl
+  any-step (Tables.two old new) unmoved refused paused done =
+      by-test P (ltb 0 (i .iterators)) _ _ (λ t. paused (ltb-true 0 (i .iterators) t))
+      (λ f. any-taken old new unmoved (done old new refl (omega (arith, ltb-false 0 (i .iterators) f))))
+
+  -- a walk call and one that iterates leave the ideal
+  pub any-hand : (next count places : ℕ) → P (reply 0 (next ∷ count ∷ []) i) → P (reply 9 (0 ∷ count ∷ []) i)
+      → P (handAnswer i next count places)
+  unfolding handAnswer
+  any-hand next count places = either P (leb (count * 2) places) _ _
+
+  -- so do the calls that only read
+  pub any-read : (c : ReadCall) → ((vs : List ℕ) → P (reply 0 vs i)) → P (reply 15 [] i) → P (readAnswer i c)
+  unfolding readAnswer
+  any-read (ReadCall.suggestedSize growing) done changed = done _
+  any-read ReadCall.currentTable done changed = done _
+  any-read ReadCall.beginIterator done changed = done _
+  any-read (ReadCall.endIterator fingerprint) done changed =
+      either (λ (n : ℕ). P (reply n [] i)) (eqb fingerprint (idealPrint i)) 0 15 (done []) changed
+
+  -- a note is made, or there is no safe iterator to end, or there are too many
+  pub any-note : (c : StateCall) → ((allowed : Bool) (iterators : ℕ) → P (reply 0 [] (withNotes i allowed iterators)))
+      → P (reply 16 [] i) → P (reply 17 [] i) → P (noteAnswer i c)
+  unfolding noteAnswer endAnswer
+  any-note (StateCall.allowResize allowed) noted none-begun too-many = noted allowed (i .iterators)
+  any-note StateCall.beginSafe noted none-begun too-many =
+      either P (ltb (i .iterators) mostSafeIterators) _ _ (noted _ _) too-many
+  any-note StateCall.endSafe noted none-begun too-many = by (i .iterators)
+    where
+      by : (n : ℕ) → P (endAnswer i n)
+      by zero = none-begun
+      by (suc n) = noted (i .allowed) n
 
 -- what holds of what a call leaves, and of a resize then, holds of what growth leaves
 pub any-growth : (l : Lengths) (P : Ideal → Type 0) (c : KeyCall) (r : Reply Ideal)
@@ -73,28 +114,35 @@ module _ (i : Ideal) where
   unfolding stepsFirst
   any-first P c number = either P (takesStep c && eqb number 0) stepped i
 
-  -- with two tables a step is answered, ..
-  pub two-answered : (old new : ℕ) → i .tables ≡ Tables.two old new → stepAnswer i (i .tables) (i .unmoved) .number ≡ 0
+  -- with two tables and no safe iterator a step is answered, ..
+  pub two-answered : (old new : ℕ) → i .tables ≡ Tables.two old new → i .iterators ≡ 0
+      → stepAnswer i (i .tables) (i .unmoved) .number ≡ 0
   unfolding afterStep reply
-  two-answered old new e =
+  two-answered old new e none =
       any-step i (λ (r : Reply Ideal). r .number ≡ 0) (i .tables) (i .unmoved)
-      (λ size f. absurd (one-not-two (sym f ∙ e))) (λ old new f. done old new)
+      (λ size f. absurd (one-not-two (sym f ∙ e))) (λ some. absurd (omega arith)) (λ old new f g. done old new)
     where
       done : (old new count : ℕ) (ks : List ℕ) (next : ℕ) → afterStep i old new count ks next .number ≡ 0
       done old new count [] next = refl
       done old new count (k ∷ ks) next = refl
 
-  -- .. with one it is refused, ..
+  -- .. else it is refused, ..
   pub one-stays : (size : ℕ) → i .tables ≡ Tables.one size → stepAnswer i (i .tables) (i .unmoved) .state ≡ i
   unfolding stepAnswer reply
   one-stays size e = ap (λ (t : Tables). stepAnswer i t (i .unmoved) .state) e
+
+  pub paused-stays : 0 < i .iterators → stepAnswer i (i .tables) (i .unmoved) .state ≡ i
+  unfolding reply
+  paused-stays some =
+      any-step i (λ (r : Reply Ideal). r .state ≡ i) (i .tables) (i .unmoved) (λ size e. refl) (λ g. refl)
+      (λ old new e none. absurd (omega arith))
 
   -- .. and it leaves the pairs
   pub same-pairs : stepAnswer i (i .tables) (i .unmoved) .state .plain ≡ i .plain
   unfolding afterStep reply ideal
   same-pairs =
-      any-step i (λ (r : Reply Ideal). r .state .plain ≡ i .plain) (i .tables) (i .unmoved) (λ size e. refl)
-      (λ old new e. done old new)
+      any-step i (λ (r : Reply Ideal). r .state .plain ≡ i .plain) (i .tables) (i .unmoved) (λ size e. refl) (λ some. refl)
+      (λ old new e none. done old new)
     where
       done : (old new count : ℕ) (ks : List ℕ) (next : ℕ) → afterStep i old new count ks next .state .plain ≡ i .plain
       done old new count [] next = refl

@@ -1,22 +1,21 @@
 -- Keys held equal the adds answered 0 less the deletes answered 0 since the last start answered 0: so it is in every store
 -- that meets demand 3, over every sequence.
 -- Assumes nothing.
-use Prim.Native.Nat.{ℕ, zero, suc, _+_, _*_, _-_}
+use Prim.Native.Nat.{ℕ, zero, suc, _+_, _-_}
 use mathlib.Core.Path.{_≡_, refl, sym, ap, _∙_}
 use mathlib.Core.Bool.{Bool, true, false, cond}
 use mathlib.Core.List.{List, [], _∷_}
 use mathlib.Core.Option.{Option, none, some}
 use native.Mathlib.Omega.{arith}
 use lib.ListN.{length}
-use lib.Dec.{leb, eqb, eqb·suc-zero}
+use lib.Dec.{eqb, eqb·suc-zero}
 use Rattle.model.specs.Answers.{Reply, reply}
 use Rattle.model.specs.Memory.{keysHeld}
 use Rattle.model.specs.Calls.{acceptable}
 use Rattle.model.specs.Walk.{Tables}
-use Rattle.model.specs.Sequences.{World, KeyCall, ReadCall, Call, Outcome, carry, run, Event, event, events, PlainMap, keysOf, valueFor, withPairs, mapAnswer, mapDoes}
-use Rattle.cursor.specs.Next.{next}
-use Rattle.refinement.specs.Demand3.{Lengths, lengthsOf, Ideal, ideal, begun, startNumber, startAnswer, keyAnswer, onAnswer, thenGrows, resizeAnswer, afterStep, groupPairs, scanAnswer, readAnswer, predict, replay, Answered, Demand3}
-use Rattle.refinement.proofs.IdealSteps.{either, any-step, growth-plain}
+use Rattle.model.specs.Sequences.{World, KeyCall, Call, Outcome, carry, run, Event, event, events, PlainMap, keysOf, valueFor, withPairs, mapAnswer, mapDoes}
+use Rattle.refinement.specs.Demand3.{Lengths, lengthsOf, Ideal, ideal, begun, startNumber, startAnswer, keyAnswer, onAnswer, thenGrows, resizeAnswer, afterStep, withNotes, predict, replay, Answered, Demand3}
+use Rattle.refinement.proofs.IdealSteps.{either, any-step, any-hand, any-read, any-note, growth-plain}
 use Rattle.refinement.proofs.PlainMaps.{length-changed, length-taken}
 
 -- the keys held after a call that was answered 0
@@ -29,8 +28,9 @@ keysAfter (Call.on key KeyCall.delete) keys = keys - 1
 keysAfter (Call.resize size) keys = keys
 keysAfter Call.rehashStep keys = keys
 keysAfter (Call.scan cursor lent) keys = keys
+keysAfter (Call.iterate place lent) keys = keys
 keysAfter (Call.read c) keys = keys
-keysAfter (Call.allowResize allowed) keys = keys
+keysAfter (Call.note c) keys = keys
 
 -- over the events; a refused call changes nothing
 unfoldable pub tally : ℕ → List Event → ℕ
@@ -69,7 +69,7 @@ module _ (i : Ideal) where
       by KeyCall.delete (some held) e = omega (arith, length-taken key held (i .plain .pairs) e)
 
   counted : (l : Lengths) (c : Call) → Counted i c (predict l i c)
-  unfolding predict thenGrows startAnswer begun ideal reply resizeAnswer afterStep scanAnswer readAnswer keysAfter
+  unfolding predict thenGrows startAnswer begun ideal reply resizeAnswer afterStep withNotes keysAfter
   counted l (Call.init capacity size) = by (startNumber l capacity size)
     where
       by : (n : ℕ) → Counted i (Call.init capacity size) (startAnswer i capacity size n)
@@ -82,19 +82,18 @@ module _ (i : Ideal) where
       by : (t : Tables) → Counted i (Call.resize size) (resizeAnswer l i size t)
       by (Tables.one old) =
           either (Counted i (Call.resize size)) (acceptable old (cond (i .turned) (l .first) (l .second)) size)
-          (reply 0 [] (ideal (i .plain) (Tables.two old size) (i .turned) (keysOf (i .plain .pairs)) 0 (i .allowed))) (reply 6 [] i) refl refl
+          (reply 0 [] (ideal (i .plain) (Tables.two old size) (i .turned) (keysOf (i .plain .pairs)) 0 (i .allowed) (i .iterators))) (reply 6 [] i) refl refl
       by (Tables.two old new) = refl
   counted l Call.rehashStep = any-step i (Counted i Call.rehashStep) (i .tables) (i .unmoved) (λ size e. refl)
-      (λ old new e. done old new)
+      (λ some. refl) (λ old new e none. done old new)
     where
       done : (old new count : ℕ) (ks : List ℕ) (next : ℕ) → Counted i Call.rehashStep (afterStep i old new count ks next)
       done old new count [] next = refl
       done old new count (k ∷ ks) next = refl
-  counted l (Call.scan cursor lent) =
-      either (Counted i (Call.scan cursor lent)) (leb (length (groupPairs i cursor) * 2) (length lent)) _ _ refl refl
-  counted l (Call.read (ReadCall.suggestedSize growing)) = refl
-  counted l (Call.read ReadCall.currentTable) = refl
-  counted l (Call.allowResize allowed) = refl
+  counted l (Call.scan cursor lent) = any-hand i (Counted i (Call.scan cursor lent)) _ _ (length lent) refl refl
+  counted l (Call.iterate place lent) = any-hand i (Counted i (Call.iterate place lent)) _ _ (length lent) refl refl
+  counted l (Call.read c) = any-read i (Counted i (Call.read c)) c (λ vs. refl) refl
+  counted l (Call.note c) = any-note i (Counted i (Call.note c)) c (λ allowed iterators. refl) refl refl
 
 -- along a sequence whose answers are the ideal's
 tallied : (does : World → Call → Outcome) (l : Lengths) (w : World) (i : Ideal) (calls : List Call)

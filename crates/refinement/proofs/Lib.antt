@@ -18,6 +18,7 @@ pub mod Lengths
 pub mod PlainMaps
 pub mod IdealSteps
 pub mod Agreement
+pub mod Fingerprints
 pub mod KeyedSteps
 pub mod TableSteps
 pub mod MovedKeys

@@ -1,6 +1,6 @@
--- A walk call on an undamaged store. It gives the entries of its group: those held in the group's buckets, no key twice
--- (`group-distinct`); and the call: answered just if the list has two places for each (`walk-call`), and then it hands them
--- out (`hands-out`).
+-- A call that hands out some entries, or is short of places for them (`hands-read`, `answered-hands`); and the walk call on an
+-- undamaged store. It gives the entries of its group: those held in the group's buckets, no key twice (`group-distinct`); and
+-- the call: answered just if the list has two places for each (`walk-call`), and then it hands them out (`hands-out`).
 -- Assumes nothing.
 use Prim.Native.Nat.{ℕ, zero, suc, _*_, _≤_}
 use mathlib.Core.Path.{_≡_, refl, ap, _∙_}
@@ -20,7 +20,7 @@ use Rattle.model.specs.Sequences.{World, Call, Outcome, kept, keptScan, given, 
 use Rattle.model.proofs.Soundness.{Sound}
 use Rattle.model.proofs.AtMost.{at-most-few}
 use Rattle.refinement.specs.Worlds.{current, other, UndamagedAt}
-use Rattle.refinement.specs.Demand2.{groupEntries, nextCursor, HandsOut}
+use Rattle.refinement.specs.Demand2.{groupEntries, nextCursor, handing, HandsOut}
 use Rattle.invariant.proofs.Shape.{shape-sound, facts}
 use Rattle.invariant.proofs.FromUndamaged.{undamaged-shape}
 use Rattle.refinement.proofs.Orientation.{reads-sound}
@@ -28,12 +28,56 @@ use Rattle.refinement.proofs.LiveTables.{Buckets, tables-legal, tables-
 use Rattle.refinement.proofs.GroupPlaces.{group-laws}
 use Rattle.refinement.proofs.BucketEntries.{entriesOf, read-some, entries-fit, keys-once}
 
+-- ---- a call that hands out some entries, or is short of places for them
+
+module _ (w : World) (lent : List ℕ) (next : ℕ) (ns : List ℕ) where
+  -- answered just if the list has two places for each
+  abbrev pub enough : Bool
+  enough = leb (length ns * 2) (length lent)
+
+  abbrev pub isShort : Outcome
+  isShort = kept w (reply 9 (0 ∷ length ns ∷ []) (w .state)) lent
+
+  abbrev pub handsOrShort : Outcome
+  handsOrShort = cond enough (handing w lent next ns) isShort
+
+  pub hands-read : keptScan w (scanned (w .entries) lent next (some ns)) ≡ handsOrShort
+  unfolding scanned keptScan scanReply handing
+  hands-read = by enough
+    where
+      by : (t : Bool)
+          → keptScan w
+          (cond t
+          (AfterScan.after (ScanAnswer.Scanned next (length ns)) (pairs (w .entries) ns ++ drop (length ns * 2) lent))
+          (AfterScan.after (ScanAnswer.Short (length ns)) lent))
+          ≡ cond t (handing w lent next ns) isShort
+      by true = refl
+      by false = refl
+
+  -- if it is answered, it hands them out
+  pub answered-hands : {o : Outcome} → o ≡ handsOrShort → o .reply .number ≡ 0 → o ≡ handing w lent next ns
+  unfolding kept reply
+  answered-hands = by enough
+    where
+      by : {o : Outcome} (t : Bool) → o ≡ cond t (handing w lent next ns) isShort → o .reply .number ≡ 0
+          → o ≡ handing w lent next ns
+      by true e z = e
+      by false e z = absurd (omega (arith, ap (λ (o : Outcome). o .reply .number) e))
+
+-- with none it is answered, whatever the list
+pub hands-none : (entries lent : List ℕ) (next : ℕ)
+    → AfterScan.after (ScanAnswer.Scanned next 0) lent ≡ scanned entries lent next (some [])
+unfolding scanned pairs
+hands-none entries lent next = rw (le-leb 0 (length lent) (omega arith))
+
+-- ---- the walk call
+
 -- with no keys held there is nothing to hand out, so that the call hands out the group's entries all the same
 held-or-none : (entries lent : List ℕ) (next keys : ℕ) (ns : List ℕ) → length ns ≤ keys
     → cond (eqb keys 0) (AfterScan.after (ScanAnswer.Scanned 0 0) lent) (scanned entries lent next (some ns))
     ≡ scanned entries lent (nextCursor keys next) (some ns)
-unfolding scanned pairs nextCursor
-held-or-none entries lent next zero [] h = rw (le-leb 0 (length lent) (omega arith))
+unfolding nextCursor
+held-or-none entries lent next zero [] h = hands-none entries lent 0
 held-or-none entries lent next zero (n ∷ ns) h = absurd (omega arith)
 held-or-none entries lent next (suc keys) ns h = rw eqb·suc-zero
 
@@ -41,32 +85,9 @@ held-or-none entries lent next (suc keys) ns h = rw eqb·suc-zero
 abbrev pub places : World → ℕ → List Place
 places w cursor = groupPlaces (tablesOf (w .state)) cursor
 
--- the call answered, and short of places
-module _ (w : World) (cursor : ℕ) (lent : List ℕ) where
-  abbrev ns : List ℕ
-  ns = groupEntries w cursor
-
-  abbrev next : ℕ
-  next = nextCursor (keysHeld (w .state)) (group (tablesOf (w .state)) cursor .answered)
-
-  abbrev pub enough : Bool
-  enough = leb (length ns * 2) (length lent)
-
-  abbrev pub handsOut : Outcome
-  handsOut = kept w (reply 0 (next ∷ length ns ∷ []) (w .state)) (pairs (w .entries) ns ++ drop (length ns * 2) lent)
-
-  abbrev pub isShort : Outcome
-  isShort = kept w (reply 9 (0 ∷ length ns ∷ []) (w .state)) lent
-
-  either-answer : (t : Bool)
-      → keptScan w
-      (cond t
-      (AfterScan.after (ScanAnswer.Scanned next (length ns)) (pairs (w .entries) ns ++ drop (length ns * 2) lent))
-      (AfterScan.after (ScanAnswer.Short (length ns)) lent))
-      ≡ cond t handsOut isShort
-  unfolding keptScan scanReply
-  either-answer true = refl
-  either-answer false = refl
+-- the cursor that it answers
+abbrev pub nextOf : World → ℕ → ℕ
+nextOf w cursor = nextCursor (keysHeld (w .state)) (group (tablesOf (w .state)) cursor .answered)
 
 module _ (w : World) (u : UndamagedAt w) where
   pub world-sound : Sound (w .state) (length (current w)) (length (other w)) (length (w .entries))
@@ -108,22 +129,16 @@ module _ (w : World) (u : UndamagedAt w) where
 
   -- the call: with two places for each entry of its group it hands them out
   module _ (cursor : ℕ) (lent : List ℕ) where
-    pub walk-call : perform w (Call.scan cursor lent)
-        ≡ cond (enough w cursor lent) (handsOut w cursor lent) (isShort w cursor lent)
-    unfolding perform given scan scanned UndamagedAt
+    pub walk-call : perform w (Call.scan cursor lent) ≡ handsOrShort w lent (nextOf w cursor) (groupEntries w cursor)
+    unfolding perform given scan UndamagedAt
     walk-call =
         ap (keptScan w)
         (reads-sound w _ _ (shape-sound (undamaged-shape u))
         ∙ rw (group-read cursor)
         (held-or-none (w .entries) lent _ (keysHeld (w .state)) (groupEntries w cursor) (group-fits cursor)))
-        ∙ either-answer w cursor lent (enough w cursor lent)
+        ∙ hands-read w lent (nextOf w cursor) (groupEntries w cursor)
 
     -- demand 2 for the walk
     pub hands-out : perform w (Call.scan cursor lent) .reply .number ≡ 0 → HandsOut perform w cursor lent
-    unfolding HandsOut kept reply
-    hands-out = by (enough w cursor lent) walk-call
-      where
-        by : {o : Outcome} (t : Bool) → o ≡ cond t (handsOut w cursor lent) (isShort w cursor lent) → o .reply .number ≡ 0
-            → o ≡ handsOut w cursor lent
-        by true e z = e
-        by false e z = absurd (omega (arith, ap (λ (o : Outcome). o .reply .number) e))
+    unfolding HandsOut
+    hands-out = answered-hands w lent (nextOf w cursor) (groupEntries w cursor) walk-call

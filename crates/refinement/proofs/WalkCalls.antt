@@ -1,5 +1,6 @@
--- A walk call on an undamaged store, beside an ideal that it matches. It gives `scan-predicted`: the number, the values and
--- the pairs handed out are the ideal's.
+-- A call that hands out, on an undamaged store, beside an ideal that it matches: the number, the values and the pairs handed
+-- out are the ideal's, for any entries whose pairs are those that the ideal has due (`hands-due`). So are those of some
+-- buckets, with the ideal's test for them (`held-due`); from it `scan-predicted`, for the walk call.
 -- Assumes nothing.
 use Prim.Native.Nat.{ℕ, _*_}
 use mathlib.Core.Path.{_≡_, refl, sym, ap, subst₂, _∙_}
@@ -8,37 +9,36 @@ use mathlib.Core.List.{List, [], _∷_, _++_, map}
 use native.Mathlib.Omega.{arith}
 use lib.ListN.{length, drop, getD, length-map}
 use lib.Seq.{drop-at}
-use Rattle.cursor.specs.Member.{In, Distinct}
-use Rattle.model.specs.Memory.{Place}
-use Rattle.model.specs.Answers.{reply}
+use Rattle.cursor.specs.Member.{In, Distinct, keep}
+use Rattle.model.specs.Memory.{Place, sizeOf}
+use Rattle.model.specs.Answers.{Reply, reply}
 use Rattle.model.specs.Walk.{Tables, tablesOf, groupPlaces, pairs}
 use Rattle.model.specs.Sequences.{World, Call, Outcome, kept, perform, Event, event, Pair, keysOf}
 use Rattle.model.proofs.Pairs.{length-pairs}
 use Rattle.model.proofs.Shared.{in-its-bucket}
 use Rattle.model.proofs.Tests.{Tells, told, tested}
 use Rattle.refinement.specs.Worlds.{current, other, UndamagedAt, Held}
-use Rattle.refinement.specs.Demand2.{groupEntries}
-use Rattle.refinement.specs.Demand3.{Lengths, Ideal, inGroup, groupPairs, scanAnswer, predict, pairsIn, handedOut, WalkCall, AsPredicted, Matches}
+use Rattle.refinement.specs.Demand2.{groupEntries, handing}
+use Rattle.refinement.specs.Demand3.{Lengths, Ideal, inGroup, groupPairs, handAnswer, predict, pairsIn, handedOut, HandsPairs, AsPredicted, Matches}
 use Rattle.invariant.proofs.Lists.{of-distinct-map, same-length, in-keep, of-keep, distinct-keep}
-use Rattle.refinement.proofs.LiveTables.{tables-legal, tables-sizes}
+use Rattle.refinement.proofs.LiveTables.{Buckets, tables-legal, tables-sizes}
 use Rattle.refinement.proofs.GroupPlaces.{placeIn, size-in, tells-in-group, published}
-use Rattle.refinement.proofs.PlainMaps.{value-pair, pair-value}
-use Rattle.refinement.proofs.BucketEntries.{pairOf, pair-keys-once, of-pairs, in-pairs}
-use Rattle.refinement.proofs.GroupEntries.{world-sound, places, group-buckets, group-entries, enough, handsOut, isShort, walk-call}
+use Rattle.refinement.proofs.PlainMaps.{pair, value-pair, pair-value}
+use Rattle.refinement.proofs.BucketEntries.{pairOf, entriesOf, pair-keys-once, of-pairs, in-pairs}
+use Rattle.refinement.proofs.GroupEntries.{world-sound, places, nextOf, group-buckets, group-entries, enough, isShort, handsOrShort, walk-call}
 
--- ---- pairs in a list
+-- ---- entries whose pairs are due
 
--- what was written as pairs is read as those pairs
-pairs-read : (entries ns rest : List ℕ) → pairsIn (length ns) (pairs entries ns ++ rest) ≡ map (pairOf entries) ns
-unfolding pairsIn pairs pairOf
-pairs-read entries [] rest = refl
-pairs-read entries (n ∷ ns) rest = ap (λ (ps : List Pair). pairOf entries n ∷ ps) (pairs-read entries ns rest)
-
--- ---- the call
+-- no more and no fewer, no key twice
+pub record Due (w : World) (due : List Pair) (ns : List ℕ) : Type 0 where
+  pub only : (p : Pair) → In p (map (pairOf (w .entries)) ns) → In p due
+  pub all : (p : Pair) → In p due → In p (map (pairOf (w .entries)) ns)
+  pub once : Distinct (keysOf (map (pairOf (w .entries)) ns))
+  pub count : length due ≡ length ns
 
 module _ (l : Lengths) (w : World) (i : Ideal) (u : UndamagedAt w) (m : Matches l w i) where
   -- the ideal has a key in the bucket that it is held in
-  held-place : {key value : ℕ} (h : Held w key value)
+  pub held-place : {key value : ℕ} (h : Held w key value)
       → placeIn (i .tables) (i .unmoved) key ≡ Place.bucket (h .table) (h .index)
   unfolding placeIn UndamagedAt
   held-place {key} {value} h =
@@ -50,105 +50,135 @@ module _ (l : Lengths) (w : World) (i : Ideal) (u : UndamagedAt w) (m : Matches 
         tables-sizes (w .state) _ _ _ (world-sound w u) (h .table),
       )
 
-  module _ (cursor : ℕ) where
-    abbrev ns : List ℕ
-    ns = groupEntries w cursor
+  -- those of some buckets, where the ideal has a test for what is held there
+  module _ (ps : List Place) (live : Buckets (sizeOf (w .state)) ps) (test : Pair → Bool)
+      (tells : (key value : ℕ) (h : Held w key value) → Tells (In (Place.bucket (h .table) (h .index)) ps) (test (pair key value))) where
+    abbrev due : List Pair
+    due = keep test (i .plain .pairs)
 
     abbrev handed : List Pair
-    handed = map (pairOf (w .entries)) ns
+    handed = map (pairOf (w .entries)) (entriesOf w ps)
 
-    abbrev test : Pair → Bool
-    test p = inGroup i cursor (p .key)
-
-    -- whether a held key is of the ideal's group
-    tells-held : {key value : ℕ} (h : Held w key value)
-        → Tells (In (Place.bucket (h .table) (h .index)) (places w cursor)) (inGroup i cursor key)
-    tells-held {key} {value} h =
-        subst₂ (λ (p : Place) (t : Tables). Tells (In p (groupPlaces t cursor)) (inGroup i cursor key))
-        (held-place h) (sym (m .tables)) (tells-in-group i cursor key)
-
-    -- the pairs of the group's entries are the ideal's
-    only-pairs : (p : Pair) → In p handed → In p (groupPairs i cursor)
-    unfolding groupPairs
+    only-pairs : (p : Pair) → In p handed → In p due
     only-pairs p j =
-        let (h, k) = of-pairs w u (places w cursor) (group-buckets w u cursor) p (rw (group-entries w u cursor) at j) in
+        let (h, k) = of-pairs w u ps live p j in
         in-keep test p (i .plain .pairs)
         (value-pair (p .key) (p .value) (i .plain .pairs) (m .contents .in-map (p .key) (p .value) h))
-        (tested (tells-held h) k)
+        (tested (tells (p .key) (p .value) h) k)
 
-    all-pairs : (p : Pair) → In p (groupPairs i cursor) → In p handed
-    unfolding groupPairs
+    all-pairs : (p : Pair) → In p due → In p handed
     all-pairs p j =
         let (there, t) = of-keep test p (i .plain .pairs) j in
         let h = m .contents .in-store (p .key) (p .value) (pair-value p (i .plain .pairs) (m .contents .distinct) there) in
-        rw (group-entries w u cursor)
-        (in-pairs w u (places w cursor) (group-buckets w u cursor) h (told (tells-held h) t))
+        in-pairs w u ps live h (told (tells (p .key) (p .value) h) t)
 
-    -- no key twice
-    handed-once : Distinct (keysOf handed)
-    handed-once = rw (group-entries w u cursor) (pair-keys-once w u (places w cursor) (group-buckets w u cursor))
+    pub held-due : Due w due (entriesOf w ps)
+    unfolding keysOf
+    held-due =
+        let once = pair-keys-once w u ps live in
+        record {
+          only = only-pairs;
+          all = all-pairs;
+          once = once;
+          count =
+              same-length due handed
+              (distinct-keep test (i .plain .pairs) (of-distinct-map (λ (p : Pair). p .key) (i .plain .pairs) (m .contents .distinct)))
+              (of-distinct-map (λ (p : Pair). p .key) handed once)
+              all-pairs only-pairs
+              ∙ length-map (entriesOf w ps) (pairOf (w .entries));
+        }
 
-    -- and as many
-    group-count : length (groupPairs i cursor) ≡ length ns
-    unfolding groupPairs keysOf
-    group-count =
-        same-length (groupPairs i cursor) handed
-        (distinct-keep test (i .plain .pairs) (of-distinct-map (λ (p : Pair). p .key) (i .plain .pairs) (m .contents .distinct)))
-        (of-distinct-map (λ (p : Pair). p .key) handed handed-once)
-        all-pairs only-pairs
-        ∙ length-map ns (pairOf (w .entries))
+-- ---- a call that hands them out
 
-    module _ (lent : List ℕ) where
-      -- the ideal answers so too
-      predicted : predict l i (Call.scan cursor lent)
-          ≡ cond (enough w cursor lent)
-          (reply 0 (handsOut w cursor lent .reply .values) i)
-          (reply 9 (isShort w cursor lent .reply .values) i)
-      unfolding predict scanAnswer kept reply
-      predicted =
-          let legal = tables-legal (w .state) _ _ _ (world-sound w u) in
-          rw (group-count, m .contents .count, ← m .tables, ← published (tablesOf (w .state)) legal cursor)
+-- it answers as the ideal does, and hands out the pairs due, or leaves the list
+pub record AnswersDue (l : Lengths) (i : Ideal) (due : List Pair) (lent : List ℕ) (e : Event) : Type 0 where
+  pub number : e .number ≡ predict l i (e .call) .number
+  pub values : e .values ≡ predict l i (e .call) .values
+  pub answered : e .number ≡ 0 → HandsPairs due e lent
+  pub refused : (e .number ≡ 0 → ⊥) → e .lent ≡ lent
 
-      -- an answered call hands out the ideal's pairs
-      walk-holds : (e : Event) → getD (e .values) 1 0 ≡ length ns
-          → e .lent ≡ pairs (w .entries) ns ++ drop (length ns * 2) lent → WalkCall i e cursor lent
-      unfolding handedOut
-      walk-holds e count list =
-          let read : handedOut e ≡ handed = rw (count, list) (pairs-read (w .entries) ns (drop (length ns * 2) lent)) in
+-- what was written as pairs is read as those pairs
+pairs-read : (entries ns rest : List ℕ) → pairsIn (length ns) (pairs entries ns ++ rest) ≡ map (pairOf entries) ns
+unfolding pairsIn pairs pairOf
+pairs-read entries [] rest = refl
+pairs-read entries (n ∷ ns) rest = ap (λ (ps : List Pair). pairOf entries n ∷ ps) (pairs-read entries ns rest)
+
+module _ (w : World) (due : List Pair) (ns : List ℕ) (d : Due w due ns) (lent : List ℕ) where
+  pairs-handed : (e : Event) → getD (e .values) 1 0 ≡ length ns
+      → e .lent ≡ pairs (w .entries) ns ++ drop (length ns * 2) lent → HandsPairs due e lent
+  unfolding handedOut
+  pairs-handed e count list =
+      let read : handedOut e ≡ map (pairOf (w .entries)) ns =
+      rw (count, list) (pairs-read (w .entries) ns (drop (length ns * 2) lent)) in
+      record {
+        only = rw read (d .only);
+        all = rw read (d .all);
+        none-twice = rw read (d .once);
+        beyond =
+            rw (read, length-map, list)
+            (drop-at (pairs (w .entries) ns) (drop (length ns * 2) lent) (length ns * 2) (length-pairs (w .entries) ns));
+      }
+
+  pub hands-due : (l : Lengths) (i : Ideal) (c : Call) (o : Outcome) (next : ℕ) → o ≡ handsOrShort w lent next ns
+      → predict l i c ≡ handAnswer i next (length due) (length lent) → AnswersDue l i due lent (event c o)
+  unfolding event handAnswer handing kept reply
+  hands-due l i c o next e f = by (enough w lent next ns) e (rw (d .count) at f)
+    where
+      by : (t : Bool) → o ≡ cond t (handing w lent next ns) (isShort w lent next ns)
+          → predict l i c ≡ cond t (reply 0 (next ∷ length ns ∷ []) i) (reply 9 (0 ∷ length ns ∷ []) i)
+          → AnswersDue l i due lent (event c o)
+      by true e f =
           record {
-            only = rw read only-pairs;
-            all = rw read all-pairs;
-            none-twice = rw read handed-once;
-            beyond =
-                rw (read, length-map, list)
-                (drop-at (pairs (w .entries) ns) (drop (length ns * 2) lent) (length ns * 2) (length-pairs (w .entries) ns));
+            number = cc;
+            values = cc;
+            answered =
+                λ z.
+                pairs-handed (event c o) (ap (λ (o : Outcome). getD (o .reply .values) 1 0) e) (ap (λ (o : Outcome). o .lent) e);
+            refused = λ n. absurd (n (cc));
+          }
+      by false e f =
+          record {
+            number = cc;
+            values = cc;
+            answered = λ z. absurd (omega (arith, ap (λ (o : Outcome). o .reply .number) e));
+            refused = λ n. cc;
           }
 
-      pub scan-predicted : AsPredicted l i (event (Call.scan cursor lent) (perform w (Call.scan cursor lent)))
-      unfolding event kept reply
-      scan-predicted = by (enough w cursor lent) (perform w (Call.scan cursor lent)) (walk-call w u cursor lent) predicted
-        where
-          by : (t : Bool) (o : Outcome) → o ≡ cond t (handsOut w cursor lent) (isShort w cursor lent)
-              → predict l i (Call.scan cursor lent)
-              ≡ cond t
-              (reply 0 (handsOut w cursor lent .reply .values) i)
-              (reply 9 (isShort w cursor lent .reply .values) i)
-              → AsPredicted l i (event (Call.scan cursor lent) o)
-          by true o e f =
-              record {
-                number = cc;
-                values = λ c. cc;
-                answered-walk =
-                    λ cursor′ lent′ c z.
-                    subst₂ (WalkCall i (event (Call.scan cursor lent) o)) (cc) (cc)
-                    (walk-holds (event (Call.scan cursor lent) o)
-                    (ap (λ (o : Outcome). getD (o .reply .values) 1 0) e) (ap (λ (o : Outcome). o .lent) e));
-                refused-walk = λ cursor′ lent′ c n. absurd (n (cc));
-              }
-          by false o e f =
-              record {
-                number = cc;
-                values = λ c. cc;
-                answered-walk = λ cursor′ lent′ c z. absurd (omega (arith, ap (λ (o : Outcome). o .reply .number) e));
-                refused-walk = λ cursor′ lent′ c n. cc;
-              }
+-- ---- the walk call
+
+module _ (l : Lengths) (w : World) (i : Ideal) (u : UndamagedAt w) (m : Matches l w i) (cursor : ℕ) where
+  -- the pairs of the group's entries are due
+  group-due : Due w (groupPairs i cursor) (groupEntries w cursor)
+  unfolding groupPairs
+  group-due =
+      rw (group-entries w u cursor)
+      (held-due l w i u m (places w cursor) (group-buckets w u cursor) (λ (p : Pair). inGroup i cursor (p .key))
+      (λ key value h.
+      subst₂ (λ (p : Place) (t : Tables). Tells (In p (groupPlaces t cursor)) (inGroup i cursor key))
+      (held-place l w i u m h) (sym (m .tables)) (tells-in-group i cursor key)))
+
+  module _ (lent : List ℕ) where
+    predicted : predict l i (Call.scan cursor lent)
+        ≡ handAnswer i (nextOf w cursor) (length (groupPairs i cursor)) (length lent)
+    unfolding predict
+    predicted =
+        let legal = tables-legal (w .state) _ _ _ (world-sound w u) in
+        rw (m .contents .count, ← m .tables, ← published (tablesOf (w .state)) legal cursor)
+
+    pub scan-predicted : AsPredicted l i (event (Call.scan cursor lent) (perform w (Call.scan cursor lent)))
+    unfolding event
+    scan-predicted =
+        let e = event (Call.scan cursor lent) (perform w (Call.scan cursor lent)) in
+        let h : AnswersDue l i (groupPairs i cursor) lent e =
+        hands-due w (groupPairs i cursor) (groupEntries w cursor) group-due lent l i (Call.scan cursor lent)
+        (perform w (Call.scan cursor lent)) (nextOf w cursor) (walk-call w u cursor lent) predicted in
+        record {
+          number = h .number;
+          values = λ c. h .values;
+          answered-walk =
+              λ cursor′ lent′ c z.
+              subst₂ (λ (k : ℕ) (list : List ℕ). HandsPairs (groupPairs i k) e list) (cc) (cc) (h .answered z);
+          refused-walk = λ cursor′ lent′ c n. h .refused n ∙ cc;
+          answered-pass = λ place lent′ c z. let z : _≡_ {A = ℕ} 0 1 = cc in absurd (omega arith);
+          refused-pass = λ place lent′ c n. let z : _≡_ {A = ℕ} 0 1 = cc in absurd (omega arith);
+        }

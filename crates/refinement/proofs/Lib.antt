@@ -31,6 +31,7 @@ pub mod GroupPlaces
 pub mod BucketEntries
 pub mod GroupEntries
 pub mod WalkCalls
+pub mod PassCalls
 pub mod Contents
 pub mod Counts
 pub mod Trails

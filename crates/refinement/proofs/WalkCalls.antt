@@ -11,7 +11,7 @@ use lib.ListN.{length, drop, getD, length-map}
 use lib.Seq.{drop-at}
 use Rattle.cursor.specs.Member.{In, Distinct, keep}
 use Rattle.model.specs.Memory.{Place, sizeOf}
-use Rattle.model.specs.Answers.{Reply, reply}
+use Rattle.model.specs.Answers.{reply}
 use Rattle.model.specs.Walk.{Tables, tablesOf, groupPlaces, pairs}
 use Rattle.model.specs.Sequences.{World, Call, Outcome, kept, perform, Event, event, Pair, keysOf}
 use Rattle.model.proofs.Pairs.{length-pairs}
@@ -19,7 +19,7 @@ use Rattle.model.proofs.Shared.{in-its-bucket}
 use Rattle.model.proofs.Tests.{Tells, told, tested}
 use Rattle.refinement.specs.Worlds.{current, other, UndamagedAt, Held}
 use Rattle.refinement.specs.Demand2.{groupEntries, handing}
-use Rattle.refinement.specs.Demand3.{Lengths, Ideal, inGroup, groupPairs, handAnswer, predict, pairsIn, handedOut, HandsPairs, AsPredicted, Matches}
+use Rattle.refinement.specs.Demand3.{Lengths, Ideal, inGroup, groupPairs, placePairs, handAnswer, predict, pairsIn, handedOut, HandsPairs, AsPredicted, Matches}
 use Rattle.invariant.proofs.Lists.{of-distinct-map, same-length, in-keep, of-keep, distinct-keep}
 use Rattle.refinement.proofs.LiveTables.{Buckets, tables-legal, tables-sizes}
 use Rattle.refinement.proofs.GroupPlaces.{placeIn, size-in, tells-in-group, published}
@@ -144,6 +144,25 @@ module _ (w : World) (due : List Pair) (ns : List ℕ) (d : Due w due ns) (lent 
             refused = λ n. cc;
           }
 
+-- whichever of the two calls it is
+pub due-predicted : (l : Lengths) (i : Ideal) (due : List Pair) (lent : List ℕ) (e : Event) → AnswersDue l i due lent e
+    → ((cursor : ℕ) (list : List ℕ) → e .call ≡ Call.scan cursor list → (due ≡ groupPairs i cursor) × (lent ≡ list))
+    → ((place : ℕ) (list : List ℕ) → e .call ≡ Call.iterate place list → (due ≡ placePairs i place) × (lent ≡ list))
+    → AsPredicted l i e
+due-predicted l i due lent e h walk pass =
+    record {
+      number = h .number;
+      values = λ c. h .values;
+      answered-walk = λ cursor list c z. handed (walk cursor list c) z;
+      refused-walk = λ cursor list c n. h .refused n ∙ walk cursor list c .1;
+      answered-pass = λ place list c z. handed (pass place list c) z;
+      refused-pass = λ place list c n. h .refused n ∙ pass place list c .1;
+    }
+  where
+    handed : {ps : List Pair} {list : List ℕ} → (due ≡ ps) × (lent ≡ list) → e .number ≡ 0 → HandsPairs ps e list
+    handed same z =
+        subst₂ (λ (ps : List Pair) (list : List ℕ). HandsPairs ps e list) (same .0) (same .1) (h .answered z)
+
 -- ---- the walk call
 
 module _ (l : Lengths) (w : World) (i : Ideal) (u : UndamagedAt w) (m : Matches l w i) (cursor : ℕ) where
@@ -168,17 +187,8 @@ module _ (l : Lengths) (w : World) (i : Ideal) (u : UndamagedAt w) (m : Matches 
     pub scan-predicted : AsPredicted l i (event (Call.scan cursor lent) (perform w (Call.scan cursor lent)))
     unfolding event
     scan-predicted =
-        let e = event (Call.scan cursor lent) (perform w (Call.scan cursor lent)) in
-        let h : AnswersDue l i (groupPairs i cursor) lent e =
-        hands-due w (groupPairs i cursor) (groupEntries w cursor) group-due lent l i (Call.scan cursor lent)
-        (perform w (Call.scan cursor lent)) (nextOf w cursor) (walk-call w u cursor lent) predicted in
-        record {
-          number = h .number;
-          values = λ c. h .values;
-          answered-walk =
-              λ cursor′ lent′ c z.
-              subst₂ (λ (k : ℕ) (list : List ℕ). HandsPairs (groupPairs i k) e list) (cc) (cc) (h .answered z);
-          refused-walk = λ cursor′ lent′ c n. h .refused n ∙ cc;
-          answered-pass = λ place lent′ c z. let z : _≡_ {A = ℕ} 0 1 = cc in absurd (omega arith);
-          refused-pass = λ place lent′ c n. let z : _≡_ {A = ℕ} 0 1 = cc in absurd (omega arith);
-        }
+        due-predicted l i (groupPairs i cursor) lent _
+        (hands-due w (groupPairs i cursor) (groupEntries w cursor) group-due lent l i (Call.scan cursor lent)
+        (perform w (Call.scan cursor lent)) (nextOf w cursor) (walk-call w u cursor lent) predicted)
+        (λ cursor′ list c. (cc, cc))
+        (λ place list c. let z : _≡_ {A = ℕ} 0 1 = cc in absurd (omega arith))

@@ -1,6 +1,7 @@
 // Whether a state is sound, and a key's bucket.
 use model::LARGEST_CAPACITY;
 use model::LARGEST_SIZE;
+use model::MOST_SAFE_ITERATORS;
 use model::State;
 ghost use mathlib.Core.Path.{_≡_};
 ghost use mathlib.Core.Bool.{true, cond};
@@ -41,6 +42,7 @@ fn is_sound_base(current: usize, entries: usize, s: State) -> bool
         & is_sound_table(current, s.old_size)
         & (held <= s.capacity as u64)
         & (s.free_head <= s.capacity)
+        & (s.safe_iterators <= MOST_SAFE_ITERATORS)
 }
 
 // The lent buffers enter by their lengths. The two cases part first, so that one call tests one of them.

@@ -17,7 +17,7 @@ use Rattle.model.specs.declared.Ahead.{Ahead}
 use Rattle.model.specs.declared.StepAnswer.{StepAnswer}
 use Rattle.model.specs.Limits.{legalSize}
 use Rattle.model.specs.Memory.{sizeOf, usedOf, bucketsOf, chain, headAt, budgetAt, belongs, chainAt, listed, soundState}
-use Rattle.model.specs.Calls.{After, Chains, stateOf, oldNew, retabled, moved, advanced, finished, settled, stepDone, movedChain, movedFrom, ahead, aheadOf, stepped}
+use Rattle.model.specs.Calls.{After, Chains, stateOf, oldNew, retabled, moved, advanced, finished, settled, stepDone, movedChain, movedFrom, ahead, aheadOf, stepTaken, stepped}
 use Rattle.model.proofs.Soundness.{Sound, tested-sound}
 use Rattle.model.proofs.StepAhead.{filled-below}
 use Rattle.model.proofs.Linked.{Linked, room, read-sound, linked-wider}
@@ -26,6 +26,7 @@ use Rattle.memory.specs.Length.{lengthOf}
 use Rattle.memory.proofs.Counted.{counted, uncounted}
 use Rattle.dict_rehash.specs.declared.rehash.Progress.{Progress}
 use Rattle.dict_rehash.specs.Progress.{stepAnswer, stepRoom, oldChain, chains, ChainOf, ChainMoved}
+use Rattle.dict_rehash.proofs.Due.{is-paused, due-of, stepped-by, due-stepped}
 
 -- what a sound state says of the two tables during a rehash
 module _ (s : State) (current other entries : ℕ) (h : Sound s current other entries) (e : s .rehashing ≡ true) where
@@ -108,11 +109,6 @@ pub none-moved : (s : State) (current other entries : ℕ) → Sound s current o
 unfolding stepRoom
 none-moved s current other entries h next = (omega arith, omega (arith, h .used-fits))
 
-pub none-moved-tested : (s : State) (current other entries : ℕ) (r : Bool) → r ≡ soundState current other entries s → r ≡ true
-    → (next : ℕ) → stepRoom s (Progress.Moved 0 next)
-none-moved-tested s current other entries r e h next =
-    none-moved s current other entries (tested-sound s current other entries r e h) next
-
 -- a filled bucket lies in the old table
 pub next-below : (r : Ahead) (buckets : List ℕ) (from size visits : ℕ) → r ≡ ahead buckets from (size - from) visits
     → from ≤ size → (b : ℕ) → r ≡ Ahead.Filled b → b < size
@@ -135,6 +131,19 @@ module _ (s : State) (current other entries : List ℕ) (r o : Ahead) (f : r ≡
   unfolding movedFrom chainAt headAt budgetAt belongs sizeOf usedOf bucketsOf
   next-filled b e a h = rw (← f, e) h
 
+-- ---- a step that is taken
+
+module _ (s : State) (current other entries : List ℕ) where
+  pub step-finished : s .«old_used» ≡ 0
+      → After.after (stepAnswer s (Progress.Moved 0 (s .«rehash_index»))) current other entries ≡ stepTaken s current other entries
+  unfolding stepTaken stepAnswer
+  step-finished z = rw (eq-eqb (s .«old_used») 0 z)
+
+  pub step-moved : (a : After StepAnswer) → (s .«old_used» ≡ 0 → ⊥) → a ≡ movedFrom s current other entries (aheadOf s current)
+      → a ≡ stepTaken s current other entries
+  unfolding stepTaken
+  step-moved a z d = rw (ne-eqb (s .«old_used») 0 z) d
+
 -- ---- a step in a sound state
 
 module _ (s : State) (current other entries : List ℕ) where
@@ -144,17 +153,15 @@ module _ (s : State) (current other entries : List ℕ) where
   unfolding stepped stepAnswer
   step-resting p = rw p
 
-  pub step-finished : s .rehashing ≡ true → s .«old_used» ≡ 0
-      → After.after (stepAnswer s (Progress.Moved 0 (s .«rehash_index»))) current other entries
+  pub step-paused : s .rehashing ≡ true → (s .«safe_iterators» ≡ 0 → ⊥)
+      → After.after (stepAnswer s (Progress.Refused Error.Paused)) current other entries
       ≡ stepped s current other entries (s .rehashing)
-  unfolding stepped stepAnswer
-  step-finished p z = rw (p, eq-eqb (s .«old_used») 0 z)
+  unfolding stepAnswer
+  step-paused p i = stepped-by s current other entries p true (is-paused s i)
 
-  pub step-moved : (a : After StepAnswer) → s .rehashing ≡ true → (s .«old_used» ≡ 0 → ⊥)
-      → a ≡ movedFrom s current other entries (aheadOf s current)
+  pub step-due : (a : After StepAnswer) → s .rehashing ≡ true → s .«safe_iterators» ≡ 0 → a ≡ stepTaken s current other entries
       → a ≡ stepped s current other entries (s .rehashing)
-  unfolding stepped
-  step-moved a p z d = (rw (ne-eqb (s .«old_used») 0 z) d) ∙ ap (stepped s current other entries) (sym p)
+  step-due a p i d = d ∙ due-stepped s (due-of s p i) current other entries
 
 -- ---- the state then
 

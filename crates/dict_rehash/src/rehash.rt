@@ -130,8 +130,24 @@ fn move_next(current: &mut [u32], other: &mut [u32], entries: &mut [u32], s: Sta
     }
 }
 
+// During a rehash that no safe iterator holds up. With no keys in the old table the step only ends the rehash. (Public for an
+// add, which has made the tests by then.)
+pub fn take_step(current: &mut [u32], other: &mut [u32], entries: &mut [u32], s: State) -> Progress
+    requires { ⌜ Sound s (length (now current)) (length (now other)) (length (now entries)) ⌝ }
+    requires { ⌜ s .rehashing ≡ true ⌝ }
+    ensures { λ r. ⌜ after (stepAnswer s r) (now (current .exit)) (now (other .exit)) (now (entries .exit))
+        ≡ calls.stepTaken s (now (current .entry)) (now (other .entry)) (now (entries .entry)) ⌝ }
+    ensures { λ r. ⌜ stepRoom s r ⌝ }
+{
+    if s.old_used == 0 {
+        Progress::Moved(0, s.rehash_index)
+    } else {
+        move_next(current, other, entries, s)
+    }
+}
+
 // On the current and the other bucket buffer: the tests in the order of the answers.
-pub fn step_in(current: &mut [u32], other: &mut [u32], entries: &mut [u32], s: State) -> Progress
+fn step_in(current: &mut [u32], other: &mut [u32], entries: &mut [u32], s: State) -> Progress
     ensures { λ r. ⌜ after (stepAnswer s r) (now (current .exit)) (now (other .exit)) (now (entries .exit))
         ≡ calls.checked s (now (entries .entry)) (λ c o. after (answer.Refused why.BadState) c o (now (entries .entry)))
         (λ c o. calls.stepped s c o (now (entries .entry)) (s .rehashing)) (now (current .entry)) (now (other .entry)) ⌝ }
@@ -139,10 +155,10 @@ pub fn step_in(current: &mut [u32], other: &mut [u32], entries: &mut [u32], s: S
 {
     if is_sound(current.len(), other.len(), entries.len(), s) {
         if s.rehashing {
-            if s.old_used == 0 {
-                Progress::Moved(0, s.rehash_index)
+            if s.safe_iterators == 0 {
+                take_step(current, other, entries, s)
             } else {
-                move_next(current, other, entries, s)
+                Progress::Refused(Error::Paused)
             }
         } else {
             Progress::Refused(Error::NotRehashing)

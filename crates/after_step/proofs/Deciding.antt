@@ -19,7 +19,7 @@ use Rattle.model.specs.declared.StepAnswer.{StepAnswer}
 use Rattle.model.specs.Keys.{bucketOf}
 use Rattle.model.specs.Limits.{legalSize}
 use Rattle.model.specs.Memory.{sizeOf, usedOf, bucketsOf, inBucket, headAt, budgetAt, belongs, chainAt}
-use Rattle.model.specs.Calls.{After, oriented, back, both, ahead, movedChain, movedFrom, aheadOf, stepped, rehashStep}
+use Rattle.model.specs.Calls.{After, oriented, back, both, ahead, movedChain, movedFrom, aheadOf, stepTaken, stepped, rehashStep, stepDue}
 use Rattle.model.proofs.Linked.{read-sound}
 use Rattle.model.proofs.Shared.{lastOr}
 use Rattle.model.proofs.Soundness.{Sound}
@@ -31,6 +31,7 @@ use Rattle.search.specs.declared.found.Found.{Found}
 use Rattle.search.specs.Found.{foundOf}
 use Rattle.search.specs.Tables.{searchedIn}
 use Rattle.dict_rehash.specs.Progress.{oldChain}
+use Rattle.dict_rehash.proofs.Due.{due-stepped}
 use Rattle.after_step.specs.declared.presence.Presence.{Presence}
 use Rattle.after_step.specs.declared.presence.Survey.{Survey}
 use Rattle.after_step.specs.Presence.{presence, presenceAfter, presenceThen}
@@ -202,49 +203,45 @@ module _ (s : State) (key : ℕ) (current other entries : List ℕ) (r o : Ahead
 
 -- ---- the step
 
-module _ (s : State) (key : ℕ) (current other entries : List ℕ) (e : s .rehashing ≡ true) where
-  abbrev then : Bool → Presence
-  then t = presenceThen key (s .«second_is_current») (stepped s current other entries t)
-
+module _ (s : State) (key : ℕ) (current other entries : List ℕ) where
   pub step-ended : s .«old_used» ≡ 0 → (y : Found) (x : Presence)
       → ((t : Table) → y ≡ foundOf (searchedIn entries (s .capacity) (s .«new_used») other (s .«new_size») key t))
-      → x ≡ foundPresence y
-      → x ≡ presenceThen key (s .«second_is_current») (stepped s current other entries (s .rehashing))
-  unfolding stepped
+      → x ≡ foundPresence y → x ≡ presenceThen key (s .«second_is_current») (stepTaken s current other entries)
+  unfolding stepTaken
   step-ended z y x g h =
       presence-entry y entries (s .capacity) (s .«new_used») other (s .«new_size») key x g h Table.New
       ∙ sym (then-ended s key current other entries z (s .«rehash_index») Table.New)
       ∙ (rw (eq-eqb (s .«old_used») 0 z) refl)
-      ∙ ap then (sym e)
 
   pub step-ahead : (s .«old_used» ≡ 0 → ⊥) → (x : Presence)
       → x ≡ presenceThen key (s .«second_is_current») (movedFrom s current other entries (aheadOf s current))
-      → x ≡ presenceThen key (s .«second_is_current») (stepped s current other entries (s .rehashing))
-  unfolding stepped
-  step-ahead z x h = (rw (ne-eqb (s .«old_used») 0 z) h) ∙ ap then (sym e)
+      → x ≡ presenceThen key (s .«second_is_current») (stepTaken s current other entries)
+  unfolding stepTaken
+  step-ahead z x h = rw (ne-eqb (s .«old_used») 0 z) h
 
--- on the lent buffers
+-- on the lent buffers, where a step is due
 
 module _ (s : State) (key : ℕ) (first second entries : List ℕ)
-    (h : soundLent (length first) (length second) (length entries) s ≡ true) where
+    (h : soundLent (length first) (length second) (length entries) s ≡ true) (d : stepDue s ≡ true) where
   abbrev step : List ℕ → List ℕ → After StepAnswer
   step current other = stepped s current other entries (s .rehashing)
 
-  lent : (x : Presence) (a : After StepAnswer) → a ≡ oriented (s .«second_is_current») step first second
-      → x ≡ presenceThen key (s .«second_is_current») a → x ≡ presenceAfter key (rehashStep s first second entries)
+  lent : (current other : List ℕ) → step current other ≡ oriented (s .«second_is_current») step first second → (x : Presence)
+      → x ≡ presenceThen key (s .«second_is_current») (stepTaken s current other entries)
+      → x ≡ presenceAfter key (rehashStep s first second entries)
   unfolding presenceThen rehashStep
-  lent x a o e =
+  lent current other o x e =
       e
-      ∙ ap (λ (d : After StepAnswer). presenceAfter key (back (s .«second_is_current») d)) o
+      ∙ ap (λ (a : After StepAnswer). presenceAfter key (back (s .«second_is_current») a)) (due-stepped s d current other entries ∙ o)
       ∙ ap (presenceAfter key)
       (writing-sound s first second entries true (sym h) (StepAnswer.Refused Error.BadState) step _ refl refl)
 
   pub lent-first-step : s .«second_is_current» ≡ false → (x : Presence)
-      → x ≡ presenceThen key (s .«second_is_current») (stepped s first second entries (s .rehashing))
+      → x ≡ presenceThen key (s .«second_is_current») (stepTaken s first second entries)
       → x ≡ presenceAfter key (rehashStep s first second entries)
-  lent-first-step f x e = lent x (step first second) (read-first _ step first second _ f refl) e
+  lent-first-step f x e = lent first second (read-first _ step first second _ f refl) x e
 
   pub lent-second-step : s .«second_is_current» ≡ true → (x : Presence)
-      → x ≡ presenceThen key (s .«second_is_current») (stepped s second first entries (s .rehashing))
+      → x ≡ presenceThen key (s .«second_is_current») (stepTaken s second first entries)
       → x ≡ presenceAfter key (rehashStep s first second entries)
-  lent-second-step f x e = lent x (step second first) (read-second _ step first second _ f refl) e
+  lent-second-step f x e = lent second first (read-second _ step first second _ f refl) x e

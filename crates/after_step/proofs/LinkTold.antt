@@ -2,15 +2,14 @@
 -- next bucket on, and the whole step.
 -- Assumes nothing.
 use Prim.Native.Nat.{ℕ}
-use mathlib.Core.Path.{_≡_, sym, ap, _∙_}
-use mathlib.Core.Bool.{Bool, true}
+use mathlib.Core.Path.{_≡_}
 use mathlib.Core.List.{List}
 use lib.ListN.{length, getD}
 use borrow.Author.Tests.{eq-eqb, ne-eqb}
 use Rattle.model.specs.declared.State.{State}
 use Rattle.model.specs.declared.Ahead.{Ahead}
 use Rattle.model.specs.Memory.{linkOf, sizeOf, usedOf, bucketsOf, headAt, budgetAt, belongs, chainAt, listed}
-use Rattle.model.specs.Calls.{movedChain, movedFrom, aheadOf, stepped}
+use Rattle.model.specs.Calls.{movedChain, movedFrom, aheadOf, stepTaken}
 use Rattle.model.proofs.Soundness.{Sound}
 use Rattle.memory.specs.declared.chain.ChainLength.{ChainLength}
 use Rattle.memory.specs.Length.{lengthOf}
@@ -57,16 +56,13 @@ module _ (s : State) (current other entries : List ℕ) (n link : ℕ) where
     link-filled b a l = rw (← e, a) l
 
   -- the step
-  module _ (p : s .rehashing ≡ true) where
-    pub link-finished : s .«old_used» ≡ 0 → link ≡ linkOf entries n
-        → link ≡ linkOf (entriesAfter (stepped s current other entries (s .rehashing))) n
-    unfolding entriesAfter stepped
-    link-finished z l = rw (p, eq-eqb (s .«old_used») 0 z) l
+  pub link-finished : s .«old_used» ≡ 0 → link ≡ linkOf entries n
+      → link ≡ linkOf (entriesAfter (stepTaken s current other entries)) n
+  unfolding entriesAfter stepTaken
+  link-finished z l = rw (eq-eqb (s .«old_used») 0 z) l
 
-    pub link-going : (s .«old_used» ≡ 0 → ⊥)
-        → link ≡ linkOf (entriesAfter (movedFrom s current other entries (aheadOf s current))) n
-        → link ≡ linkOf (entriesAfter (stepped s current other entries (s .rehashing))) n
-    unfolding stepped
-    link-going z l =
-        (rw (ne-eqb (s .«old_used») 0 z) l)
-        ∙ ap (λ (f : Bool). linkOf (entriesAfter (stepped s current other entries f)) n) (sym p)
+  pub link-going : (s .«old_used» ≡ 0 → ⊥)
+      → link ≡ linkOf (entriesAfter (movedFrom s current other entries (aheadOf s current))) n
+      → link ≡ linkOf (entriesAfter (stepTaken s current other entries)) n
+  unfolding stepTaken
+  link-going z l = rw (ne-eqb (s .«old_used») 0 z) l

@@ -11,12 +11,13 @@ use Rattle.model.specs.declared.Table.{Table}
 use Rattle.model.specs.declared.Error.{Error}
 use Rattle.model.specs.declared.Lookup.{Lookup}
 use Rattle.model.specs.declared.StepAnswer.{StepAnswer}
-use Rattle.model.specs.Calls.{After, sound, oriented, back, writing, lookup, rehashStep, unlessRefused, callAfter, stepFirst}
+use Rattle.model.specs.Calls.{After, sound, oriented, back, writing, lookup, rehashStep, unlessRefused, callAfter, stepDue, stepFirst}
 use Rattle.model.proofs.StepLeaves.{Follows, RehashLeaves, rehash-leaves}
 use Rattle.model.proofs.StepFirst.{resting-first, stepping-first}
 use Rattle.memory.specs.Lent.{soundLent}
 use Rattle.memory.proofs.Orientation.{lent-oriented, writing-refused, writing-sound}
 use Rattle.search.specs.Tables.{lookupLent}
+use Rattle.dict_rehash.proofs.Due.{due-rehashing, due-unpaused}
 use Rattle.after_step.specs.declared.presence.Presence.{Presence}
 use Rattle.after_step.specs.Presence.{presence, presenceAfter, entriesAfter}
 use Rattle.after_step.specs.Planned.{Planned}
@@ -69,9 +70,9 @@ is-held (Lookup.At t before n) e = (t, before, n, refl)
 -- ---- the world after an answered step
 
 module _ (s : State) (first second entries : List ℕ) (h : soundLent (length first) (length second) (length entries) s ≡ true)
-    (e : s .rehashing ≡ true) where
+    (e : stepDue s ≡ true) where
   leaves : RehashLeaves s first second entries (rehashStep s first second entries)
-  leaves = rehash-leaves s first second entries e (sym (lent-oriented s first second entries) ∙ h)
+  leaves = rehash-leaves s first second entries (due-rehashing s e) (due-unpaused s e) (sym (lent-oriented s first second entries) ∙ h)
 
   module _ (count : ℕ) (t : State) (x y z : List ℕ)
       (r : After.after (StepAnswer.Stepped count t) x y z ≡ rehashStep s first second entries) where
@@ -110,8 +111,8 @@ module _ (s : State) (first second entries : List ℕ) (key : ℕ) (v : Presence
         let taken : After.after (StepAnswer.Stepped count t) x y z ≡ rehashStep s first second entries = rw d at e in
         record {
           step = taken;
-          sound = stepped-sound s first second entries (p .sound) (p .rehashing) count t x y z taken;
-          follows = stepped-follows s first second entries (p .sound) (p .rehashing) count t x y z taken;
+          sound = stepped-sound s first second entries (p .sound) (p .due) count t x y z taken;
+          follows = stepped-follows s first second entries (p .sound) (p .due) count t x y z taken;
           told = p .told ∙ ap (presenceAfter key) (sym taken);
         }
 
@@ -122,16 +123,17 @@ module _ (s : State) (first second entries : List ℕ) (key : ℕ) (v : Presence
 
 module _ {A : Type 0} (refused : Error → A) (done : A → Bool) (call : State → List ℕ → List ℕ → List ℕ → After A) (s : State)
     (first second entries : List ℕ) where
-  pub first-resting : (r : After A) → s .rehashing ≡ false → r ≡ call s first second entries
+  -- no step is due
+  pub first-alone : (r : After A) → stepDue s ≡ false → r ≡ call s first second entries
       → r ≡ stepFirst refused done call s first second entries
-  first-resting r e h = h ∙ resting-first refused done call s first second entries e
+  first-alone r e h = h ∙ resting-first refused done call s first second entries e
 
   -- a state that is not sound: neither the step nor the call goes further than its test
   pub first-unsound : (t : Bool) → t ≡ soundLent (length first) (length second) (length entries) s → t ≡ false
       → After.after (refused Error.BadState) first second entries ≡ call s first second entries
       → After.after (refused Error.BadState) first second entries ≡ stepFirst refused done call s first second entries
   unfolding stepFirst callAfter rehashStep
-  first-unsound t e f h = by (s .rehashing)
+  first-unsound t e f h = by (stepDue s)
     where
       stopped : After.after (StepAnswer.Refused Error.BadState) first second entries ≡ rehashStep s first second entries
       stopped = writing-refused s first second entries t e (StepAnswer.Refused Error.BadState) _ f
@@ -142,7 +144,7 @@ module _ {A : Type 0} (refused : Error → A) (done : A → Bool) (call : State 
       by true = ap (callAfter refused done call first second entries) stopped
       by false = h
 
-  module _ (e : s .rehashing ≡ true) where
+  module _ (e : stepDue s ≡ true) where
     -- the step is taken, and then the call
     pub first-done : (count : ℕ) (t : State) (x y z : List ℕ) (a : A) (p q w : List ℕ)
         → After.after (StepAnswer.Stepped count t) x y z ≡ rehashStep s first second entries

@@ -73,7 +73,7 @@ pub fn link_after_step(current: &[u32], other: &[u32], entries: &[u32], s: State
     requires { ⌜ s .rehashing ≡ true ⌝ }
     requires { ⌜ (0 < n) × (n ≤ s .capacity) ⌝ }
     ensures { λ r. ⌜ r ≡ linkOf (entriesAfter
-        (calls.stepped s (now (current .entry)) (now (other .entry)) (now (entries .entry)) (s .rehashing))) n ⌝ }
+        (calls.stepTaken s (now (current .entry)) (now (other .entry)) (now (entries .entry)))) n ⌝ }
 {
     if s.old_used == 0 {
         return link_of(entries, n);

@@ -295,8 +295,8 @@ fn presence_ahead(current: &[u32], other: &[u32], entries: &[u32], s: State, key
 pub fn presence_in(current: &[u32], other: &[u32], entries: &[u32], s: State, key: u32) -> Presence
     requires { ⌜ Sound s (length (now current)) (length (now other)) (length (now entries)) ⌝ }
     requires { ⌜ s .rehashing ≡ true ⌝ }
-    ensures { λ r. ⌜ r ≡ presenceThen key (s .«second_is_current») (calls.stepped s (now (current .entry)) (now (other .entry))
-        (now (entries .entry)) (s .rehashing)) ⌝ }
+    ensures { λ r. ⌜ r ≡ presenceThen key (s .«second_is_current»)
+        (calls.stepTaken s (now (current .entry)) (now (other .entry)) (now (entries .entry))) ⌝ }
 {
     if s.old_used == 0 {
         presence_of(entry_in(entries, s.capacity, s.new_used, other, s.new_size, key))
@@ -314,7 +314,7 @@ pub fn presence_after_step(
     key: u32,
 ) -> Presence
     requires { ⌜ soundLent (length (now first)) (length (now second)) (length (now entries)) s ≡ true ⌝ }
-    requires { ⌜ s .rehashing ≡ true ⌝ }
+    requires { ⌜ calls.stepDue s ≡ true ⌝ }
     ensures { λ r. ⌜ r ≡ presenceAfter key (calls.rehashStep s (now (first .entry)) (now (second .entry)) (now (entries .entry))) ⌝ }
 {
     if s.second_is_current {

@@ -2,6 +2,7 @@
 -- Assumes nothing.
 use borrow.Author.Needs.{needs}
 use Rattle.memory.proofs.Tested.{lent-first, lent-second}
+use Rattle.dict_rehash.proofs.Due.{due-rehashing}
 use Rattle.after_step.proofs.Deciding.{lent-first-step, lent-second-step}
 use Rattle.after_step.proofs.presence.presence_after_step.Statement.{statement}
 use Rattle.after_step.proofs.presence.presence_after_step.Tie as tie
@@ -10,7 +11,7 @@ pub presence-after-step-spec : {M : Type 1} → statement M
 presence-after-step-spec =
     tie.close
     (tie.spec
-    (λ c κs. (search lent-second, search needs))
-    (λ c κs. (search lent-first, search needs))
+    (λ c κs. (search lent-second, search due-rehashing))
+    (λ c κs. (search lent-first, search due-rehashing))
     (λ c. search lent-second-step)
     (λ c. search lent-first-step))

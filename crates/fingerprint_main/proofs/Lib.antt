@@ -1,0 +1,2 @@
+-- How the bytes of an array become its numbers.
+mod Reading

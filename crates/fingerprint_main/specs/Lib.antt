@@ -1,0 +1,2 @@
+-- How the program's input is read.
+pub mod Input

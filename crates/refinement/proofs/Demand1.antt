@@ -13,10 +13,10 @@ use Rattle.model.specs.Sequences.{World, Call, Outcome, kept, perform}
 use Rattle.model.proofs.Soundness.{sound-facts}
 use Rattle.refinement.specs.Worlds.{current, other, UndamagedAt}
 use Rattle.refinement.specs.Demand1.{BadState, GroupDamaged, Row, row, rows, Decides, Demand1}
-use Rattle.refinement.specs.Demand2.{handing}
+use Rattle.refinement.specs.Demand2.{groupEntries, handing}
 use Rattle.refinement.proofs.Demand1Calls.{decides, leaves}
 use Rattle.refinement.proofs.Demand1Steps.{good}
-use Rattle.refinement.proofs.GroupEntries.{enough, isShort, handsOrShort, walk-call}
+use Rattle.refinement.proofs.GroupEntries.{enough, isShort, handsOrShort, nextOf, walk-call}
 
 -- Demand 1.
 pub demand1 : Demand1 perform
@@ -62,7 +62,8 @@ hands-undamaged w lent next ns o bad damaged rs = by (enough w lent next ns)
 pub never-damaged : (w : World) → UndamagedAt w → (cursor : ℕ) → ¬ GroupDamaged w cursor
 unfolding rows
 never-damaged w u cursor =
-    hands-undamaged w [] _ _ _ _ _ _ (walk-call w u cursor []) (demand1 .numbers w (Call.scan cursor []))
+    hands-undamaged w [] (nextOf w cursor) (groupEntries w cursor) _ _ _ _ (walk-call w u cursor [])
+    (demand1 .numbers w (Call.scan cursor []))
 
 -- the state of zeros is no store: every call but init tests the state first, and refuses it
 

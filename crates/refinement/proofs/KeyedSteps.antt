@@ -61,7 +61,7 @@ module _ (w : World) (i : Ideal) (a : Agrees w i) where
   still qs = keep (λ k. among k (keysOf qs)) (i .unmoved)
 
   abbrev with-pairs : List Pair → Ideal
-  with-pairs qs = ideal (withPairs (i .plain) qs) (i .tables) (i .turned) (still qs) (i .index) (i .allowed)
+  with-pairs qs = ideal (withPairs (i .plain) qs) (i .tables) (i .turned) (still qs) (i .index) (i .allowed) (i .iterators)
 
   -- an unmoved key has a pair
   unmoved-held : (k : ℕ) → In k (i .unmoved) → In k (keysOf ps)
@@ -104,6 +104,7 @@ module _ (w : World) (i : Ideal) (a : Agrees w i) where
         turned = a .turned;
         next = a .index;
         allowed = a .allowed;
+        iterators = a .iterators;
         in-map = p .in-map;
         in-store = p .in-store;
         in-unmoved =
@@ -134,7 +135,7 @@ module _ (w : World) (i : Ideal) (a : Agrees w i) where
           number = number;
           values = values;
           agrees =
-              subst (λ (ks : List ℕ). Agrees (carry w o) (ideal (i .plain) (i .tables) (i .turned) ks (i .index) (i .allowed))) (sym all-still)
+              subst (λ (ks : List ℕ). Agrees (carry w o) (ideal (i .plain) (i .tables) (i .turned) ks (i .index) (i .allowed) (i .iterators))) (sym all-still)
               (subst (λ (v : World). Agrees v i) (sym world) a);
         })
 

@@ -1,5 +1,6 @@
--- One rehash step on a store that agrees with the ideal: refused with one live table; else it moves the chain of the first
--- filled bucket, or passes empty ones, or finds no keys in the old table; and with no keys left there the rehash is over.
+-- One rehash step on a store that agrees with the ideal: refused with one live table, and while safe iterators hold it up;
+-- else it moves the chain of the first filled bucket, or passes empty ones, or finds no keys in the old table; and with no
+-- keys left there the rehash is over.
 -- Assumes nothing.
 use Prim.Native.Nat.{ℕ, suc, _+_, _<_, _≤_}
 use mathlib.Core.Path.{_≡_, refl, sym, ap, subst, _∙_}
@@ -21,13 +22,13 @@ use Rattle.model.specs.Answers.{Reply, reply, errorNumber, stepReply}
 use Rattle.model.specs.Keys.{bucketOf}
 use Rattle.model.specs.Limits.{emptyVisits}
 use Rattle.model.specs.Memory.{Place, Live, headAt, sizeOf, bucketsOf, keysHeld, keyPlace}
-use Rattle.model.specs.Calls.{After, Chains, stateOf, oldNew, retabled, advanced, finished, settled, stepDone, movedChain, stepped}
+use Rattle.model.specs.Calls.{After, Chains, stateOf, oldNew, retabled, advanced, finished, settled, stepDone, movedChain, paused, stepped}
 use Rattle.model.specs.Calls as calls
 use Rattle.model.specs.Walk.{Tables, tablesBy, tablesOf}
 use Rattle.model.specs.Sequences.{valueFor, World, Call, given, perform}
 use Rattle.model.proofs.Linked.{Linked}
 use Rattle.refinement.specs.Worlds.{current, other}
-use Rattle.refinement.specs.Demand3.{Lengths, Ideal, ideal, afterStep, stepAnswer, predict}
+use Rattle.refinement.specs.Demand3.{Lengths, Ideal, ideal, afterStep, stepTaken, stepAnswer, predict}
 use Rattle.invariant.proofs.Lists.{in-keep, of-keep, distinct-keep}
 use Rattle.invariant.proofs.Shape.{IsBucket, Shape, facts, shape-sound}
 use Rattle.invariant.proofs.Places.{same, LiveTable, key-bucket, key-live}
@@ -36,9 +37,10 @@ use Rattle.invariant.proofs.FirstEntries.{EmptyBefore, Meets, old-empty, step-m
 use Rattle.invariant.proofs.StoreAfter.{HeldIn, held-as, StoreAfter}
 use Rattle.invariant.proofs.RehashMove.{after, HeldThen, moved-store, passed-store}
 use Rattle.invariant.proofs.RehashEnd.{swappedTable, swappedPlace, finished-shape, finished-at}
-use Rattle.invariant.proofs.CallAnswers.{step-none, step-idle, step-passes, step-moves}
+use Rattle.invariant.proofs.CallAnswers.{step-none, step-paused, step-taken, step-idle, step-passes, step-moves}
 use Rattle.refinement.proofs.Orientation.{worldBy, soundAt, left-reply, left-world}
 use Rattle.refinement.proofs.Refusals.{refused-keeps}
+use Rattle.refinement.proofs.IdealSteps.{by-test}
 use Rattle.refinement.proofs.Agreement.{HeldAt, AgreesOn, Agrees, Steps, leaves, Says, after-agrees, retabled-agrees, kept-agrees, turned-agrees}
 use Rattle.refinement.proofs.MovedKeys.{lowestOf, lowest-reached, called-for, none-unmoved, none-left, not-lower, lowest-first, moved-count}
 
@@ -83,10 +85,10 @@ module _ {s : State} {current other entries : List ℕ} (h : Shape s current oth
 finished-on : {s : State} {current other entries : List ℕ} {i : Ideal} (a : AgreesOn s current other entries i)
     → s .rehashing ≡ true → s .«old_used» ≡ 0
     → AgreesOn (finished s) other current entries
-    (ideal (i .plain) (Tables.one (s .«new_size»)) (not (s .«second_is_current»)) [] 0 (i .allowed))
+    (ideal (i .plain) (Tables.one (s .«new_size»)) (not (s .«second_is_current»)) [] 0 (i .allowed) (i .iterators))
 unfolding finished retabled stateOf oldNew keysHeld tablesOf tablesBy
 finished-on a rehashing none-left =
-    retabled-agrees a (finished-shape (a .shape) rehashing none-left) refl (omega arith) refl
+    retabled-agrees a (finished-shape (a .shape) rehashing none-left) refl (omega arith) refl refl
     (finished-before (a .shape) rehashing none-left) (finished-after (a .shape) rehashing none-left)
     [] (λ key j. absurd j) (λ again key k. let z : _≡_ {A = ℕ} 0 1 = cc in absurd (omega arith)) tt
 
@@ -105,7 +107,7 @@ stored l i says = subst (AgreesAfter i) (sym (l .is)) (after-agrees l i says)
 passed-on : {s : State} {current other entries : List ℕ} {i : Ideal} (a : AgreesOn s current other entries i)
     → s .rehashing ≡ true → (b : ℕ) → b ≤ s .«old_size» → ((c : ℕ) → c < b → getD current c 0 ≡ 0)
     → AgreesOn (advanced s 0 b) current other entries
-    (ideal (i .plain) (Tables.two (s .«old_size») (s .«new_size»)) (i .turned) (i .unmoved) b (i .allowed))
+    (ideal (i .plain) (Tables.two (s .«old_size») (s .«new_size»)) (i .turned) (i .unmoved) b (i .allowed) (i .iterators))
 unfolding ideal tablesOf tablesBy Live IsBucket sizeOf
 passed-on {s} a rehashing b fits empty =
     stored (passed-store (a .shape) rehashing b fits empty) _
@@ -117,6 +119,7 @@ passed-on {s} a rehashing b fits empty =
       turned = a .turned;
       next = refl;
       allowed = a .allowed;
+      iterators = a .iterators;
       in-map = λ t l c k v h. a .in-map k v (record { place = t; live = l; bucket = c; held = h });
       in-store = λ k v e. let h = a .in-store k v e in (h .place, h .live, h .bucket, h .held);
       in-unmoved = λ t c k v l h. a .in-unmoved t k (record { value = v; index = c; live = l; held = h });
@@ -150,7 +153,7 @@ module _ {s : State} {current other entries : List ℕ} {i : Ideal} (a : AgreesO
 
   -- the chain of this one moved
   moved-on : AgreesOn (advanced s (length (a .shape .at from)) (suc b)) (set current b 0) (goneTo .buckets) (goneTo .entries)
-      (ideal (i .plain) (Tables.two (s .«old_size») (s .«new_size»)) (i .turned) (keep stays (i .unmoved)) (suc b) (i .allowed))
+      (ideal (i .plain) (Tables.two (s .«old_size») (s .«new_size»)) (i .turned) (keep stays (i .unmoved)) (suc b) (i .allowed) (i .iterators))
   unfolding keyPlace Live IsBucket sizeOf LiveTable tablesOf tablesBy ideal
   moved-on =
       stored (moved-store (a .shape) rehashing b (before .live) no-head) _
@@ -162,6 +165,7 @@ module _ {s : State} {current other entries : List ℕ} {i : Ideal} (a : AgreesO
         turned = a .turned;
         next = refl;
         allowed = a .allowed;
+        iterators = a .iterators;
         in-map = in-map;
         in-store = in-store;
         in-unmoved = λ t c k v l h. old-only c k v l h;
@@ -215,9 +219,9 @@ movingFrom i old new ks b near =
     (afterStep i old new 0 ks (i .index + emptyVisits))
 
 some-moving : (i : Ideal) (old new : ℕ) (ks : List ℕ) → ks ≢ []
-    → stepAnswer i (Tables.two old new) ks
+    → stepTaken i old new ks
     ≡ movingFrom i old new ks (lowestOf old ks) (ltb (lowestOf old ks) (i .index + emptyVisits))
-unfolding stepAnswer movingFrom lowestOf
+unfolding stepTaken movingFrom lowestOf
 some-moving i old new [] f = absurd (f refl)
 some-moving i old new (k ∷ ks) f = refl
 
@@ -251,14 +255,14 @@ module _ (w : World) (i : Ideal) (a : Agrees w i) where
             agrees;
       }
 
-  refused : s .rehashing ≡ false → Steps w Call.rehashStep (reply 8 (0 ∷ 0 ∷ []) i)
-  unfolding perform given calls.rehashStep stepReply reply errorNumber
-  refused f =
-      let answer = StepAnswer.Refused Error.NotRehashing in
-      let e = step-none (a .shape) f in
-      let replied = left-reply w (stepReply s) bad call sound answer (current w) (other w) (w .entries) e in
-      let number = ap (λ (r : Reply State). r .number) replied in
-      leaves w i a Call.rehashStep 8 (0 ∷ 0 ∷ []) (refused-keeps w Call.rehashStep (λ z. omega (arith, number))) number
+  refused : (error : Error) (n : ℕ) → errorNumber error ≡ suc n
+      → call (current w) (other w) ≡ After.after (StepAnswer.Refused error) (current w) (other w) (w .entries)
+      → Steps w Call.rehashStep (reply (suc n) (0 ∷ 0 ∷ []) i)
+  unfolding perform given calls.rehashStep stepReply reply
+  refused error n is e =
+      let replied = left-reply w (stepReply s) bad call sound (StepAnswer.Refused error) (current w) (other w) (w .entries) e in
+      let number = ap (λ (r : Reply State). r .number) replied ∙ is in
+      leaves w i a Call.rehashStep (suc n) (0 ∷ 0 ∷ []) (refused-keeps w Call.rehashStep (λ z. omega (arith, number))) number
       (λ f. ap (λ (r : Reply State). r .values) replied)
 
   abbrev old : ℕ
@@ -271,14 +275,14 @@ module _ (w : World) (i : Ideal) (a : Agrees w i) where
   -- over, else it goes on.
   module _ (count next : ℕ) (c o e ks : List ℕ)
       (is : call (current w) (other w) ≡ After.after (stepDone s count next) c o e)
-      (then : AgreesOn (advanced s count next) c o e (ideal (i .plain) (Tables.two old new) (i .turned) ks next (i .allowed))) where
+      (then : AgreesOn (advanced s count next) c o e (ideal (i .plain) (Tables.two old new) (i .turned) ks next (i .allowed) (i .iterators))) where
     abbrev t : State
     t = advanced s count next
 
     over : t .«old_used» ≡ 0 → Steps w Call.rehashStep (afterStep i old new count ks next)
     unfolding stepDone settled advanced finished retabled stateOf sizeOf ideal afterStep
     over z =
-        let j : Bool → Ideal = λ f. ideal (i .plain) (Tables.one new) (not f) [] 0 (i .allowed) in
+        let j : Bool → Ideal = λ f. ideal (i .plain) (Tables.one new) (not f) [] 0 (i .allowed) (i .iterators) in
         subst (λ (js : List ℕ). Steps w Call.rehashStep (afterStep i old new count js next)) (sym (none-unmoved then z))
         (step-answered count (finished t) c o e (j (i .turned))
         (is ∙ ap (λ (b : Bool). After.after (StepAnswer.Stepped count (cond b (finished t) t)) c o e) (eq-eqb (t .«old_used») 0 z))
@@ -290,7 +294,7 @@ module _ (w : World) (i : Ideal) (a : Agrees w i) where
     on f = by ks (λ e. f (none-left then refl e)) then
       where
         by : (js : List ℕ) → js ≢ []
-            → AgreesOn t c o e (ideal (i .plain) (Tables.two old new) (i .turned) js next (i .allowed))
+            → AgreesOn t c o e (ideal (i .plain) (Tables.two old new) (i .turned) js next (i .allowed) (i .iterators))
             → Steps w Call.rehashStep (afterStep i old new count js next)
         by [] g h = absurd (g refl)
         by (k ∷ js) g h =
@@ -302,18 +306,22 @@ module _ (w : World) (i : Ideal) (a : Agrees w i) where
     settles = elim (ℕ-discrete (t .«old_used») 0) [ yes z ↦ over z | no f ↦ on f ]
 
   Moves : List ℕ → Type 0
-  Moves ks = Steps w Call.rehashStep (stepAnswer i (Tables.two old new) ks)
+  Moves ks = Steps w Call.rehashStep (stepTaken i old new ks)
 
-  module _ (rehashing : s .rehashing ≡ true) where
+  module _ (rehashing : s .rehashing ≡ true) (not-paused : paused s ≡ false) where
+    -- what a step that nothing holds up leaves
+    taken : (o : After StepAnswer) → calls.stepTaken s (current w) (other w) (w .entries) ≡ o → call (current w) (other w) ≡ o
+    taken o e = step-taken (a .shape) rehashing not-paused ∙ e
+
     -- with no keys in the old table
     idle : s .«old_used» ≡ 0 → Moves (i .unmoved)
-    unfolding Moves stepAnswer afterStep
+    unfolding Moves stepTaken afterStep
     idle z =
         let fits = facts (a .shape) .rehashing rehashing .index-fits in
         let none = none-unmoved a z in
         subst Moves (sym none)
         (subst (λ (ks : List ℕ). Steps w Call.rehashStep (afterStep i old new 0 ks (s .«rehash_index»))) none
-        (settles 0 (s .«rehash_index») _ _ _ (i .unmoved) (step-idle (a .shape) rehashing z)
+        (settles 0 (s .«rehash_index») _ _ _ (i .unmoved) (taken _ (step-idle (a .shape) z))
         (passed-on a rehashing (s .«rehash_index») fits (a .shape .passed-empty))))
 
     -- with some, by what a step meets
@@ -339,7 +347,7 @@ module _ (w : World) (i : Ideal) (a : Agrees w i) where
             ∙ near b true (lowest-first a rehashing b before filled)
             (lt-ltb b (i .index + emptyVisits) (omega (arith, a .index))))
             (settles (length (a .shape .at (Place.bucket Table.Old b))) (suc b) _ _ _ (keep (stays a rehashing b before) (i .unmoved))
-            (step-moves (a .shape) rehashing f b e (before .live)) (moved-on a rehashing b before))
+            (taken _ (step-moves (a .shape) f b e (before .live))) (moved-on a rehashing b before))
         by some-left (Meets.passed b e before is) =
             let (low, j, l) = lowest-reached old (i .unmoved) some-left in
             let far = not-lower a b before low j in
@@ -347,16 +355,20 @@ module _ (w : World) (i : Ideal) (a : Agrees w i) where
             (ap (afterStep i old new 0 (i .unmoved)) (omega (arith, a .index))
             ∙ near (lowestOf old (i .unmoved)) false refl
             (le-ltb (lowestOf old (i .unmoved)) (i .index + emptyVisits) (omega (arith, a .index))))
-            (settles 0 b _ _ _ (i .unmoved) (step-passes (a .shape) rehashing f b e)
+            (settles 0 b _ _ _ (i .unmoved) (taken _ (step-passes (a .shape) f b e))
             (passed-on a rehashing b (omega (arith, before .live)) (no-head a rehashing b before)))
 
   -- a step, refused or answered
   pub step-steps : (l : Lengths) → Steps w Call.rehashStep (predict l i Call.rehashStep)
-  unfolding predict stepAnswer Moves tablesOf tablesBy
+  unfolding predict stepAnswer Moves errorNumber paused tablesOf tablesBy
   step-steps l =
       subst (λ (t : Tables). Steps w Call.rehashStep (stepAnswer i t (i .unmoved))) (a .tables) (by (s .rehashing) refl)
     where
       by : (t : Bool) → s .rehashing ≡ t
           → Steps w Call.rehashStep (stepAnswer i (tablesBy t (s .«old_size») (s .«new_size»)) (i .unmoved))
-      by false e = refused e
-      by true e = elim (ℕ-discrete (s .«old_used») 0) [ yes z ↦ idle e z | no f ↦ moves e f ]
+      by false e = refused Error.NotRehashing 7 refl (step-none (a .shape) e)
+      by true e =
+          let count = ap (ltb 0) (a .iterators) in
+          by-test (λ (r : Reply Ideal). Steps w Call.rehashStep r) (ltb 0 (i .iterators)) _ _
+          (λ t. refused Error.Paused 17 refl (step-paused (a .shape) e (count ∙ t)))
+          (λ f. elim (ℕ-discrete (s .«old_used») 0) [ yes z ↦ idle e (count ∙ f) z | no g ↦ moves e (count ∙ f) g ])

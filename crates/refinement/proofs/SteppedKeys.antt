@@ -3,21 +3,23 @@
 -- Assumes nothing.
 use Prim.Native.Nat.{ℕ, zero, suc}
 use mathlib.Core.Path.{_≡_, refl, sym, ap, ap₂, subst, _∙_}
-use mathlib.Core.Bool.{Bool, true, false, _&&_, cond}
+use mathlib.Core.Bool.{Bool, true, false, _&&_, not, cond}
 use mathlib.Core.List.{[], _∷_}
 use mathlib.Core.Option.{Option, none, some}
 use native.Mathlib.Omega.{arith}
 use lib.ListN.{length}
-use lib.Dec.{eqb, eqb·suc-zero}
+use lib.Dec.{ltb, eqb, eqb·suc-zero}
+use borrow.Author.Tests.{ltb-true, ltb-false, not-false}
 use Rattle.model.specs.declared.State.{State}
 use Rattle.model.specs.Answers.{Reply, reply}
-use Rattle.model.specs.Walk.{Tables, tablesBy, tablesOf}
+use Rattle.model.specs.Calls.{paused, stepDue}
+use Rattle.model.specs.Walk.{tablesBy, tablesOf}
 use Rattle.model.specs.Sequences.{Outcome, World, world, KeyCall, Call, kept, perform, carriedState, carry, PlainMap, valueFor, withPairs, mapAnswer, mapDoes}
 use Rattle.refinement.specs.Worlds.{takesStep}
 use Rattle.refinement.specs.Demand3.{lengthsOf, Ideal, keyAnswer, stepAnswer, stepsFirst, onAnswer, predict}
-use Rattle.refinement.proofs.HiddenSteps.{alone, before-growth, Rides, on-rides, on-alone}
+use Rattle.refinement.proofs.HiddenSteps.{alone, before-growth, due-facts, Rides, on-rides, on-alone}
 use Rattle.refinement.proofs.Refusals.{before-keeps}
-use Rattle.refinement.proofs.IdealSteps.{any-first, two-answered, same-pairs, one-stays}
+use Rattle.refinement.proofs.IdealSteps.{any-first, two-answered, same-pairs, one-stays, paused-stays}
 use Rattle.refinement.proofs.Agreement.{Agrees, Comes, Steps}
 use Rattle.refinement.proofs.KeyedSteps.{stays, keyed-steps}
 use Rattle.refinement.proofs.RehashSteps.{step-steps}
@@ -61,24 +63,35 @@ module _ (w : World) (i : Ideal) (a : Agrees w i) (key : ℕ) (c : KeyCall) wher
   abbrev meant : Reply Ideal
   meant = onAnswer i c map
 
+  -- the ideal's tables are the store's
+  tables-by : (t : Bool) → w .state .rehashing ≡ t → i .tables ≡ tablesBy t (w .state .«old_size») (w .state .«new_size»)
+  unfolding tablesOf
+  tables-by t e = sym (a .tables) ∙ ap (λ (b : Bool). tablesBy b (w .state .«old_size») (w .state .«new_size»)) e
+
+  -- where no step is due, the ideal's changes nothing
+  no-change : (t : Bool) → w .state .rehashing ≡ t → (t && not (paused (w .state))) ≡ false
+      → stepAnswer i (i .tables) (i .unmoved) .state ≡ i
+  unfolding tablesBy paused
+  no-change false e f = one-stays i (w .state .«old_size») (tables-by false e)
+  no-change true e f =
+      paused-stays i
+      (omega (arith, a .iterators, ltb-true 0 (w .state .«safe_iterators») (not-false (ltb 0 (w .state .«safe_iterators»)) f)))
+
   -- no step comes first
-  plain : (takesStep c && w .state .rehashing) ≡ false → Comes w o meant
-  unfolding onAnswer stepsFirst tablesOf tablesBy
+  plain : (takesStep c && stepDue (w .state)) ≡ false → Comes w o meant
+  unfolding onAnswer stepsFirst stepDue
   plain no-step =
       subst (λ (j : Ideal). Comes w o (keyAnswer j map)) (sym (found (takesStep c) refl))
       (subst (λ (p : Outcome). Comes w p (keyAnswer i map)) (sym (on-alone w key c no-step)) (keyed-steps w i a key c))
     where
-      one : w .state .rehashing ≡ false → i .tables ≡ Tables.one (w .state .«old_size»)
-      one f = sym (a .tables) ∙ ap (λ (b : Bool). tablesBy b (w .state .«old_size») (w .state .«new_size»)) f
-
       found : (t : Bool) → takesStep c ≡ t → stepsFirst i c (map .number) ≡ i
       found false t = ap (λ (b : Bool). cond (b && eqb (map .number) 0) (stepAnswer i (i .tables) (i .unmoved) .state) i) t
       found true t =
           any-first i (λ (j : Ideal). j ≡ i) c (map .number)
-          (one-stays i (w .state .«old_size») (one (subst (λ (b : Bool). (b && w .state .rehashing) ≡ false) t no-step))) refl
+          (no-change (w .state .rehashing) refl (subst (λ (b : Bool). (b && stepDue (w .state)) ≡ false) t no-step)) refl
 
   -- one does
-  module _ (takes : takesStep c ≡ true) (e : w .state .rehashing ≡ true) where
+  module _ (takes : takesStep c ≡ true) (due : stepDue (w .state) ≡ true) where
     abbrev step : Outcome
     step = perform w Call.rehashStep
 
@@ -93,11 +106,12 @@ module _ (w : World) (i : Ideal) (a : Agrees w i) (key : ℕ) (c : KeyCall) wher
     step-there = step-steps w i a (lengthsOf w)
 
     step-zero : step .reply .number ≡ 0
-    unfolding tablesOf tablesBy
+    unfolding tablesBy paused
     step-zero =
+        let (rehashing, not-paused) = due-facts (w .state) due in
         step-there .number
-        ∙ two-answered i (w .state .«old_size») (w .state .«new_size»)
-        (sym (a .tables) ∙ ap (λ (b : Bool). tablesBy b (w .state .«old_size») (w .state .«new_size»)) e)
+        ∙ two-answered i (w .state .«old_size») (w .state .«new_size») (tables-by true rehashing)
+        (omega (arith, a .iterators, ltb-false 0 (w .state .«safe_iterators») not-paused))
 
     call-there : Comes v (alone v key c) (keyAnswer next map)
     call-there =
@@ -111,7 +125,7 @@ module _ (w : World) (i : Ideal) (a : Agrees w i) (key : ℕ) (c : KeyCall) wher
 
     stepping : Comes w o meant
     unfolding onAnswer keyAnswer mapDoes reply kept
-    stepping = by (on-rides w key c takes e)
+    stepping = by (on-rides w key c takes due)
       where
         by : Rides w step (λ v. alone v key c) o → Comes w o (keyAnswer (stepsFirst i c (map .number)) map)
         by (Rides.step-refused n is same) = absurd (omega (arith, step-zero))
@@ -134,10 +148,9 @@ module _ (w : World) (i : Ideal) (a : Agrees w i) (key : ℕ) (c : KeyCall) wher
             })
 
   pub comes : Comes w (before-growth w key c) (onAnswer i c (mapDoes (i .plain) key c))
-  comes = by (takesStep c) (w .state .rehashing) refl refl
+  comes = by (takesStep c) (stepDue (w .state)) refl refl
     where
-      by : (t f : Bool) → takesStep c ≡ t → w .state .rehashing ≡ f → Comes w o meant
+      by : (t f : Bool) → takesStep c ≡ t → stepDue (w .state) ≡ f → Comes w o meant
       by true true t f = stepping t f
       by true false t f = plain (ap₂ _&&_ t f)
-      by false true t f = plain (ap₂ _&&_ t f)
-      by false false t f = plain (ap₂ _&&_ t f)
+      by false f t g = plain (ap₂ _&&_ t g)

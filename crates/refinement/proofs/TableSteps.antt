@@ -1,39 +1,47 @@
--- One call on a store that agrees with the ideal: the suggested size, a look, a start, a resize, the permission.
+-- One call on a store that agrees with the ideal: the calls that only read, a start, a resize, and those that set a field of
+-- the state.
 -- Assumes nothing.
-use Prim.Native.Nat.{ℕ, zero, suc, _<_}
-use mathlib.Core.Path.{_≡_, refl, sym, ap, subst, subst₂, _∙_}
+use Prim.Native.Nat.{ℕ, zero, suc, _+_, _<_, _≤_}
+use mathlib.Core.Path.{_≡_, refl, sym, ap, ap₂, subst, subst₂, _∙_}
 use mathlib.Core.Bool.{Bool, true, false, _&&_, cond}
 use mathlib.Core.List.{List, [], _∷_}
 use native.Mathlib.Omega.{arith}
 use lib.ListN.{length, take, length-take}
+use lib.Dec.{ltb, eqb}
+use borrow.Author.Tests.{ltb-true}
 use Rattle.model.specs.declared.State.{State}
 use Rattle.model.specs.declared.Table.{Table}
 use Rattle.model.specs.declared.Error.{Error}
 use Rattle.model.specs.declared.InitAnswer.{InitAnswer}
 use Rattle.model.specs.declared.ResizeAnswer.{ResizeAnswer}
 use Rattle.model.specs.declared.SizeAnswer.{SizeAnswer}
-use Rattle.model.specs.declared.AllowAnswer.{AllowAnswer}
-use Rattle.model.specs.Answers.{Reply, reply, errorNumber, initReply, resizeReply, sizeReply, allowReply, tableReply}
-use Rattle.model.specs.Limits.{largestExponent, legalCapacity, legalSize}
+use Rattle.model.specs.declared.BeginAnswer.{BeginAnswer}
+use Rattle.model.specs.declared.EndAnswer.{EndAnswer}
+use Rattle.model.specs.declared.StateAnswer.{StateAnswer}
+use Rattle.model.specs.Answers.{Reply, reply, errorNumber, initReply, resizeReply, sizeReply, stateReply, beginReply, endReply, tableReply}
+use Rattle.model.specs.Limits.{largestExponent, legalCapacity, legalSize, mostSafeIterators}
 use Rattle.model.specs.Memory.{Place, Live, sizeOf, usedOf, keysHeld}
-use Rattle.model.specs.Calls.{After, oriented, stateOf, oldNew, emptyState, retabled, permitted, suggested, cleared, noState, longEnough, acceptable, resizing, resized}
+use Rattle.model.specs.Calls.{After, oriented, reading, stateOf, oldNew, emptyState, retabled, noted, suggested, cleared, noState, longEnough, acceptable, resizing, resized}
 use Rattle.model.specs.Calls as calls
+use Rattle.model.specs.Iterators.{fingerprintOf, oneMore, oneFewer}
+use Rattle.model.specs.Iterators as iterators
 use Rattle.model.specs.Walk.{Tables, tablesBy, tablesOf}
-use Rattle.model.specs.Sequences.{World, world, Outcome, ReadCall, Call, kept, left, given, perform, carriedState, carry, keysOf, valueFor}
+use Rattle.model.specs.Sequences.{World, world, Outcome, ReadCall, StateCall, Call, kept, left, given, perform, carriedState, carry, keysOf, valueFor}
 use Rattle.model.proofs.Power.{legal-pos}
 use Rattle.refinement.specs.Worlds.{current, other}
-use Rattle.refinement.specs.Demand3.{Lengths, lengthsOf, Ideal, begun, ideal, startNumber, startAnswer, resizeAnswer, readAnswer, predict}
+use Rattle.refinement.specs.Demand3.{Lengths, lengthsOf, Ideal, begun, ideal, startNumber, startAnswer, resizeAnswer, idealPrint, readAnswer, withNotes, endAnswer, noteAnswer, predict}
 use Rattle.invariant.proofs.Shape.{IsBucket, Shape, shape-sound, facts}
 use Rattle.invariant.proofs.StoreAfter.{HeldIn, held-as}
 use Rattle.invariant.proofs.Init.{startedAt, startedEntries, started-shape, started-at}
 use Rattle.invariant.proofs.Resize.{resizedAt, resized-shape, resized-at}
-use Rattle.invariant.proofs.Permission.{live-before, live-after, permitted-shape, permitted-at}
+use Rattle.invariant.proofs.Noted.{live-before, live-after, noted-shape, noted-at}
 use Rattle.refinement.proofs.Orientation.{firstBy, secondBy, worldBy, soundAt, reads-sound, left-reply, left-world}
 use Rattle.refinement.proofs.Refusals.{refused-keeps, read-keeps}
 use Rattle.refinement.proofs.PlainMaps.{value-key, key-value}
 use Rattle.refinement.proofs.Agreement.{HeldAt, HeldOld, AgreesOn, Agrees, Steps, leaves, retabled-agrees, kept-agrees}
+use Rattle.refinement.proofs.Fingerprints.{print-agrees}
 
--- The suggested size and a look change nothing.
+-- The calls that only read change nothing.
 
 -- one bucket at least, where there are some
 look-reply : (s : State) (heads : List ℕ) → 0 < length heads → tableReply s heads ≡ reply 0 heads s
@@ -45,17 +53,47 @@ module _ (w : World) (i : Ideal) (a : Agrees w i) where
   abbrev sound : soundAt w ≡ true
   sound = shape-sound (a .shape)
 
+  reads : (c : ReadCall) (n : ℕ) (vs : List ℕ) → perform w (Call.read c) .reply ≡ reply n vs (w .state) → Steps w (Call.read c) (reply n vs i)
+  unfolding reply
+  reads c n vs e =
+      leaves w i a (Call.read c) n vs (read-keeps w c) (ap (λ (r : Reply State). r .number) e)
+      (λ f. ap (λ (r : Reply State). r .values) e)
+
   suggested-steps : (growing : Bool)
       → Steps w (Call.read (ReadCall.suggestedSize growing)) (readAnswer i (ReadCall.suggestedSize growing))
-  unfolding readAnswer perform given kept calls.suggestedSize sizeReply reply
+  unfolding readAnswer perform given kept calls.suggestedSize sizeReply
   suggested-steps growing =
-      let replied =
-      ap (sizeReply (w .state))
+      reads (ReadCall.suggestedSize growing) 0 (suggested growing (length (i .plain .pairs)) ∷ [])
+      (ap (sizeReply (w .state))
       (reads-sound w (SizeAnswer.Refused Error.BadState)
-      (λ current other. SizeAnswer.Suggested (suggested growing (keysHeld (w .state)))) sound) in
-      leaves w i a (Call.read (ReadCall.suggestedSize growing)) 0 (suggested growing (length (i .plain .pairs)) ∷ [])
-      (read-keeps w (ReadCall.suggestedSize growing)) (ap (λ (r : Reply State). r .number) replied)
-      (λ f. ap (λ (r : Reply State). r .values) replied ∙ ap (λ (n : ℕ). suggested growing n ∷ []) (sym (a .count)))
+      (λ current other. SizeAnswer.Suggested (suggested growing (keysHeld (w .state)))) sound)
+      ∙ ap (λ (n : ℕ). reply 0 (suggested growing n ∷ []) (w .state)) (sym (a .count)))
+
+  -- an iterator's begin and end
+  begin-steps : Steps w (Call.read ReadCall.beginIterator) (readAnswer i ReadCall.beginIterator)
+  unfolding readAnswer perform given kept iterators.beginIterator beginReply
+  begin-steps =
+      reads ReadCall.beginIterator 0 (idealPrint i ∷ [])
+      (ap (beginReply (w .state))
+      (reads-sound w (BeginAnswer.Refused Error.BadState) (λ current other. BeginAnswer.Begun (fingerprintOf (w .state))) sound)
+      ∙ ap (λ (n : ℕ). reply 0 (n ∷ []) (w .state)) (print-agrees w i a))
+
+  end-steps : (fingerprint : ℕ)
+      → Steps w (Call.read (ReadCall.endIterator fingerprint)) (readAnswer i (ReadCall.endIterator fingerprint))
+  unfolding readAnswer perform given kept iterators.endIterator endReply errorNumber
+  end-steps fingerprint =
+      reads (ReadCall.endIterator fingerprint) (cond (eqb fingerprint (idealPrint i)) 0 15) []
+      (ap (endReply (w .state))
+      (reads-sound w (EndAnswer.Refused Error.BadState) (λ current other. answer (eqb fingerprint (fingerprintOf (w .state)))) sound)
+      ∙ by (eqb fingerprint (fingerprintOf (w .state)))
+      ∙ ap (λ (n : ℕ). reply (cond (eqb fingerprint n) 0 15) [] (w .state)) (print-agrees w i a))
+    where
+      answer : Bool → EndAnswer
+      answer same = cond same EndAnswer.Ended (EndAnswer.Refused Error.Changed)
+
+      by : (same : Bool) → endReply (w .state) (answer same) ≡ reply (cond same 0 15) [] (w .state)
+      by true = refl
+      by false = refl
 
   -- what a look answers
   looked : perform w (Call.read ReadCall.currentTable) .reply ≡ reply 0 (take (w .state .«old_size») (current w)) (w .state)
@@ -79,6 +117,8 @@ module _ (w : World) (i : Ideal) (a : Agrees w i) where
   unfolding predict
   read-steps l (ReadCall.suggestedSize growing) = suggested-steps growing
   read-steps l ReadCall.currentTable = look-steps
+  read-steps l ReadCall.beginIterator = begin-steps
+  read-steps l (ReadCall.endIterator fingerprint) = end-steps fingerprint
 
 -- A start.
 
@@ -173,6 +213,7 @@ module _ (w : World) (capacity size : ℕ) where
         turned = refl;
         index = refl;
         allowed = refl;
+        iterators = refl;
         unmoved-in = λ key f. absurd f;
         in-unmoved = λ rehashing key k. let z : _≡_ {A = ℕ} 0 1 = cc in absurd (omega arith);
         unmoved-once = tt;
@@ -258,11 +299,12 @@ module _ {s : State} {current other entries : List ℕ} (h : Shape s current oth
 resized-on : (s : State) (current other entries : List ℕ) (i : Ideal) → AgreesOn s current other entries i → (size : ℕ)
     → s .rehashing ≡ false → acceptable (s .«old_size») (length other) size ≡ true
     → AgreesOn (resizing s size) current (cleared size other) entries
-    (ideal (i .plain) (Tables.two (s .«old_size») size) (s .«second_is_current») (keysOf (i .plain .pairs)) 0 (i .allowed))
+    (ideal (i .plain) (Tables.two (s .«old_size») size) (s .«second_is_current») (keysOf (i .plain .pairs)) 0 (i .allowed)
+    (i .iterators))
 unfolding resizing retabled stateOf oldNew sizeOf keysHeld tablesOf tablesBy Live IsBucket
 resized-on s current other entries i a size resting accepted =
     retabled-agrees a (resized-shape (a .shape) size resting accepted) refl
-    (omega (arith, facts (a .shape) .resting resting .no-keys)) refl
+    (omega (arith, facts (a .shape) .resting resting .no-keys)) refl refl
     (resized-before (a .shape) size resting accepted) (resized-after (a .shape) size resting accepted)
     (keysOf (i .plain .pairs))
     (λ key j.
@@ -336,7 +378,7 @@ resize-steps w i a l same size =
         (λ f. ap (λ (r : Reply State). r .values) replied)
 
     then : Bool → Ideal
-    then t = ideal (i .plain) (Tables.two (s .«old_size») size) t (keysOf (i .plain .pairs)) 0 (i .allowed)
+    then t = ideal (i .plain) (Tables.two (s .«old_size») size) t (keysOf (i .plain .pairs)) 0 (i .allowed) (i .iterators)
 
     answered : s .rehashing ≡ false → accept ≡ true → Steps w c (reply 0 [] (then (i .turned)))
     answered e f =
@@ -371,81 +413,155 @@ resize-steps w i a l same size =
     by true e = refused Error.Rehashing 6 refl (ap (resized s (current w) (other w) (w .entries) size) e)
     by false e = by-test e _ (sym tested)
 
--- The permission.
+-- The permission, and a safe iterator's begin and end.
 
-module _ (w : World) (i : Ideal) (a : Agrees w i) (allowed : Bool) where
-  abbrev given-it : State
-  given-it = permitted (w .state) allowed
+module _ (w : World) (i : Ideal) (a : Agrees w i) where
+  abbrev s : State
+  s = w .state
 
-  abbrev meant : Ideal
-  meant = ideal (i .plain) (i .tables) (i .turned) (i .unmoved) (i .index) allowed
+  -- what they leave agrees
+  module _ (allowed : Bool) (iterators : ℕ) (fits : iterators ≤ mostSafeIterators) where
+    abbrev set : State
+    set = noted s allowed iterators
 
-  held-before : (key value : ℕ) → HeldAt given-it (w .entries) (permitted-shape (a .shape) allowed .at) key value
-      → HeldAt (w .state) (w .entries) (a .shape .at) key value
-  held-before key value h =
-      record {
-        place = h .place;
-        live = live-before (a .shape) allowed (h .place) (h .live);
-        bucket = h .bucket;
-        held = held-as (permitted-at (a .shape) allowed (h .place)) (h .held);
-      }
+    abbrev shape-then : Shape set (current w) (other w) (w .entries)
+    shape-then = noted-shape s allowed iterators (a .shape) fits
 
-  held-after : (key value : ℕ) → HeldAt (w .state) (w .entries) (a .shape .at) key value
-      → HeldAt given-it (w .entries) (permitted-shape (a .shape) allowed .at) key value
-  held-after key value h =
-      record {
-        place = h .place;
-        live = live-after (a .shape) allowed (h .place) (h .live);
-        bucket = h .bucket;
-        held = held-as (sym (permitted-at (a .shape) allowed (h .place))) (h .held);
-      }
+    at-then : (p : Place) → shape-then .at p ≡ a .shape .at p
+    at-then = noted-at s allowed iterators (a .shape) fits
 
-  permitted-on : AgreesOn given-it (current w) (other w) (w .entries) meant
-  unfolding permitted stateOf ideal keysHeld tablesOf tablesBy sizeOf usedOf
-  permitted-on =
-      record {
-        shape = permitted-shape (a .shape) allowed;
-        capacity = a .capacity;
-        count = a .count;
-        distinct = a .distinct;
-        in-map = λ key value h. a .in-map key value (held-before key value h);
-        in-store = λ key value e. held-after key value (a .in-store key value e);
-        tables = a .tables;
-        turned = a .turned;
-        index = a .index;
-        allowed = refl;
-        unmoved-in =
-            λ key j.
-            let h = a .unmoved-in key j in
-            record {
-              value = h .value;
-              index = h .index;
-              live = h .live;
-              held = held-as (sym (permitted-at (a .shape) allowed (Place.bucket Table.Old (h .index)))) (h .held);
-            };
-        in-unmoved =
-            λ rehashing key h.
-            a .in-unmoved rehashing key
-            (record {
-              value = h .value;
-              index = h .index;
-              live = h .live;
-              held = held-as (permitted-at (a .shape) allowed (Place.bucket Table.Old (h .index))) (h .held);
-            });
-        unmoved-once = a .unmoved-once;
-      }
+    held-before : (key value : ℕ) → HeldAt set (w .entries) (shape-then .at) key value
+        → HeldAt s (w .entries) (a .shape .at) key value
+    held-before key value h =
+        record {
+          place = h .place;
+          live = live-before s allowed iterators (h .place) (h .live);
+          bucket = h .bucket;
+          held = held-as (at-then (h .place)) (h .held);
+        }
 
-  allowed-outcome : perform w (Call.allowResize allowed) ≡ kept w (reply 0 [] given-it) []
-  unfolding perform given calls.allowResize allowReply reply
-  allowed-outcome =
-      ap (λ (r : AllowAnswer). kept w (allowReply (w .state) r) [])
-      (reads-sound w (AllowAnswer.Refused Error.BadState) (λ c o. AllowAnswer.Set given-it) (shape-sound (a .shape)))
+    held-after : (key value : ℕ) → HeldAt s (w .entries) (a .shape .at) key value
+        → HeldAt set (w .entries) (shape-then .at) key value
+    held-after key value h =
+        record {
+          place = h .place;
+          live = live-after s allowed iterators (h .place) (h .live);
+          bucket = h .bucket;
+          held = held-as (sym (at-then (h .place))) (h .held);
+        }
 
-  pub allow-steps : (l : Lengths) → Steps w (Call.allowResize allowed) (predict l i (Call.allowResize allowed))
-  unfolding predict reply kept carry carriedState world current other oriented permitted stateOf
-  allow-steps l =
-      record {
-        number = ap (λ (o : Outcome). o .reply .number) allowed-outcome;
-        values = λ f. ap (λ (o : Outcome). o .reply .values) allowed-outcome;
-        agrees = subst (λ (o : Outcome). Agrees (carry w o) meant) (sym allowed-outcome) permitted-on;
-      }
+    noted-on : AgreesOn set (current w) (other w) (w .entries) (withNotes i allowed iterators)
+    unfolding noted stateOf withNotes ideal keysHeld tablesOf tablesBy sizeOf usedOf
+    noted-on =
+        record {
+          shape = shape-then;
+          capacity = a .capacity;
+          count = a .count;
+          distinct = a .distinct;
+          in-map = λ key value h. a .in-map key value (held-before key value h);
+          in-store = λ key value e. held-after key value (a .in-store key value e);
+          tables = a .tables;
+          turned = a .turned;
+          index = a .index;
+          allowed = refl;
+          iterators = refl;
+          unmoved-in =
+              λ key j.
+              let h = a .unmoved-in key j in
+              record {
+                value = h .value;
+                index = h .index;
+                live = h .live;
+                held = held-as (sym (at-then (Place.bucket Table.Old (h .index)))) (h .held);
+              };
+          in-unmoved =
+              λ rehashing key h.
+              a .in-unmoved rehashing key
+              (record {
+                value = h .value;
+                index = h .index;
+                live = h .live;
+                held = held-as (at-then (Place.bucket Table.Old (h .index))) (h .held);
+              });
+          unmoved-once = a .unmoved-once;
+        }
+
+    made : (c : StateCall) → perform w (Call.note c) ≡ kept w (reply 0 [] set) []
+        → Steps w (Call.note c) (reply 0 [] (withNotes i allowed iterators))
+    unfolding reply kept carry carriedState world current other oriented noted stateOf
+    made c e =
+        record {
+          number = ap (λ (o : Outcome). o .reply .number) e;
+          values = λ f. ap (λ (o : Outcome). o .reply .values) e;
+          agrees = subst (λ (o : Outcome). Agrees (carry w o) (withNotes i allowed iterators)) (sym e) noted-on;
+        }
+
+  abbrev call : StateAnswer → Outcome
+  call r = kept w (stateReply s r) []
+
+  -- such a call, by what it comes to on a sound state
+  sounds : (r : StateAnswer) → reading s (w .first) (w .second) (w .entries) (StateAnswer.Refused Error.BadState) (λ c o. r) ≡ r
+  sounds r = reads-sound w (StateAnswer.Refused Error.BadState) (λ c o. r) (shape-sound (a .shape))
+
+  not-made : (c : StateCall) (error : Error) (n : ℕ) → errorNumber error ≡ suc n
+      → perform w (Call.note c) ≡ call (StateAnswer.Refused error) → Steps w (Call.note c) (reply (suc n) [] i)
+  unfolding kept stateReply reply
+  not-made c error n is e =
+      let number = ap (λ (o : Outcome). o .reply .number) e ∙ is in
+      leaves w i a (Call.note c) (suc n) [] (refused-keeps w (Call.note c) (λ z. omega (arith, number))) number
+      (λ f. ap (λ (o : Outcome). o .reply .values) e)
+
+  allow-steps : (allowed : Bool) → Steps w (Call.note (StateCall.allowResize allowed)) (noteAnswer i (StateCall.allowResize allowed))
+  unfolding noteAnswer perform given calls.allowResize stateReply
+  allow-steps allowed =
+      subst (λ (n : ℕ). Steps w (Call.note (StateCall.allowResize allowed)) (reply 0 [] (withNotes i allowed n))) (a .iterators)
+      (made allowed (s .«safe_iterators») (facts (a .shape) .iterators-fit) (StateCall.allowResize allowed)
+      (ap call (sounds (StateAnswer.Set (noted s allowed (s .«safe_iterators»))))))
+
+  begin-safe-steps : Steps w (Call.note StateCall.beginSafe) (noteAnswer i StateCall.beginSafe)
+  unfolding noteAnswer perform given iterators.beginSafe oneMore stateReply errorNumber
+  begin-safe-steps =
+      subst₂
+      (λ (b : Bool) (n : ℕ).
+      Steps w c (cond (ltb n mostSafeIterators) (reply 0 [] (withNotes i b (suc n))) (reply 17 [] i)))
+      (a .allowed) (a .iterators) (by (ltb (s .«safe_iterators») mostSafeIterators) refl)
+    where
+      c : Call
+      c = Call.note StateCall.beginSafe
+
+      answer : Bool → ℕ → StateAnswer
+      answer t n = cond t (StateAnswer.Set (noted s (s .«resize_allowed») n)) (StateAnswer.Refused Error.TooManyIterators)
+
+      is : (t : Bool) → ltb (s .«safe_iterators») mostSafeIterators ≡ t → perform w c ≡ call (answer t (suc (s .«safe_iterators»)))
+      is t e =
+          let more : s .«safe_iterators» + 1 ≡ suc (s .«safe_iterators») = omega arith in
+          ap call (sounds (oneMore s) ∙ ap₂ answer e more)
+
+      by : (t : Bool) → ltb (s .«safe_iterators») mostSafeIterators ≡ t
+          → Steps w c (cond t (reply 0 [] (withNotes i (s .«resize_allowed») (suc (s .«safe_iterators»)))) (reply 17 [] i))
+      by true e =
+          made (s .«resize_allowed») (suc (s .«safe_iterators»)) (ltb-true (s .«safe_iterators») mostSafeIterators e)
+          StateCall.beginSafe (is true e)
+      by false e = not-made StateCall.beginSafe Error.TooManyIterators 16 refl (is false e)
+
+  end-safe-steps : Steps w (Call.note StateCall.endSafe) (noteAnswer i StateCall.endSafe)
+  unfolding noteAnswer endAnswer perform given iterators.endSafe oneFewer stateReply errorNumber
+  end-safe-steps = by (i .iterators) (a .iterators)
+    where
+      c : Call
+      c = Call.note StateCall.endSafe
+
+      is : (n : ℕ) → s .«safe_iterators» ≡ n → perform w c ≡ call (oneFewer s n)
+      is n e = ap call (sounds (oneFewer s (s .«safe_iterators»)) ∙ ap (oneFewer s) e)
+
+      by : (n : ℕ) → s .«safe_iterators» ≡ n → Steps w c (endAnswer i n)
+      by zero e = not-made StateCall.endSafe Error.NoSafeIterator 15 refl (is zero e)
+      by (suc n) e =
+          subst (λ (b : Bool). Steps w c (reply 0 [] (withNotes i b n))) (a .allowed)
+          (made (s .«resize_allowed») n (omega (arith, facts (a .shape) .iterators-fit)) StateCall.endSafe (is (suc n) e))
+
+  pub note-steps : (l : Lengths) (c : StateCall) → Steps w (Call.note c) (predict l i (Call.note c))
+  unfolding predict
+  note-steps l (StateCall.allowResize allowed) = allow-steps allowed
+  note-steps l StateCall.beginSafe = begin-safe-steps
+  note-steps l StateCall.endSafe = end-safe-steps

@@ -1,23 +1,23 @@
 -- Over a sequence of calls: each answers as predicted and keeps the store in agreement with the ideal, and so demand 3 holds.
 -- Assumes nothing.
-use Prim.Native.Nat.{ℕ, _*_}
-use mathlib.Core.Path.{_≡_, refl, subst, _∙_}
-use mathlib.Core.Bool.{Bool, true, false, cond}
+use mathlib.Core.Path.{_≡_, refl, sym, ap, subst, _∙_}
+use mathlib.Core.Bool.{Bool, true, false}
 use mathlib.Core.List.{List, [], _∷_}
-use native.Mathlib.Omega.{arith}
 use lib.ListN.{length}
-use lib.Dec.{leb}
 use Rattle.model.specs.Answers.{Reply, reply}
 use Rattle.model.specs.Sequences.{World, Call, perform, carry, run, event, events}
-use Rattle.refinement.specs.Demand3.{Lengths, lengthsOf, Ideal, groupPairs, scanAnswer, predict, replay, AsPredicted, Answered, SequenceHolds}
+use Rattle.refinement.specs.Demand3.{Lengths, lengthsOf, Ideal, predict, replay, AsPredicted, Answered, SequenceHolds}
+use Rattle.model.proofs.Tests.{true-not-false}
 use Rattle.invariant.proofs.Shape.{facts}
-use Rattle.refinement.proofs.Refusals.{scan-keeps}
+use Rattle.refinement.proofs.Refusals.{scan-keeps, iterate-keeps}
 use Rattle.refinement.proofs.Lengths.{lengths-kept}
 use Rattle.refinement.proofs.GroupEntries.{hands-out}
 use Rattle.refinement.proofs.WalkCalls.{scan-predicted}
+use Rattle.refinement.proofs.PassCalls.{iterates-out, iterate-predicted}
+use Rattle.refinement.proofs.IdealSteps.{any-hand}
 use Rattle.refinement.proofs.Agreement.{Agrees, Steps, agrees-undamaged, agrees-matches}
 use Rattle.refinement.proofs.GrownKeys.{on-steps}
-use Rattle.refinement.proofs.TableSteps.{init-steps, resize-steps, read-steps, look-values, allow-steps}
+use Rattle.refinement.proofs.TableSteps.{init-steps, resize-steps, read-steps, look-values, note-steps}
 use Rattle.refinement.proofs.RehashSteps.{step-steps}
 use Rattle.refinement.proofs.LiveTables.{Legal, tables-legal}
 use Rattle.refinement.proofs.Walks.{walks-hold}
@@ -27,52 +27,56 @@ record Predicted (l : Lengths) (w : World) (i : Ideal) (c : Call) : Type 0 where
   answers : AsPredicted l i (event c (perform w c))
   agrees : Agrees (carry w (perform w c)) (predict l i c .state)
 
--- a call that is no walk call
-plain : (l : Lengths) (w : World) (i : Ideal) (c : Call) → Steps w c (predict l i c)
-    → ((cursor : ℕ) (lent : List ℕ) → c ≡ Call.scan cursor lent → ⊥) → Predicted l w i c
-unfolding event
-plain l w i c s other =
+-- walk calls and those that iterate hand out pairs
+unfoldable handsOut : Call → Bool
+handsOut (Call.init capacity size) = false
+handsOut (Call.on key c) = false
+handsOut (Call.resize size) = false
+handsOut Call.rehashStep = false
+handsOut (Call.scan cursor lent) = true
+handsOut (Call.iterate place lent) = true
+handsOut (Call.read c) = false
+handsOut (Call.note c) = false
+
+-- any other call
+plain : (l : Lengths) (w : World) (i : Ideal) (c : Call) → Steps w c (predict l i c) → handsOut c ≡ false → Predicted l w i c
+unfolding event handsOut
+plain l w i c s none =
     record {
       answers =
           record {
             number = s .number;
             values = s .values;
-            answered-walk = λ cursor lent e z. absurd (other cursor lent e);
-            refused-walk = λ cursor lent e z. absurd (other cursor lent e);
+            answered-walk = λ cursor lent e z. absurd (true-not-false (sym (ap handsOut e) ∙ none));
+            refused-walk = λ cursor lent e z. absurd (true-not-false (sym (ap handsOut e) ∙ none));
+            answered-pass = λ place lent e z. absurd (true-not-false (sym (ap handsOut e) ∙ none));
+            refused-pass = λ place lent e z. absurd (true-not-false (sym (ap handsOut e) ∙ none));
           };
       agrees = s .agrees;
     }
 
--- a walk call leaves the ideal
-scan-state : (l : Lengths) (i : Ideal) (cursor : ℕ) (lent : List ℕ) → predict l i (Call.scan cursor lent) .state ≡ i
-unfolding predict scanAnswer reply
-scan-state l i cursor lent = by (leb (length (groupPairs i cursor) * 2) (length lent)) _ _ refl refl
-  where
-    by : (t : Bool) (x y : Reply Ideal) → x .state ≡ i → y .state ≡ i → cond t x y .state ≡ i
-    by true x y e f = e
-    by false x y e f = f
-
 module _ (w : World) (i : Ideal) (a : Agrees w i) (l : Lengths) (same : lengthsOf w ≡ l) where
+  -- one that hands out leaves the world and the ideal
+  handed : (c : Call) → AsPredicted l i (event c (perform w c)) → carry w (perform w c) ≡ w → predict l i c .state ≡ i
+      → Predicted l w i c
+  handed c answers kept left = record { answers = answers; agrees = rw (kept, left) a }
+
   any-call : (c : Call) → Predicted l w i c
-  any-call (Call.init capacity size) =
-      plain l w i _ (init-steps w i a l same capacity size) (λ cursor lent e. let z : _≡_ {A = ℕ} 0 1 = cc in omega arith)
-  any-call (Call.on key c) =
-      plain l w i _ (on-steps w i a key c l same) (λ cursor lent e. let z : _≡_ {A = ℕ} 0 1 = cc in omega arith)
-  any-call (Call.resize size) =
-      plain l w i _ (resize-steps w i a l same size) (λ cursor lent e. let z : _≡_ {A = ℕ} 0 1 = cc in omega arith)
-  any-call Call.rehashStep =
-      plain l w i _ (step-steps w i a l) (λ cursor lent e. let z : _≡_ {A = ℕ} 0 1 = cc in omega arith)
+  unfolding predict reply handsOut
+  any-call (Call.init capacity size) = plain l w i _ (init-steps w i a l same capacity size) refl
+  any-call (Call.on key c) = plain l w i _ (on-steps w i a key c l same) refl
+  any-call (Call.resize size) = plain l w i _ (resize-steps w i a l same size) refl
+  any-call Call.rehashStep = plain l w i _ (step-steps w i a l) refl
   any-call (Call.scan cursor lent) =
-      let u = agrees-undamaged w i a in
-      let m = agrees-matches w i a l same in
-      record {
-        answers = scan-predicted l w i u m cursor lent;
-        agrees = rw (scan-keeps w cursor lent, scan-state l i cursor lent) a;
-      }
-  any-call (Call.read c) =
-      plain l w i _ (read-steps w i a l c) (λ cursor lent e. let z : _≡_ {A = ℕ} 0 1 = cc in omega arith)
-  any-call (Call.allowResize allowed) =
-      plain l w i _ (allow-steps w i a allowed l) (λ cursor lent e. let z : _≡_ {A = ℕ} 0 1 = cc in omega arith)
+      handed (Call.scan cursor lent)
+      (scan-predicted l w i (agrees-undamaged w i a) (agrees-matches w i a l same) cursor lent) (scan-keeps w cursor lent)
+      (any-hand i (λ (r : Reply Ideal). r .state ≡ i) _ _ (length lent) refl refl)
+  any-call (Call.iterate place lent) =
+      handed (Call.iterate place lent)
+      (iterate-predicted l w i (agrees-undamaged w i a) (agrees-matches w i a l same) place lent) (iterate-keeps w place lent)
+      (any-hand i (λ (r : Reply Ideal). r .state ≡ i) _ _ (length lent) refl refl)
+  any-call (Call.read c) = plain l w i _ (read-steps w i a l c) refl
+  any-call (Call.note c) = plain l w i _ (note-steps w i a l c) refl
 
 -- along the calls, and at their end
 record Kept (l : Lengths) (w : World) (i : Ideal) (calls : List Call) : Type 0 where
@@ -104,5 +108,6 @@ sequence-holds l w i calls a same =
       answers = k .answered;
       walks = walks-hold l i (events perform w calls) (agrees-legal w i a) (k .answered);
       exact = hands-out last u;
+      exact-pass = iterates-out last u;
       look = look-values last (replay l i calls) (k .at-end);
     }

@@ -1,13 +1,14 @@
 -- The ideal from call to call: with which call a rehash begins, and what the calls leave of one that is under way.
 -- Assumes nothing.
-use Prim.Native.Nat.{ℕ, zero, suc, _+_, _*_, _<_, _≤_}
+use Prim.Native.Nat.{ℕ, zero, suc, _+_, _<_, _≤_}
 use mathlib.Core.Path.{_≡_, refl, sym, ap, subst, _∙_}
 use mathlib.Core.Logic.{_≢_, _⊎_, inl, inr}
 use mathlib.Core.Bool.{Bool, true, false, _&&_, not, cond}
 use mathlib.Core.List.{List, [], _∷_}
+use native.Mathlib.Decide.{ℕ-discrete}
 use native.Mathlib.Omega.{arith}
 use lib.ListN.{length}
-use lib.Dec.{leb, ltb, eqb}
+use lib.Dec.{ltb, eqb}
 use borrow.Author.Tests.{ltb-true, ltb-false}
 use Rattle.cursor.specs.Member.{In, keep}
 use Rattle.model.specs.Answers.{Reply, reply}
@@ -15,13 +16,13 @@ use Rattle.model.specs.Keys.{bucketOf}
 use Rattle.model.specs.Limits.{emptyVisits}
 use Rattle.model.specs.Calls.{acceptable}
 use Rattle.model.specs.Walk.{Tables}
-use Rattle.model.specs.Sequences.{KeyCall, ReadCall, Call, PlainMap, keysOf, mapDoes}
+use Rattle.model.specs.Sequences.{KeyCall, Call, PlainMap, keysOf, mapDoes}
 use Rattle.model.proofs.Tests.{told}
 use Rattle.refinement.specs.Worlds.{takesStep}
-use Rattle.refinement.specs.Demand3.{Lengths, Ideal, ideal, among, begun, startNumber, startAnswer, keyAnswer, resizeAnswer, afterStep, stepAnswer, stepsFirst, onAnswer, thenGrows, groupPairs, scanAnswer, readAnswer, predict}
+use Rattle.refinement.specs.Demand3.{Lengths, Ideal, ideal, among, begun, startNumber, startAnswer, keyAnswer, resizeAnswer, afterStep, stepTaken, stepAnswer, stepsFirst, onAnswer, thenGrows, withNotes, predict}
 use Rattle.refinement.specs.RehashesEnd.{isStep}
 use Rattle.invariant.proofs.Lists.{of-keep}
-use Rattle.refinement.proofs.IdealSteps.{either, one-not-two, any-step, any-growth, any-first, one-stays}
+use Rattle.refinement.proofs.IdealSteps.{either, one-not-two, any-step, any-hand, any-read, any-note, any-growth, not-paused, any-first, one-stays, paused-refused, paused-stays}
 use Rattle.refinement.proofs.PlainMaps.{tells-among}
 use Rattle.refinement.proofs.MovedKeys.{lowestOf, lowest-reached, lowest-below}
 use Rattle.refinement.proofs.CalledBuckets.{stepsLeft, in-table, rest-sub, rest-behind, moving-less, passing-less, fewer-less}
@@ -49,6 +50,9 @@ module _ (l : Lengths) (i : Ideal) (size old new : ℕ) (resting : i .tables ≡
 
 -- only with that, be it one that follows an add
 module _ (l : Lengths) (i : Ideal) (size old new : ℕ) (resting : i .tables ≡ Tables.one size) where
+  abbrev still : i .tables ≡ Tables.two old new → JustBegun i
+  still = still-one l i size old new resting
+
   on-begins : (key : ℕ) (c : KeyCall) → Begins l i size old new resting (predict l i (Call.on key c))
   unfolding predict onAnswer keyAnswer reply ideal
   on-begins key c =
@@ -65,25 +69,24 @@ module _ (l : Lengths) (i : Ideal) (size old new : ℕ) (resting : i .tables ≡
 
   step-begins : (t : Tables) → t ≡ Tables.one size → Begins l i size old new resting (stepAnswer i t (i .unmoved))
   unfolding stepAnswer reply
-  step-begins (Tables.one a) e = still-one l i size old new resting
+  step-begins (Tables.one a) e = still
   step-begins (Tables.two a b) e = absurd (one-not-two (sym e))
 
   pub begins : (c : Call) → Begins l i size old new resting (predict l i c)
-  unfolding predict startAnswer begun scanAnswer readAnswer reply ideal
+  unfolding predict startAnswer begun withNotes reply ideal
   begins (Call.init capacity n) = by (startNumber l capacity n)
     where
       by : (m : ℕ) → Begins l i size old new resting (startAnswer i capacity n m)
       by zero e = absurd (one-not-two e)
-      by (suc m) e = still-one l i size old new resting e
+      by (suc m) e = still e
   begins (Call.on key c) = on-begins key c
   begins (Call.resize n) = resize-begins l i size old new resting n (i .tables)
   begins Call.rehashStep = step-begins (i .tables) resting
-  begins (Call.scan cursor lent) =
-      either (Begins l i size old new resting) (leb (length (groupPairs i cursor) * 2) (length lent)) _ _
-      (still-one l i size old new resting) (still-one l i size old new resting)
-  begins (Call.read (ReadCall.suggestedSize growing)) = still-one l i size old new resting
-  begins (Call.read ReadCall.currentTable) = still-one l i size old new resting
-  begins (Call.allowResize allowed) = λ e. absurd (one-not-two (sym resting ∙ e))
+  begins (Call.scan cursor lent) = any-hand i (Begins l i size old new resting) _ _ (length lent) still still
+  begins (Call.iterate place lent) = any-hand i (Begins l i size old new resting) _ _ (length lent) still still
+  begins (Call.read c) = any-read i (Begins l i size old new resting) c (λ vs. still) still
+  begins (Call.note c) =
+      any-note i (Begins l i size old new resting) c (λ allowed iterators e. absurd (one-not-two (sym resting ∙ e))) still still
 
 -- ---- and goes on
 
@@ -139,8 +142,8 @@ module _ (i : Ideal) (size new a b : ℕ) (pos : 0 < size) where
       }
 
   step-goes : (keys : List ℕ) → ((k : ℕ) → In k keys → i .index ≤ bucketOf k size)
-      → StepGoes keys (stepAnswer i (Tables.two size new) keys)
-  unfolding stepAnswer afterStep reply ideal lowestOf Onward
+      → StepGoes keys (stepTaken i size new keys)
+  unfolding stepTaken afterStep reply ideal lowestOf Onward
   step-goes [] above e = absurd (one-not-two e)
   step-goes (k ∷ ks) above e = by (ltb low (i .index + emptyVisits)) refl e
     where
@@ -209,17 +212,17 @@ key-keeps i r =
       held = λ g k h. told (tells-among k keys) (of-keep (λ j. among j keys) k (i .unmoved) h .1);
     }
 
--- So a call takes a step, and leaves what that leaves; or it takes none. Or its step ends the rehash, and the next one begins
--- with the same call.
-pub data Passes (i : Ideal) (c : Call) (j : Ideal) : Type 0 where
-  stepped : Kept (stepAnswer i (i .tables) (i .unmoved) .state) j → Passes i c j
-  stayed : isStep c ≡ false → Kept i j → Passes i c j
-  renewed : JustBegun j → j .turned ≡ not (i .turned) → Passes i c j
+-- So a call, answered with that number, takes a step that nothing holds up, and leaves what that leaves; or it takes none, as
+-- a step call that is refused. Or its step ends the rehash, and the next one begins with the same call.
+pub data Passes (i : Ideal) (c : Call) (number : ℕ) (j : Ideal) : Type 0 where
+  stepped : i .iterators ≡ 0 → Kept (stepAnswer i (i .tables) (i .unmoved) .state) j → Passes i c number j
+  stayed : (isStep c && eqb number 0) ≡ false → Kept i j → Passes i c number j
+  renewed : JustBegun j → j .turned ≡ not (i .turned) → Passes i c number j
 
 module _ (l : Lengths) (i : Ideal) (size new : ℕ) (moving : i .tables ≡ Tables.two size new) (a b : ℕ) where
   -- (or else it starts anew)
   abbrev GoesOn : Call → Reply Ideal → Type 0
-  GoesOn c r = r .state .tables ≡ Tables.two a b → Passes i c (r .state)
+  GoesOn c r = r .state .tables ≡ Tables.two a b → Passes i c (r .number) (r .state)
 
   resize-passes : (n : ℕ) (t : Tables) → t ≡ Tables.two size new → GoesOn (Call.resize n) (resizeAnswer l i n t)
   unfolding resizeAnswer reply isStep
@@ -232,7 +235,8 @@ module _ (l : Lengths) (i : Ideal) (size new : ℕ) (moving : i .tables ≡ Tabl
   unfolding reply afterStep ideal
   over-turned n =
       any-step i (λ r. r .state .tables ≡ Tables.one n → r .state .turned ≡ not (i .turned)) (i .tables) (i .unmoved)
-      (λ m f e. absurd (one-not-two (sym e ∙ moving))) (λ old m f. done old m)
+      (λ m f e. absurd (one-not-two (sym e ∙ moving))) (λ some e. absurd (one-not-two (sym e ∙ moving)))
+      (λ old m f none. done old m)
     where
       done : (old m count : ℕ) (ks : List ℕ) (next : ℕ) → afterStep i old m count ks next .state .tables ≡ Tables.one n
           → afterStep i old m count ks next .state .turned ≡ not (i .turned)
@@ -240,8 +244,16 @@ module _ (l : Lengths) (i : Ideal) (size new : ℕ) (moving : i .tables ≡ Tabl
       done old m count (k ∷ ks) next e = absurd (one-not-two (sym e))
 
   on-passes : (key : ℕ) (c : KeyCall) → GoesOn (Call.on key c) (predict l i (Call.on key c))
-  unfolding predict onAnswer stepsFirst reply isStep
-  on-passes key c = by (takesStep c && eqb (map .number) 0)
+  unfolding predict onAnswer thenGrows keyAnswer stepsFirst reply isStep
+  on-passes key c =
+      either (λ (j : Ideal). GoesOn (Call.on key c) (thenGrows l c (keyAnswer j map))) (takesStep c && eqb (map .number) 0) stepped i
+      (elim (ℕ-discrete (i .iterators) 0) [
+        | yes none ↦ stepping none
+        | no some ↦
+            subst (λ (j : Ideal). GoesOn (Call.on key c) (thenGrows l c (keyAnswer j map)))
+            (sym (paused-stays i (omega (arith, some)))) staying
+      ])
+      staying
     where
       map : Reply PlainMap
       map = mapDoes (i .plain) key c
@@ -249,27 +261,42 @@ module _ (l : Lengths) (i : Ideal) (size new : ℕ) (moving : i .tables ≡ Tabl
       stepped : Ideal
       stepped = stepAnswer i (i .tables) (i .unmoved) .state
 
+      GoesTo : Ideal → Type 0
+      GoesTo j = j .tables ≡ Tables.two a b → Passes i (Call.on key c) (map .number) j
+
       -- growth behind it, where one table is left
       grown : (j : Ideal) → ((n : ℕ) → j .tables ≡ Tables.one n → j .turned ≡ not (i .turned))
-          → (n m : ℕ) → j .tables ≡ Tables.one n → GoesOn (Call.on key c) (resizeAnswer l j m (Tables.one n))
+          → (n m : ℕ) → j .tables ≡ Tables.one n → GoesTo (resizeAnswer l j m (Tables.one n) .state)
       grown j turned n m e f =
           Passes.renewed (resize-begins l j n a b e m (Tables.one n) f)
           (resize-turned l j m (Tables.one n) ∙ turned n e)
 
-      by : (t : Bool) → GoesOn (Call.on key c) (thenGrows l c (keyAnswer (cond t stepped i) map))
-      by true =
+      stepping : i .iterators ≡ 0 → GoesOn (Call.on key c) (thenGrows l c (keyAnswer stepped map))
+      stepping none =
           let kept = key-keeps stepped map in
-          any-growth l (λ (j : Ideal). j .tables ≡ Tables.two a b → Passes i (Call.on key c) j) c (keyAnswer stepped map)
+          any-growth l GoesTo c (keyAnswer stepped map)
           (grown (keyAnswer stepped map .state) (λ n e. kept .turned ∙ over-turned n (sym (kept .tables) ∙ e)))
-          (λ e. Passes.stepped kept)
-      by false =
+          (λ e. Passes.stepped none kept)
+
+      staying : GoesOn (Call.on key c) (thenGrows l c (keyAnswer i map))
+      staying =
           let kept = key-keeps i map in
-          any-growth l (λ (j : Ideal). j .tables ≡ Tables.two a b → Passes i (Call.on key c) j) c (keyAnswer i map)
+          any-growth l GoesTo c (keyAnswer i map)
           (grown (keyAnswer i map .state) (λ n e. absurd (one-not-two (sym e ∙ kept .tables ∙ moving))))
           (λ e. Passes.stayed refl kept)
 
+  step-passes : GoesOn Call.rehashStep (stepAnswer i (i .tables) (i .unmoved))
+  unfolding isStep
+  step-passes e =
+      elim (ℕ-discrete (i .iterators) 0) [
+        | yes none ↦ Passes.stepped none (same _)
+        | no some ↦
+            let (number, state) = paused-refused i (omega (arith, some)) in
+            Passes.stayed number (subst (Kept i) (sym state) (same i))
+      ]
+
   pub passes : (c : Call) → GoesOn c (predict l i c)
-  unfolding predict startAnswer begun scanAnswer readAnswer reply ideal isStep
+  unfolding predict startAnswer begun withNotes reply ideal isStep
   passes (Call.init capacity n) = by (startNumber l capacity n)
     where
       by : (m : ℕ) → GoesOn (Call.init capacity n) (startAnswer i capacity n m)
@@ -277,14 +304,20 @@ module _ (l : Lengths) (i : Ideal) (size new : ℕ) (moving : i .tables ≡ Tabl
       by (suc m) e = Passes.stayed refl (same i)
   passes (Call.on key c) = on-passes key c
   passes (Call.resize n) = resize-passes n (i .tables) moving
-  passes Call.rehashStep = λ e. Passes.stepped (same _)
+  passes Call.rehashStep = step-passes
   passes (Call.scan cursor lent) =
-      either (GoesOn (Call.scan cursor lent)) (leb (length (groupPairs i cursor) * 2) (length lent)) _ _
+      any-hand i (GoesOn (Call.scan cursor lent)) _ _ (length lent) (λ e. Passes.stayed refl (same i))
+      (λ e. Passes.stayed refl (same i))
+  passes (Call.iterate place lent) =
+      any-hand i (GoesOn (Call.iterate place lent)) _ _ (length lent) (λ e. Passes.stayed refl (same i))
+      (λ e. Passes.stayed refl (same i))
+  passes (Call.read c) =
+      any-read i (GoesOn (Call.read c)) c (λ vs e. Passes.stayed refl (same i)) (λ e. Passes.stayed refl (same i))
+  passes (Call.note c) =
+      any-note i (GoesOn (Call.note c)) c
+      (λ allowed iterators e.
+      Passes.stayed refl (record { tables = refl; turned = refl; index = refl; only = λ k h. h; held = λ f. f }))
       (λ e. Passes.stayed refl (same i)) (λ e. Passes.stayed refl (same i))
-  passes (Call.read (ReadCall.suggestedSize growing)) = λ e. Passes.stayed refl (same i)
-  passes (Call.read ReadCall.currentTable) = λ e. Passes.stayed refl (same i)
-  passes (Call.allowResize allowed) =
-      λ e. Passes.stayed refl (record { tables = refl; turned = refl; index = refl; only = λ k h. h; held = λ f. f })
 
   -- the current buffer stays the same, with a step too; or another rehash has just begun
   pub still-turned : (c : Call) → predict l i c .state .tables ≡ Tables.two a b
@@ -297,26 +330,27 @@ module _ (l : Lengths) (i : Ideal) (size new : ℕ) (moving : i .tables ≡ Tabl
       done old n count [] next e = absurd (one-not-two e)
       done old n count (k ∷ ks) next e = refl
 
-      by : Passes i c (predict l i c .state) → (predict l i c .state .turned ≡ i .turned) ⊎ JustBegun (predict l i c .state)
-      by (Passes.stepped k) =
+      by : Passes i c (predict l i c .number) (predict l i c .state) → (predict l i c .state .turned ≡ i .turned) ⊎ JustBegun (predict l i c .state)
+      by (Passes.stepped none k) =
           inl
           (k .turned
           ∙ any-step i (λ r. r .state .tables ≡ Tables.two a b → r .state .turned ≡ i .turned) (i .tables) (i .unmoved)
-          (λ n f e. refl) (λ old n f. done old n) (sym (k .tables) ∙ e))
+          (λ n f e. refl) (λ some e. refl) (λ old n f g. done old n) (sym (k .tables) ∙ e))
       by (Passes.stayed f k) = inl (k .turned)
       by (Passes.renewed just turned) = inr just
 
 -- While it is under way: a step, and what leaves it.
 module _ (size : ℕ) (i : Ideal) (d : During size i) where
-  pub goes-step : 0 < size → (a b : ℕ) → stepAnswer i (i .tables) (i .unmoved) .state .tables ≡ Tables.two a b
+  pub goes-step : 0 < size → i .iterators ≡ 0 → (a b : ℕ)
+      → stepAnswer i (i .tables) (i .unmoved) .state .tables ≡ Tables.two a b
       → During size (stepAnswer i (i .tables) (i .unmoved) .state)
       × Goes size i (i .unmoved) (stepAnswer i (i .tables) (i .unmoved) .state)
-  goes-step pos a b e =
+  goes-step pos none a b e =
+      let taken : stepAnswer i (i .tables) (i .unmoved) ≡ stepTaken i size (d .new) (i .unmoved) =
+      ap (λ (t : Tables). stepAnswer i t (i .unmoved)) (d .tables) ∙ not-paused i size (d .new) (i .unmoved) none in
       let g =
-      subst
-      (λ (t : Tables).
-      stepAnswer i t (i .unmoved) .state .tables ≡ Tables.two a b → Goes size i (i .unmoved) (stepAnswer i t (i .unmoved) .state))
-      (sym (d .tables)) (step-goes i size (d .new) a b pos (i .unmoved) (d .above)) e in (
+      subst (StepGoes i size (d .new) a b pos (i .unmoved)) (sym taken)
+      (step-goes i size (d .new) a b pos (i .unmoved) (d .above)) e in (
         record {
           new = g .new;
           tables = g .tables;

@@ -104,6 +104,13 @@ growth-plain l c r =
     either (λ (q : Reply Ideal). q .state .plain ≡ r .state .plain) (acceptable old _ size) _ _ refl refl)
     refl
 
+-- with no safe iterator it is taken
+pub not-paused : (i : Ideal) (old new : ℕ) (unmoved : List ℕ) → i .iterators ≡ 0
+    → stepAnswer i (Tables.two old new) unmoved ≡ stepTaken i old new unmoved
+unfolding stepAnswer
+not-paused i old new unmoved none =
+    ap (λ (n : ℕ). cond (ltb 0 n) (reply 18 (0 ∷ 0 ∷ []) i) (stepTaken i old new unmoved)) none
+
 module _ (i : Ideal) where
   abbrev stepped : Ideal
   stepped = stepAnswer i (i .tables) (i .unmoved) .state
@@ -131,11 +138,15 @@ module _ (i : Ideal) where
   unfolding stepAnswer reply
   one-stays size e = ap (λ (t : Tables). stepAnswer i t (i .unmoved) .state) e
 
-  pub paused-stays : 0 < i .iterators → stepAnswer i (i .tables) (i .unmoved) .state ≡ i
+  pub paused-refused : 0 < i .iterators
+      → (eqb (stepAnswer i (i .tables) (i .unmoved) .number) 0 ≡ false) × (stepAnswer i (i .tables) (i .unmoved) .state ≡ i)
   unfolding reply
-  paused-stays some =
-      any-step i (λ (r : Reply Ideal). r .state ≡ i) (i .tables) (i .unmoved) (λ size e. refl) (λ g. refl)
-      (λ old new e none. absurd (omega arith))
+  paused-refused some =
+      any-step i (λ (r : Reply Ideal). (eqb (r .number) 0 ≡ false) × (r .state ≡ i)) (i .tables) (i .unmoved)
+      (λ size e. (refl, refl)) (λ g. (refl, refl)) (λ old new e none. absurd (omega arith))
+
+  pub paused-stays : 0 < i .iterators → stepAnswer i (i .tables) (i .unmoved) .state ≡ i
+  paused-stays some = paused-refused some .1
 
   -- .. and it leaves the pairs
   pub same-pairs : stepAnswer i (i .tables) (i .unmoved) .state .plain ≡ i .plain

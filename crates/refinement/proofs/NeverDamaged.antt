@@ -1,24 +1,24 @@
 -- Over every sequence of calls of a store that meets demand 3 no chain is found damaged: every chain is sound, in demand 1's
 -- words, and no call answers 2. So no such store ever meets a key off its bucket.
 -- Assumes nothing.
-use Prim.Native.Nat.{ℕ, zero, suc, _*_}
+use Prim.Native.Nat.{ℕ, zero, suc}
 use mathlib.Core.Path.{_≡_, refl, sym, subst, _∙_}
 use mathlib.Core.Bool.{Bool, true, false, _&&_, cond}
 use mathlib.Core.List.{List, [], _∷_}
 use mathlib.Core.Option.{Option, none, some}
 use lib.ListN.{length}
-use lib.Dec.{leb, eqb}
+use lib.Dec.{eqb}
 use borrow.Author.Tests.{eqb-false}
 use Rattle.model.specs.Limits.{legalCapacity, legalSize}
 use Rattle.model.specs.Memory.{Place, Live}
 use Rattle.model.specs.Answers.{Reply, reply}
 use Rattle.model.specs.Calls.{longEnough, acceptable}
 use Rattle.model.specs.Walk.{Tables}
-use Rattle.model.specs.Sequences.{World, KeyCall, ReadCall, Call, Outcome, carry, run, Event, events, PlainMap, valueFor, mapAnswer, mapDoes}
+use Rattle.model.specs.Sequences.{World, KeyCall, Call, Outcome, carry, run, Event, events, PlainMap, valueFor, mapAnswer, mapDoes}
 use Rattle.refinement.specs.Worlds.{UndamagedAt}
 use Rattle.refinement.specs.Demand1.{SoundChain}
-use Rattle.refinement.specs.Demand3.{Lengths, lengthsOf, Ideal, begun, startNumber, startAnswer, keyAnswer, onAnswer, thenGrows, resizeAnswer, afterStep, groupPairs, scanAnswer, readAnswer, predict, Answered, Demand3}
-use Rattle.refinement.proofs.IdealSteps.{either, any-step}
+use Rattle.refinement.specs.Demand3.{Lengths, lengthsOf, Ideal, begun, startNumber, startAnswer, keyAnswer, onAnswer, thenGrows, resizeAnswer, afterStep, predict, Answered, Demand3}
+use Rattle.refinement.proofs.IdealSteps.{either, any-step, any-hand, any-read, any-note}
 use Rattle.refinement.proofs.Demand1Chains.{AtPlace, place-read, place-sound}
 
 -- every chain of an undamaged store
@@ -67,19 +67,18 @@ module _ (l : Lengths) (i : Ideal) where
   done-other old new count (k ∷ ks) next = other 0 refl
 
   predicted-other : (c : Call) → Other (predict l i c)
-  unfolding predict thenGrows onAnswer keyAnswer mapDoes scanAnswer readAnswer startNumber reply
+  unfolding predict thenGrows onAnswer keyAnswer mapDoes startNumber reply
   predicted-other (Call.init capacity size) =
       start-other capacity size _
       (limits-other (legalCapacity capacity && legalSize size) (longEnough capacity size (l .first) (l .entries)))
   predicted-other (Call.on key c) = map-other (i .plain) key c (valueFor key (i .plain .pairs))
   predicted-other (Call.resize size) = resize-other size (i .tables)
   predicted-other Call.rehashStep = any-step i Other (i .tables) (i .unmoved) (λ size e. other 8 refl)
-      (λ old new e. done-other old new)
-  predicted-other (Call.scan cursor lent) =
-      either Other (leb (length (groupPairs i cursor) * 2) (length lent)) _ _ (other 0 refl) (other 9 refl)
-  predicted-other (Call.read (ReadCall.suggestedSize growing)) = other 0 refl
-  predicted-other (Call.read ReadCall.currentTable) = other 0 refl
-  predicted-other (Call.allowResize allowed) = other 0 refl
+      (λ some. other 18 refl) (λ old new e none. done-other old new)
+  predicted-other (Call.scan cursor lent) = any-hand i Other _ _ (length lent) (other 0 refl) (other 9 refl)
+  predicted-other (Call.iterate place lent) = any-hand i Other _ _ (length lent) (other 0 refl) (other 9 refl)
+  predicted-other (Call.read c) = any-read i Other c (λ vs. other 0 refl) (other 15 refl)
+  predicted-other (Call.note c) = any-note i Other c (λ allowed iterators. other 0 refl) (other 16 refl) (other 17 refl)
 
 -- of none of these calls the number is 2
 unfoldable pub NoneDamaged : List Event → Type 0

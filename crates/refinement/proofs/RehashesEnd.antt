@@ -3,7 +3,7 @@
 use Prim.Native.Nat.{ℕ, suc, _+_, _<_, _≤_}
 use mathlib.Core.Path.{_≡_, refl, sym, ap, subst, subst₃, _∙_}
 use mathlib.Core.Logic.{_⊎_, inl, inr}
-use mathlib.Core.Bool.{Bool, true, false, _&&_, not, cond}
+use mathlib.Core.Bool.{Bool, true, false, _&&_, _||_, not, cond}
 use mathlib.Core.List.{List, [], _∷_, _++_}
 use mathlib.Core.Option.{some}
 use native.Mathlib.Decide.{ℕ-discrete}
@@ -17,7 +17,7 @@ use Rattle.model.specs.Limits.{largestExponent, legalSize, emptyVisits}
 use Rattle.model.specs.Memory.{Place, Live, sizeOf, budgetAt, belongs, chain, chainAt, listed, entriesAt, keyOf, valueOf}
 use Rattle.model.specs.Calls.{sound}
 use Rattle.model.specs.Walk.{Tables, tablesBy, tablesOf}
-use Rattle.model.specs.Sequences.{World, Call, Outcome, perform, carry, run}
+use Rattle.model.specs.Sequences.{World, Call, Outcome, perform, carry, run, event, events}
 use Rattle.model.proofs.Power.{legal-pos}
 use Rattle.model.proofs.Soundness.{sound-facts}
 use Rattle.model.proofs.Chains.{chain-end}
@@ -26,7 +26,7 @@ use Rattle.model.proofs.Shared.{in-its-bucket}
 use Rattle.model.proofs.Tests.{true-not-false, told, tested}
 use Rattle.refinement.specs.Worlds.{current, other, UndamagedAt, Held}
 use Rattle.refinement.specs.Demand1.{headOf, EmptyFrom, FirstFilled}
-use Rattle.refinement.specs.Demand3.{Lengths, lengthsOf, Ideal, begun, among, tableOf, predict, replay, Matches, Demand3}
+use Rattle.refinement.specs.Demand3.{Lengths, lengthsOf, Ideal, begun, among, tableOf, predict, replay, Answered, Matches, Demand3}
 use Rattle.refinement.specs.RehashesEnd.{Ongoing, UnderWay, isStep, answeredStep, answeredSteps, filledBuckets, mostSteps, Advances, RehashEnds, RehashesEnd}
 use Rattle.invariant.proofs.Sums.{sum-atmost, sum-few}
 use Rattle.refinement.proofs.IdealSteps.{one-at-most}
@@ -55,15 +55,16 @@ Moves size keys w v =
     × FirstFilled w (bucketOf k size)
     × (v .state .«rehash_index» ≡ suc (bucketOf k size)))
 
-record Beside (l : Lengths) (w : World) (i : Ideal) : Type 0 where
+record Beside (does : World → Call → Outcome) (l : Lengths) (w : World) (i : Ideal) : Type 0 where
   undamaged : UndamagedAt w
   matches : Matches l w i
+  numbers : (c : Call) → does w c .reply .number ≡ predict l i c .number
 
 -- whatever calls come
 abbrev Along : (World → Call → Outcome) → Lengths → World → Ideal → Type 0
-Along does l w i = (calls : List Call) → Beside l (run does w calls) (replay l i calls)
+Along does l w i = (calls : List Call) → Beside does l (run does w calls) (replay l i calls)
 
-module _ (l : Lengths) (w : World) (i : Ideal) (beside : Beside l w i) where
+module _ {does : World → Call → Outcome} (l : Lengths) (w : World) (i : Ideal) (beside : Beside does l w i) where
   abbrev size : ℕ
   size = w .state .«old_size»
 
@@ -203,15 +204,17 @@ not-itself : (b : Bool) → b ≡ not b → ⊥
 not-itself true e = true-not-false e
 not-itself false e = true-not-false (sym e)
 
-no-step : (w : World) (c : Call) (o : Outcome) → isStep c ≡ false
+no-step : (w : World) (c : Call) (o : Outcome) → (isStep c && eqb (o .reply .number) 0) ≡ false
     → carry w o .state .«rehash_index» ≡ w .state .«rehash_index» → answeredStep w c o ≡ false
 unfolding answeredStep
 no-step w c o f e =
-    rw (f, eq-eqb (carry w o .state .«rehash_index») (w .state .«rehash_index») e) (both (eqb (o .reply .number) 0))
+    rw (eq-eqb (carry w o .state .«rehash_index») (w .state .«rehash_index») e) (by (isStep c) (eqb (o .reply .number) 0) f)
   where
-    both : (t : Bool) → (t && false) ≡ false
-    both true = refl
-    both false = refl
+    by : (s t : Bool) → (s && t) ≡ false → (t && (s || false)) ≡ false
+    by true true f = f
+    by true false f = refl
+    by false true f = refl
+    by false false f = refl
 
 -- what a call does, counted if it is an answered step
 record OneCall (size : ℕ) (w : World) (i : Ideal) (c : Call) (o : Outcome) (j : Ideal) : Type 0 where
@@ -232,15 +235,15 @@ module _ (does : World → Call → Outcome) (l : Lengths) (size : ℕ) (pos : 0
       i′ : Ideal
       i′ = predict l i c .state
 
-      then : Beside l w′ i′
+      then : Beside does l w′ i′
       then = along (c ∷ [])
 
       tables : i′ .tables ≡ Tables.two (w′ .state .«old_size») (w′ .state .«new_size»)
       tables = moving-tables l w′ i′ then (after .0)
 
-      by : Passes i c i′ → OneCall size w i c (does w c) i′
-      by (Passes.stepped kept) =
-          let (at-step, g) = goes-step size i d pos _ _ (sym (kept .tables) ∙ tables) in
+      by : Passes i c (predict l i c .number) i′ → OneCall size w i c (does w c) i′
+      by (Passes.stepped unpaused kept) =
+          let (at-step, g) = goes-step size i d pos unpaused _ _ (sym (kept .tables) ∙ tables) in
           let (on, less) = goes-kept size _ at-step i′ kept in
           record {
             during = on;
@@ -250,7 +253,8 @@ module _ (does : World → Call → Outcome) (l : Lengths) (size : ℕ) (pos : 0
           }
       by (Passes.stayed f kept) =
           let (on, less) = goes-kept size i d i′ kept in
-          let none = no-step w c (does w c) f (then .matches .index ∙ kept .index ∙ sym (along [] .matches .index)) in
+          let none =
+          no-step w c (does w c) (subst (λ (n : ℕ). (isStep c && eqb n 0) ≡ false) (sym (along [] .numbers c)) f) (then .matches .index ∙ kept .index ∙ sym (along [] .matches .index)) in
           record {
             during = on;
             less = omega (arith, ap (λ (t : Bool). cond {A = ℕ} t 1 0) none);
@@ -306,6 +310,13 @@ module _ (does : World → Call → Outcome) (l : Lengths) where
   replay-last [] i c = refl
   replay-last (e ∷ cs) i c = replay-last cs (predict l i e .state) c
 
+  -- the number of the last call
+  last-number : (calls : List Call) (w : World) (i : Ideal) (c : Call) → Answered l i (events does w (calls ++ c ∷ []))
+      → does (run does w calls) c .reply .number ≡ predict l (replay l i calls) c .number
+  unfolding run replay events event Answered
+  last-number [] w i c a = a .0 .number
+  last-number (e ∷ cs) w i c a = last-number cs (carry w (does w e)) (predict l i e .state) c (a .1)
+
   ends : (w : World) (i : Ideal) → Along does l w i → (before : List Call) (first : Call)
       → ¬ Ongoing (run does w (before ++ first ∷ [])) (run does w before) → (calls : List Call)
       → RehashEnds does (run does w (before ++ first ∷ [])) calls
@@ -329,7 +340,7 @@ module _ (does : World → Call → Outcome) (l : Lengths) where
       i′ : Ideal
       i′ = replay l i (before ++ first ∷ [])
 
-      at : Beside l w′ i′
+      at : Beside does l w′ i′
       at = along (before ++ first ∷ [])
 
       some : 0 < w′ .state .«old_size»
@@ -396,9 +407,17 @@ demand3-ends does d =
     record {
       rehashes =
           λ w capacity size answered before first not-before calls.
-          ends does (lengthsOf w) (carry w (does w (Call.init capacity size))) (begun capacity size)
+          let l = lengthsOf w in
+          let v = carry w (does w (Call.init capacity size)) in
+          let i = begun capacity size in
+          ends does l v i
           (λ cs.
-          let s = d .sequence w capacity size answered cs in record { undamaged = s .undamaged; matches = s .matches })
+          let s = d .sequence w capacity size answered cs in
+          record {
+            undamaged = s .undamaged;
+            matches = s .matches;
+            numbers = λ c. last-number does l cs v i c (d .sequence w capacity size answered (cs ++ c ∷ []) .answers);
+          })
           before first not-before calls;
     }
 

@@ -15,7 +15,7 @@ use Rattle.model.specs.Answers.{Reply, reply}
 use Rattle.model.specs.Sequences.{Call, Event, Pair, keysOf}
 use Rattle.model.proofs.Tests.{told, tested}
 use Rattle.refinement.specs.Demand2.{nextCursor}
-use Rattle.refinement.specs.Demand3.{Lengths, Ideal, inGroup, groupPairs, scanAnswer, predict, handedOut, AsPredicted, Answered, Visit, visit, Walk}
+use Rattle.refinement.specs.Demand3.{Lengths, Ideal, inGroup, groupPairs, handAnswer, predict, handedOut, AsPredicted, Answered, Visit, visit, Walk}
 use Rattle.invariant.proofs.Lists.{in-map, of-map, in-keep, of-keep}
 use Rattle.refinement.proofs.Counts.{in-filled}
 use Rattle.refinement.proofs.LiveTables.{Legal, predict-legal}
@@ -65,7 +65,7 @@ module _ (l : Lengths) (i : Ideal) (e : Event) (legal : Legal (i .tables)) (a : 
   answer = getD (e .values) 0 0
 
   answers : answer ≡ nextCursor keys (groupOf (laws .live) due .answered)
-  unfolding predict scanAnswer reply
+  unfolding predict handAnswer reply
   answers =
       let enough = leb (length (groupPairs i due) * 2) (length lent) in
       let said = chosen enough _ _ (rw c at (sym (a .number) ∙ z)) (λ e. omega arith) in

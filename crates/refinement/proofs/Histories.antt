@@ -27,42 +27,45 @@ record Predicted (l : Lengths) (w : World) (i : Ideal) (c : Call) : Type 0 where
   answers : AsPredicted l i (event c (perform w c))
   agrees : Agrees (carry w (perform w c)) (predict l i c .state)
 
--- walk calls and those that iterate hand out pairs
-unfoldable handsOut : Call → Bool
-handsOut (Call.init capacity size) = false
-handsOut (Call.on key c) = false
-handsOut (Call.resize size) = false
-handsOut Call.rehashStep = false
-handsOut (Call.scan cursor lent) = true
-handsOut (Call.iterate place lent) = true
-handsOut (Call.read c) = false
-handsOut (Call.note c) = false
+-- walk calls and those that iterate are lent a list, and hand out pairs
+unfoldable lentList : Call → Bool
+lentList (Call.init capacity size) = false
+lentList (Call.on key c) = false
+lentList (Call.resize size) = false
+lentList Call.rehashStep = false
+lentList (Call.scan cursor lent) = true
+lentList (Call.iterate place lent) = true
+lentList (Call.read c) = false
+lentList (Call.note c) = false
 
 -- any other call
-plain : (l : Lengths) (w : World) (i : Ideal) (c : Call) → Steps w c (predict l i c) → handsOut c ≡ false → Predicted l w i c
-unfolding event handsOut
+plain : (l : Lengths) (w : World) (i : Ideal) (c : Call) → Steps w c (predict l i c) → lentList c ≡ false → Predicted l w i c
+unfolding event lentList
 plain l w i c s none =
     record {
       answers =
           record {
             number = s .number;
             values = s .values;
-            answered-walk = λ cursor lent e z. absurd (true-not-false (sym (ap handsOut e) ∙ none));
-            refused-walk = λ cursor lent e z. absurd (true-not-false (sym (ap handsOut e) ∙ none));
-            answered-pass = λ place lent e z. absurd (true-not-false (sym (ap handsOut e) ∙ none));
-            refused-pass = λ place lent e z. absurd (true-not-false (sym (ap handsOut e) ∙ none));
+            answered-walk = λ cursor lent e z. absurd (no _ refl e);
+            refused-walk = λ cursor lent e z. absurd (no _ refl e);
+            answered-pass = λ place lent e z. absurd (no _ refl e);
+            refused-pass = λ place lent e z. absurd (no _ refl e);
           };
       agrees = s .agrees;
     }
+  where
+    no : (d : Call) → lentList d ≡ true → c ≡ d → ⊥
+    no d t e = true-not-false (sym t ∙ sym (ap lentList e) ∙ none)
 
 module _ (w : World) (i : Ideal) (a : Agrees w i) (l : Lengths) (same : lengthsOf w ≡ l) where
-  -- one that hands out leaves the world and the ideal
+  -- one that is lent a list leaves the world and the ideal
   handed : (c : Call) → AsPredicted l i (event c (perform w c)) → carry w (perform w c) ≡ w → predict l i c .state ≡ i
       → Predicted l w i c
   handed c answers kept left = record { answers = answers; agrees = rw (kept, left) a }
 
   any-call : (c : Call) → Predicted l w i c
-  unfolding predict reply handsOut
+  unfolding predict reply lentList
   any-call (Call.init capacity size) = plain l w i _ (init-steps w i a l same capacity size) refl
   any-call (Call.on key c) = plain l w i _ (on-steps w i a key c l same) refl
   any-call (Call.resize size) = plain l w i _ (resize-steps w i a l same size) refl

@@ -104,7 +104,7 @@ growth-plain l c r =
     either (λ (q : Reply Ideal). q .state .plain ≡ r .state .plain) (acceptable old _ size) _ _ refl refl)
     refl
 
--- with no safe iterator it is taken
+-- with two tables and no safe iterator a step is taken
 pub not-paused : (i : Ideal) (old new : ℕ) (unmoved : List ℕ) → i .iterators ≡ 0
     → stepAnswer i (Tables.two old new) unmoved ≡ stepTaken i old new unmoved
 unfolding stepAnswer

@@ -23,6 +23,10 @@ pub fn error_number(e: Error) -> u32
         Error::BadSize => 6,
         Error::Rehashing => 7,
         Error::NotRehashing => 8,
+        Error::Changed => 15,
+        Error::NoSafeIterator => 16,
+        Error::TooManyIterators => 17,
+        Error::Paused => 18,
     }
 }
 

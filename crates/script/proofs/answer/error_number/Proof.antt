@@ -29,6 +29,18 @@ enum-told-7 c = search needs
 enum-told-8 : tie.Need-enum-told-8
 enum-told-8 c = search needs
 
+enum-told-9 : tie.Need-enum-told-9
+enum-told-9 c = search needs
+
+enum-told-10 : tie.Need-enum-told-10
+enum-told-10 c = search needs
+
+enum-told-11 : tie.Need-enum-told-11
+enum-told-11 c = search needs
+
+enum-told-12 : tie.Need-enum-told-12
+enum-told-12 c = search needs
+
 returns : tie.Need-returns
 unfolding errorNumber
 returns c = search needs
@@ -61,6 +73,22 @@ returns-8 : tie.Need-returns-8
 unfolding errorNumber
 returns-8 c = search needs
 
+returns-9 : tie.Need-returns-9
+unfolding errorNumber
+returns-9 c = search needs
+
+returns-10 : tie.Need-returns-10
+unfolding errorNumber
+returns-10 c = search needs
+
+returns-11 : tie.Need-returns-11
+unfolding errorNumber
+returns-11 c = search needs
+
+returns-12 : tie.Need-returns-12
+unfolding errorNumber
+returns-12 c = search needs
+
 pub error-number-spec : {M : Type 1} → statement M
 error-number-spec =
     tie.close
@@ -73,6 +101,10 @@ error-number-spec =
     enum-told-6
     enum-told-7
     enum-told-8
+    enum-told-9
+    enum-told-10
+    enum-told-11
+    enum-told-12
     returns
     returns-2
     returns-3
@@ -80,4 +112,8 @@ error-number-spec =
     returns-5
     returns-6
     returns-7
-    returns-8)
+    returns-8
+    returns-9
+    returns-10
+    returns-11
+    returns-12)

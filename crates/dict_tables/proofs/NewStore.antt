@@ -11,12 +11,12 @@ use Rattle.model.specs.declared.Error.{Error}
 use Rattle.model.specs.declared.InitAnswer.{InitAnswer}
 use Rattle.model.specs.Limits.{legalCapacity, legalSize}
 use Rattle.model.specs.Memory.{sizeOf, usedOf}
-use Rattle.model.specs.Calls.{After, stateOf, oldNew, emptyState, permitted, cleared, freeEntries, noState, longEnough, init}
+use Rattle.model.specs.Calls.{After, stateOf, oldNew, emptyState, noted, cleared, freeEntries, noState, longEnough, init}
 
 -- the state of zeros, from that of an empty table
-pub not-allowed : (s : State) → s ≡ emptyState 0 0 0 → permitted s false ≡ noState
-unfolding permitted emptyState noState stateOf oldNew sizeOf usedOf
-not-allowed s e = ap (λ (t : State). permitted t false) e
+pub not-allowed : (s : State) → s ≡ emptyState 0 0 0 → noted s false (s .«safe_iterators») ≡ noState
+unfolding noted emptyState noState stateOf oldNew sizeOf usedOf
+not-allowed s e = ap (λ (t : State). noted t false (t .«safe_iterators»)) e
 
 module _ (first second entries : List ℕ) (capacity size : ℕ) (legal : Bool) (l : legal ≡ legalSize size) where
   pub refused-limits : (t : State) → (legalCapacity capacity && legal) ≡ false → t ≡ noState

@@ -28,7 +28,7 @@ fn link_free(entries: &mut [u32], capacity: u32)
     }
 }
 
-// The state of one table with no keys, which may grow.
+// The state of one table with no keys, which may grow, and no safe iterator.
 fn empty_state(size: u32, free_head: u32, capacity: u32) -> State
     ensures { λ r. ⌜ r ≡ calls.emptyState size «free_head» capacity ⌝ }
 {
@@ -43,6 +43,7 @@ fn empty_state(size: u32, free_head: u32, capacity: u32) -> State
         free_head,
         capacity,
         resize_allowed: true,
+        safe_iterators: 0,
     }
 }
 

@@ -75,6 +75,7 @@ fn hide(s: State, padding: &[u8; ORDER_ROOM]) -> State {
         free_head: s.free_head ^ wide(padding[39]),
         capacity: s.capacity ^ wide(padding[40]),
         resize_allowed: s.resize_allowed ^ (padding[41] != 0),
+        safe_iterators: s.safe_iterators ^ wide(padding[42]),
     }
 }
 

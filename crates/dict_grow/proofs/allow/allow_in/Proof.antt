@@ -2,13 +2,13 @@
 -- Assumes nothing.
 use borrow.Author.Needs.{needs}
 use Rattle.model.specs.Memory.{sizeOf, usedOf}
-use Rattle.model.specs.Calls.{stateOf, permitted}
+use Rattle.model.specs.Calls.{stateOf, noted}
 use Rattle.memory.proofs.Tested.{checked-refused, checked-sound}
 use Rattle.dict_grow.proofs.allow.allow_in.Statement.{statement}
 use Rattle.dict_grow.proofs.allow.allow_in.Tie as tie
 
 returns : tie.Need-returns
-unfolding permitted stateOf sizeOf usedOf
+unfolding noted stateOf sizeOf usedOf
 returns c = search checked-sound
 
 returns-2 : tie.Need-returns-2

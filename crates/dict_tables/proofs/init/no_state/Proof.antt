@@ -2,13 +2,13 @@
 -- Assumes nothing.
 use borrow.Author.Needs.{needs}
 use Rattle.model.specs.Memory.{sizeOf, usedOf}
-use Rattle.model.specs.Calls.{permitted, stateOf}
+use Rattle.model.specs.Calls.{noted, stateOf}
 use Rattle.dict_tables.proofs.NewStore.{not-allowed}
 use Rattle.dict_tables.proofs.init.no_state.Statement.{statement}
 use Rattle.dict_tables.proofs.init.no_state.Tie as tie
 
 returns : tie.Need-returns
-unfolding permitted stateOf sizeOf usedOf
+unfolding noted stateOf sizeOf usedOf
 returns c = search not-allowed
 
 pub no-state-spec : {M : Type 1} → statement M

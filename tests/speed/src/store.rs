@@ -7,9 +7,10 @@
 //! tested to belong in that bucket of that table, in the loop that reads the
 //! chain; a lookup reads both chains to their ends, even where the first entry
 //! has the key; a walk call has tested its chains, their sum and its room
-//! before it writes. In a move an add takes a step first: it has tested the
-//! chain that moves, and the key's two as the step will leave them, before
-//! either writes, so that nothing is copied and a refusal has nothing to undo.
+//! before it writes. In a move that no safe iterator holds up an add takes a
+//! step first: it has tested the chain that moves, and the key's two as the
+//! step will leave them, before either writes, so that nothing is copied and a
+//! refusal has nothing to undo.
 //! An add that leaves one table also looks whether this is to grow.
 //! There is no `unsafe` (Cargo.toml forbids it), and the state is hidden from
 //! the compiler (`work.rs`).
@@ -36,6 +37,9 @@ const LEAST_SUGGESTION: u32 = 4;
 /// allowed or not.
 const FORCE_RATIO: u32 = 5;
 
+/// The most safe iterators at a time.
+const MOST_SAFE_ITERATORS: u32 = 255;
+
 /// The numbers of an entry in its buffer: link, key, value.
 const FIELDS: usize = 3;
 
@@ -51,6 +55,7 @@ pub struct State {
     pub free_head: u32,
     pub capacity: u32,
     pub resize_allowed: bool,
+    pub safe_iterators: u32,
 }
 
 /// The specification's numbers.
@@ -225,10 +230,10 @@ impl<'a> Store<'a> {
 
     pub fn add(&mut self, key: u32, value: u32) -> Result<(), Error> {
         self.check_state()?;
-        let next_free = if self.state.rehashing {
+        let next_free = if self.is_step_due() {
             self.step_before_add(key)?
         } else {
-            if self.search(self.old_table(), key)? != 0 {
+            if self.look_up(key)? != 0 {
                 return Err(Error::Present);
             }
             self.check_number(self.link(self.first_free()?))?
@@ -239,6 +244,12 @@ impl<'a> Store<'a> {
             self.grow();
         }
         Ok(())
+    }
+
+    /// Whether an add takes a step first: in a move, unless a safe iterator
+    /// holds it up.
+    fn is_step_due(&self) -> bool {
+        self.state.rehashing && self.state.safe_iterators == 0
     }
 
     /// Whether the only table has too many keys: one for each bucket, where
@@ -260,7 +271,7 @@ impl<'a> Store<'a> {
         }
     }
 
-    /// The step of an add in a move. That both are answered is known before the
+    /// The step of an add. That both are answered is known before the
     /// step writes, from the memory as it is. Answers the link that the first
     /// free entry has behind the step.
     fn step_before_add(&mut self, key: u32) -> Result<u32, Error> {
@@ -372,6 +383,7 @@ impl<'a> Store<'a> {
                 free_head: state.free_head,
                 capacity: state.capacity,
                 resize_allowed: state.resize_allowed,
+                safe_iterators: state.safe_iterators,
                 ..State::default()
             };
         }
@@ -594,6 +606,7 @@ impl<'a> Store<'a> {
             && state.capacity as usize * FIELDS <= self.entries.len()
             && held <= u64::from(state.capacity)
             && state.free_head <= state.capacity
+            && state.safe_iterators <= MOST_SAFE_ITERATORS
             && is_legal_size(state.old_size)
             && state.old_size as usize <= current.len()
             && if state.rehashing {
@@ -715,12 +728,13 @@ mod tests {
 
     #[test]
     fn unsound_states_are_refused() {
-        let spoil: [fn(&mut State); 14] = [
+        let spoil: [fn(&mut State); 15] = [
             |s| s.capacity = 0,
             |s| s.capacity = 9,
             |s| s.capacity = MAX_CAPACITY + 1,
             |s| s.old_used = 9,
             |s| s.free_head = 9,
+            |s| s.safe_iterators = MOST_SAFE_ITERATORS + 1,
             |s| s.old_size = 0,
             |s| s.old_size = 3,
             |s| s.old_size = 8,
@@ -1271,6 +1285,60 @@ mod tests {
                 ..State::default()
             };
             assert_eq!(store.state, ended);
+        });
+    }
+
+    /// An add goes to the new table all the same, and looks in both.
+    #[test]
+    fn a_safe_iterator_holds_up_the_steps_of_adds() {
+        with_move(|store| {
+            for (iterators, key) in [(1, 12), (MOST_SAFE_ITERATORS, 13)] {
+                store.state.safe_iterators = iterators;
+                let before = store.state;
+                let first = store.first.to_vec();
+                for held in [4, 9] {
+                    expect_refused(store, held, Error::Present);
+                }
+                assert_eq!(store.add(key, key * 10), Ok(()));
+                expect_refused(store, key, Error::Present);
+                assert_eq!(store.first, first);
+                let added = State {
+                    new_used: before.new_used + 1,
+                    free_head: before.free_head + 1,
+                    ..before
+                };
+                assert_eq!(store.state, added);
+            }
+            // The chain that a step would move is not read, the key's own are.
+            set_key(store, 4, 3);
+            expect_added(store, 2);
+            expect_refused(store, 20, Error::Damaged);
+            set_key(store, 4, 4);
+
+            store.state.safe_iterators = 0;
+            assert_eq!(store.add(2, 20), Ok(()));
+            assert_eq!(store.state.rehash_index, 1);
+            let pairs = [
+                (1, 10),
+                (2, 20),
+                (4, 40),
+                (5, 50),
+                (9, 90),
+                (12, 120),
+                (13, 130),
+            ];
+            assert_eq!(walked(store), pairs);
+        });
+    }
+
+    #[test]
+    fn a_table_grows_with_a_safe_iterator_too() {
+        with_keys(4, 64, 3, true, |store| {
+            store.state.safe_iterators = 1;
+            assert_eq!(store.add(3, 3), Ok(()));
+            let state = store.state;
+            assert_eq!((state.old_size, state.new_size), (4, 8));
+            assert_eq!(state.safe_iterators, 1);
         });
     }
 

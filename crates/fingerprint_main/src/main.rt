@@ -50,7 +50,8 @@ fn fingerprint_of(bytes: &[u8; ARRAY_BYTES]) -> u64
     ])
 }
 
-// Answers one array, and says whether there was one.
+// Answers one array, and says whether that could be done. One that is cut short counts as none, and
+// a read that fails as the end: the lines that are missing show.
 fn answer_one() -> bool {
     let mut bytes = [0u8; ARRAY_BYTES];
     if io::read_full(STDIN_FILENO, &mut bytes) < ARRAY_BYTES {

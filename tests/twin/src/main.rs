@@ -6,14 +6,19 @@
 //! walk's promises, the plain map, the bound on a move's steps and the rule by
 //! which a table grows.
 //!
+//! With `--fingerprint` it compares a program that answers fingerprints with its
+//! own, on arrays at the ends of the numbers' range and on random ones.
+//!
 //! ```text
-//! cargo run --release -- PATH-TO-PROGRAM [SEED] [COUNT]
+//! cargo run --release -- [--fingerprint] PATH-TO-PROGRAM [SEED] [COUNT]
 //! ```
 //!
 //! Status 0: all agree. 1: a difference or a broken promise. 2: wrong use.
 
+mod arrays;
 mod cases;
 mod cursor;
+mod fingerprint;
 mod line;
 mod program;
 mod random;
@@ -30,7 +35,7 @@ use std::path::PathBuf;
 use std::process::ExitCode;
 use walk::Tally;
 
-const USAGE: &str = "usage: twin PATH-TO-PROGRAM [SEED] [COUNT]";
+const USAGE: &str = "usage: twin [--fingerprint] PATH-TO-PROGRAM [SEED] [COUNT]";
 const DEFAULT_SEED: u64 = 1;
 const DEFAULT_COUNT: u64 = 3000;
 
@@ -40,12 +45,10 @@ const PRINTED: usize = 4000;
 fn main() -> ExitCode {
     let arguments: Vec<String> = env::args().skip(1).collect();
     let outcome = match &arguments[..] {
-        // Left out of the usage: it makes a program under test of the twin.
-        [flag] if flag == "--answer" => answer().map_err(|error| (2, error.to_string())),
-        [path, numbers @ ..] if numbers.len() <= 2 => Plan::new(path, numbers)
-            .map_err(|error| (2, error))
-            .and_then(|plan| plan.run().map_err(|difference| (1, difference))),
-        _ => Err((2, USAGE.to_string())),
+        [flag, rest @ ..] if flag == "--fingerprint" => {
+            serve(rest, arrays::answer, Plan::run_arrays)
+        }
+        rest => serve(rest, answer, Plan::run_scripts),
     };
     match outcome {
         Ok(()) => ExitCode::SUCCESS,
@@ -53,6 +56,22 @@ fn main() -> ExitCode {
             eprintln!("twin: {message}");
             ExitCode::from(status)
         }
+    }
+}
+
+/// Answers as a program under test would, or runs one.
+fn serve(
+    arguments: &[String],
+    answer: fn() -> io::Result<()>,
+    run: fn(&Plan) -> Result<(), String>,
+) -> Result<(), (u8, String)> {
+    match arguments {
+        // Left out of the usage: it makes a program under test of the twin.
+        [flag] if flag == "--answer" => answer().map_err(|error| (2, error.to_string())),
+        [path, numbers @ ..] if numbers.len() <= 2 => Plan::new(path, numbers)
+            .map_err(|error| (2, error))
+            .and_then(|plan| run(&plan).map_err(|difference| (1, difference))),
+        _ => Err((2, USAGE.to_string())),
     }
 }
 
@@ -93,7 +112,20 @@ impl Plan {
         })
     }
 
-    fn run(&self) -> Result<(), String> {
+    fn run_arrays(&self) -> Result<(), String> {
+        println!("twin: seed {}, {} random arrays", self.seed, self.count);
+        let arrays = arrays::all(self.seed, self.count);
+        arrays::check(&self.program, &arrays)
+            .map_err(|failure| format!("seed {}: {failure}", self.seed))?;
+        println!(
+            "twin: {} fingerprints agree, seed {}",
+            arrays.len(),
+            self.seed
+        );
+        Ok(())
+    }
+
+    fn run_scripts(&self) -> Result<(), String> {
         println!("twin: seed {}, {} random scripts", self.seed, self.count);
         let mut scripts = 0;
         let mut sum = Tally::default();
@@ -150,12 +182,7 @@ impl Plan {
     /// All that is needed to look into a failure and to run it again.
     fn report(&self, case: &Case, failure: Failure) -> String {
         let Case { name, script, .. } = case;
-        let what = match failure {
-            Failure::Differs(text) => text,
-            Failure::Broken(text) => format!("the twin itself is wrong: {text}"),
-            Failure::Io(error) => format!("the program cannot be run: {error}"),
-        };
-        let mut report = format!("seed {}, {name}: {what}\n", self.seed);
+        let mut report = format!("seed {}, {name}: {failure}\n", self.seed);
         match keep(script) {
             Ok(path) => report += &format!("  script:   {}", path.display()),
             Err(error) => report += &format!("  the script could not be kept: {error}"),

@@ -27,7 +27,7 @@ impl Random {
     }
 
     /// A number below `limit`.
-    fn below(&mut self, limit: u32) -> u32 {
+    pub fn below(&mut self, limit: u32) -> u32 {
         self.any() % limit
     }
 
@@ -39,7 +39,7 @@ impl Random {
         self.below(length as u32) as usize
     }
 
-    fn pick<T: Copy>(&mut self, choices: &[T]) -> T {
+    pub fn pick<T: Copy>(&mut self, choices: &[T]) -> T {
         choices[self.index(choices.len())]
     }
 }

@@ -2,9 +2,10 @@
 
 use crate::program::{lines, replies, write_reply};
 use crate::walk::{Tally, Witness};
+use std::fmt;
 use std::io::{self, BufRead, BufReader, Read, Write};
 use std::path::Path;
-use std::process::{Child, Command, Stdio};
+use std::process::{Child, ChildStdout, Command, Stdio};
 use std::sync::mpsc::{self, RecvTimeoutError};
 use std::sync::Mutex;
 use std::thread;
@@ -31,22 +32,41 @@ impl From<io::Error> for Failure {
     }
 }
 
+impl fmt::Display for Failure {
+    fn fmt(&self, f: &mut fmt::Formatter<'_>) -> fmt::Result {
+        match self {
+            Failure::Differs(text) => f.write_str(text),
+            Failure::Broken(text) => write!(f, "the twin itself is wrong: {text}"),
+            Failure::Io(error) => write!(f, "the program cannot be run: {error}"),
+        }
+    }
+}
+
 /// Runs the program once on `script` and compares its output byte for byte.
 pub fn check(program: &Path, script: &[u8]) -> Result<Tally, Failure> {
+    exchange(program, script, |output| compare(script, output))
+}
+
+/// Runs the program once on `input` and has its output judged as it comes.
+pub fn exchange<T>(
+    program: &Path,
+    input: &[u8],
+    judge: impl FnOnce(&mut BufReader<ChildStdout>) -> Result<T, Failure>,
+) -> Result<T, Failure> {
     let mut child = Command::new(program)
         .stdin(Stdio::piped())
         .stdout(Stdio::piped())
         .spawn()?;
-    let mut input = child.stdin.take().expect("standard input is piped");
+    let mut stdin = child.stdin.take().expect("standard input is piped");
     let output = child.stdout.take().expect("standard output is piped");
     let child = Mutex::new(child);
     let (done, waiting) = mpsc::channel::<()>();
 
     let (verdict, late) = thread::scope(|scope| {
-        // A thread of its own writes the script: with both pipes full, one
+        // A thread of its own writes the input: with both pipes full, one
         // thread for both ends would wait for ever. The program may stop
         // reading when a script is too long, so a broken pipe is no failure.
-        scope.spawn(move || drop(input.write_all(script)));
+        scope.spawn(move || drop(stdin.write_all(input)));
         let child = &child;
         let watch = scope.spawn(move || {
             let late = waiting.recv_timeout(TIME_LIMIT) == Err(RecvTimeoutError::Timeout);
@@ -55,7 +75,7 @@ pub fn check(program: &Path, script: &[u8]) -> Result<Tally, Failure> {
             }
             late
         });
-        let verdict = compare(script, &mut BufReader::new(output));
+        let verdict = judge(&mut BufReader::new(output));
         if verdict.is_err() {
             stop(child);
         }
@@ -68,12 +88,12 @@ pub fn check(program: &Path, script: &[u8]) -> Result<Tally, Failure> {
         let hangs = format!("the program was stopped after {TIME_LIMIT:?}");
         return Err(Failure::Differs(hangs));
     }
-    let tally = verdict?;
+    let agreed = verdict?;
     if !status.success() {
         let end = format!("the answers agree, but the program ends with {status}");
         return Err(Failure::Differs(end));
     }
-    Ok(tally)
+    Ok(agreed)
 }
 
 /// Ends the child; that it has ended already is no failure.
@@ -98,21 +118,32 @@ fn compare(script: &[u8], output: &mut impl BufRead) -> Result<Tally, Failure> {
             return Err(differs(index + 1, line, &expected, &found));
         }
     }
-    read_line(output, 0, &mut found)?;
-    if !found.is_empty() {
-        let extra = format!("more answers than lines, first {}", show(&found, 0));
-        return Err(Failure::Differs(extra));
-    }
+    expect_end(output, "more answers than lines")?;
     Ok(witness.tally())
 }
 
 /// Reads a line, but of an overlong one only so much that it can be shown.
-fn read_line(output: &mut impl BufRead, expected: usize, found: &mut Vec<u8>) -> io::Result<()> {
+pub fn read_line(
+    output: &mut impl BufRead,
+    expected: usize,
+    found: &mut Vec<u8>,
+) -> io::Result<()> {
     found.clear();
     output
         .take((expected + SHOWN) as u64)
         .read_until(b'\n', found)?;
     Ok(())
+}
+
+/// Nothing more may come.
+pub fn expect_end(output: &mut impl BufRead, otherwise: &str) -> Result<(), Failure> {
+    let mut found = Vec::new();
+    read_line(output, 0, &mut found)?;
+    if found.is_empty() {
+        return Ok(());
+    }
+    let extra = format!("{otherwise}, first {}", show(&found, 0));
+    Err(Failure::Differs(extra))
 }
 
 fn differs(number: usize, line: &[u8], expected: &[u8], found: &[u8]) -> Failure {
@@ -133,7 +164,7 @@ fn differs(number: usize, line: &[u8], expected: &[u8], found: &[u8]) -> Failure
 }
 
 /// A part of a line in quotes, with odd bytes escaped.
-fn show(line: &[u8], from: usize) -> String {
+pub fn show(line: &[u8], from: usize) -> String {
     let rest = &line[from..];
     let cut = &rest[..rest.len().min(SHOWN)];
     let before = if from > 0 { "... " } else { "" };

@@ -26,11 +26,25 @@ fn twin(program: &Path, arguments: &[&str]) -> Output {
         .unwrap()
 }
 
+fn twin_on_arrays(program: &Path) -> Output {
+    let path = program.to_str().expect("a path in text");
+    twin(Path::new("--fingerprint"), &[path, "7", "25"])
+}
+
 fn expect_failure(program: &Path, arguments: &[&str], status: i32, message: &str) {
-    let output = twin(program, arguments);
+    failed(&twin(program, arguments), status, message);
+}
+
+fn failed(output: &Output, status: i32, message: &str) {
     let errors = String::from_utf8_lossy(&output.stderr);
     assert_eq!(output.status.code(), Some(status), "{errors}");
     assert!(errors.contains(message), "{errors}");
+}
+
+fn agreed(output: &Output, message: &str) {
+    let text = String::from_utf8_lossy(&output.stdout);
+    assert_eq!(output.status.code(), Some(0), "{text}");
+    assert!(text.ends_with(message), "{text}");
 }
 
 // One test and not several: a program that is still being written by one
@@ -38,10 +52,7 @@ fn expect_failure(program: &Path, arguments: &[&str], status: i32, message: &str
 #[test]
 fn the_twin_tells_good_programs_from_bad() {
     let good = program("good", &format!("exec '{TWIN}' --answer"));
-    let output = twin(&good, &["7", "25"]);
-    let text = String::from_utf8_lossy(&output.stdout);
-    assert_eq!(output.status.code(), Some(0), "{text}");
-    assert!(text.ends_with("scripts agree, seed 7\n"), "{text}");
+    agreed(&twin(&good, &["7", "25"]), "scripts agree, seed 7\n");
 
     let silent = program("silent", "exit 0");
     expect_failure(
@@ -65,6 +76,23 @@ fn the_twin_tells_good_programs_from_bad() {
     );
     let failing = program("failing", &format!("'{TWIN}' --answer; exit 3"));
     expect_failure(&failing, &[], 1, "exit status: 3");
+
+    let printer = program("printer", &format!("exec '{TWIN}' --fingerprint --answer"));
+    agreed(
+        &twin_on_arrays(&printer),
+        "501 fingerprints agree, seed 7\n",
+    );
+    failed(
+        &twin_on_arrays(&silent),
+        1,
+        "seed 7: the fingerprint of array 1",
+    );
+    // With a sign, zeros come to nothing.
+    let signed = program(
+        "signed",
+        &format!("'{TWIN}' --fingerprint --answer | sed 's/^9596644176926630232$/0/'"),
+    );
+    failed(&twin_on_arrays(&signed), 1, "numbers:  [0, 0, 0, 0, 0, 0]");
 
     expect_failure(Path::new("no such program"), &[], 2, "no such program");
     expect_failure(&good, &["one"], 2, "usage");

@@ -2,11 +2,12 @@
 -- Assumes nothing.
 use mathlib.Core.Path.{sym, _∙_}
 use mathlib.Core.List.{List, [], _∷_, _++_}
-use Rattle.model.specs.Sequences.{World, StateCall, Call, Outcome, carry, run, event, events}
+use Rattle.model.specs.Sequences.{World, StateCall, Call, Outcome, perform, carry, run, event, events}
 use Rattle.refinement.specs.Demand3.{Lengths, lengthsOf, Ideal, ideal, begun, predict, replay, Answered, Demand3}
 use Rattle.refinement.specs.SafeIterators.{SafeIterators}
 use Rattle.refinement.proofs.LiveTables.{Legal, start-legal, predict-legal}
 use Rattle.refinement.proofs.PassMoments.{passes-hold}
+use Rattle.refinement.proofs.Demand3.{demand3}
 
 -- what is so along a sequence is so from a later call on
 
@@ -38,3 +39,6 @@ demand3-passes does d =
           (answered-later l does so-far calls first (begun capacity size)
           (d .sequence w capacity size answered (so-far ++ calls) .answers));
     }
+
+pub safe-iterators : SafeIterators perform
+safe-iterators = demand3-passes perform demand3

@@ -1,6 +1,7 @@
 -- Demand 1: the table of answers (SPECIFICATION, "Answers"), for any meaning of the calls, any state and any lent memory.
 -- The table goes by conditions, and they are said here in its words. How model defines the calls plays no part in them, but
--- that add and delete during a rehash go by the world after a step, which is the step of model.
+-- that add and delete, where a step is due, go by the world after it, which is the step of model; the numbers of places and
+-- the fingerprint are model's too.
 use Prim.Native.Nat.{ℕ, zero, suc, _*_, _≤_, _<_, _+_}
 use mathlib.Core.Path.{_≡_}
 use mathlib.Core.Bool.{Bool, true, false, _&&_}

@@ -13,14 +13,14 @@ use Rattle.model.specs.declared.Lookup.{Lookup}
 use Rattle.model.specs.declared.DeleteAnswer.{DeleteAnswer}
 use Rattle.model.specs.declared.StepAnswer.{StepAnswer}
 use Rattle.model.specs.Memory.{usedOf}
-use Rattle.model.specs.Calls.{After, changed, recounted, withCount, lookup, held, removed, deleted, deleteAlone, rehashStep, isDeleted, delete}
+use Rattle.model.specs.Calls.{After, changed, recounted, withCount, lookup, held, removed, deleted, deleteAlone, rehashStep, stepDue, isDeleted, delete}
 use Rattle.memory.specs.Lent.{soundLent}
 use Rattle.memory.proofs.Orientation.{written-first, written-second, writing-refused, writing-sound}
 use Rattle.search.specs.Tables.{lookupLent}
 use Rattle.after_step.specs.declared.presence.Presence.{Presence}
 use Rattle.after_step.specs.Presence.{presence, presenceAfter}
 use Rattle.after_step.specs.Planned.{Planned}
-use Rattle.after_step.proofs.StepFirst.{answerOf, answer-by, is-damaged, is-absent, is-held, then-damaged, step-taken, first-resting, first-unsound, first-done, first-refused}
+use Rattle.after_step.proofs.StepFirst.{answerOf, answer-by, is-damaged, is-absent, is-held, then-damaged, step-taken, first-alone, first-unsound, first-done, first-refused}
 
 -- Alone, on the lent buffers.
 
@@ -83,13 +83,14 @@ module _ (s : State) (first second entries : List ℕ) (key : ℕ) where
       first-unsound DeleteAnswer.Refused isDeleted (λ t x y z. deleteAlone t x y z key) s first second entries t e f
       (writing-refused s first second entries t e _ _ f)
 
-  pub delete-resting : (r : After DeleteAnswer) → s .rehashing ≡ false → r ≡ deleteAlone s first second entries key
+  -- no step is due
+  pub delete-now : (r : After DeleteAnswer) → stepDue s ≡ false → r ≡ deleteAlone s first second entries key
       → r ≡ delete s first second entries key
   unfolding delete
-  delete-resting r f h =
-      first-resting DeleteAnswer.Refused isDeleted (λ t x y z. deleteAlone t x y z key) s first second entries r f h
+  delete-now r f h =
+      first-alone DeleteAnswer.Refused isDeleted (λ t x y z. deleteAlone t x y z key) s first second entries r f h
 
-  module _ (h : soundLent (length first) (length second) (length entries) s ≡ true) (f : s .rehashing ≡ true) (v : Presence)
+  module _ (h : soundLent (length first) (length second) (length entries) s ≡ true) (f : stepDue s ≡ true) (v : Presence)
       (k : v ≡ presenceAfter key (rehashStep s first second entries)) where
     pub delete-damaged : v ≡ Presence.Damaged
         → After.after (DeleteAnswer.Refused Error.Damaged) first second entries ≡ delete s first second entries key
@@ -121,7 +122,7 @@ module _ (s : State) (first second entries : List ℕ) (key : ℕ) where
     unfolding delete answerOf
     delete-held count t a p q w d g =
         let then = step-taken s first second entries key Presence.Held k r x y z e count t d in
-        first-done DeleteAnswer.Refused isDeleted (λ t x y z. deleteAlone t x y z key) s first second entries (k .rehashing) count
+        first-done DeleteAnswer.Refused isDeleted (λ t x y z. deleteAlone t x y z key) s first second entries (k .due) count
         t x y z a p q w (then .step) g
         (ap isDeleted (ap answerOf g ∙ alone-answer t x y z key (then .sound))
         ∙ told-held t (lookupLent t x y z key) (then .told))

@@ -1,6 +1,6 @@
-// Delete a held key (SPECIFICATION, "Delete"). The state is tested on the lent lengths, then whether a rehash is under way:
-// during one a step comes first. Then the flag is read once, and below that every function knows the current and the other
-// buffer.
+// Delete a held key (SPECIFICATION, "Delete"). The state is tested on the lent lengths, then whether a step is due: during a
+// rehash that no safe iterator holds up one comes first. Then the flag is read once, and below that every function knows the
+// current and the other buffer.
 use after_step::presence::Presence;
 use after_step::presence::presence_after_step;
 use dict_rehash::rehash::rehash_step;
@@ -164,8 +164,8 @@ fn step_and_delete(
     }
 }
 
-// During a rehash a step comes first, and a refusal leaves all as it was: what is told of the memory after the step decides.
-fn delete_rehashing(
+// A step comes first, and a refusal leaves all as it was: what is told of the memory after the step decides.
+fn delete_after_step(
     first: &mut [u32],
     second: &mut [u32],
     entries: &mut [u32],
@@ -173,7 +173,7 @@ fn delete_rehashing(
     key: u32,
 ) -> DeleteAnswer
     requires { ⌜ soundLent (length (now first)) (length (now second)) (length (now entries)) s ≡ true ⌝ }
-    requires { ⌜ s .rehashing ≡ true ⌝ }
+    requires { ⌜ calls.stepDue s ≡ true ⌝ }
     ensures { λ r. ⌜ after r (now (first .exit)) (now (second .exit)) (now (entries .exit))
         ≡ calls.delete s (now (first .entry)) (now (second .entry)) (now (entries .entry)) key ⌝ }
 {
@@ -196,8 +196,8 @@ pub fn delete(
         ≡ calls.delete s (now (first .entry)) (now (second .entry)) (now (entries .entry)) key ⌝ }
 {
     if is_sound_lent(first.len(), second.len(), entries.len(), s) {
-        if s.rehashing {
-            delete_rehashing(first, second, entries, s, key)
+        if s.rehashing & (s.safe_iterators == 0) {
+            delete_after_step(first, second, entries, s, key)
         } else {
             delete_alone(first, second, entries, s, key)
         }

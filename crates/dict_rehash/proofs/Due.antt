@@ -1,11 +1,12 @@
 -- Whether a step is due, from what the code tests: a rehash is under way, and there is no safe iterator.
 -- Assumes nothing.
-use Prim.Native.Nat.{ℕ}
+use Prim.Native.Nat.{ℕ, zero, suc}
 use mathlib.Core.Path.{_≡_, refl, sym, ap, _∙_}
 use mathlib.Core.Bool.{Bool, true, false, _&&_, not, cond}
 use mathlib.Core.List.{List}
 use native.Mathlib.Omega.{arith}
-use borrow.Author.Tests.{lt-ltb}
+use lib.Dec.{ltb, eqb}
+use borrow.Author.Tests.{lt-ltb, ne-eqb}
 use Rattle.model.specs.declared.State.{State}
 use Rattle.model.specs.declared.Error.{Error}
 use Rattle.model.specs.declared.StepAnswer.{StepAnswer}
@@ -20,6 +21,10 @@ only-first false b e = let z : _≡_ {A = ℕ} 0 1 = cc in absurd (omega arith)
 not-first : (a : Bool) → (a && not true) ≡ false
 not-first true = refl
 not-first false = refl
+
+none-above : (n : ℕ) → not (ltb 0 n) ≡ eqb n 0
+none-above zero = refl
+none-above (suc n) = ap not (lt-ltb 0 (suc n) (omega arith)) ∙ sym (ne-eqb (suc n) 0 (λ e. omega arith))
 
 module _ (s : State) where
   pub is-paused : (s .«safe_iterators» ≡ 0 → ⊥) → paused s ≡ true
@@ -37,6 +42,11 @@ module _ (s : State) where
   pub none-due-resting : s .rehashing ≡ false → stepDue s ≡ false
   unfolding stepDue
   none-due-resting p = rw p
+
+  -- both tests as one
+  pub due-tested : (b : Bool) → (s .rehashing && eqb (s .«safe_iterators») 0) ≡ b → stepDue s ≡ b
+  unfolding stepDue paused
+  due-tested b h = ap (s .rehashing &&_) (none-above (s .«safe_iterators»)) ∙ h
 
   -- during a rehash
   pub stepped-by : (current other entries : List ℕ) → s .rehashing ≡ true → (f : Bool) → paused s ≡ f

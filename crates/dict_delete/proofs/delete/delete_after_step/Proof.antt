@@ -1,9 +1,9 @@
--- `dict_delete::delete::delete_rehashing` meets its contract: what is told of the memory after the step decides.
+-- `dict_delete::delete::delete_after_step` meets its contract: what is told of the memory after the step decides.
 -- Assumes nothing.
 use borrow.Author.Needs.{needs}
 use Rattle.dict_delete.proofs.Deleting.{delete-damaged, delete-absent}
-use Rattle.dict_delete.proofs.delete.delete_rehashing.Statement.{statement}
-use Rattle.dict_delete.proofs.delete.delete_rehashing.Tie as tie
+use Rattle.dict_delete.proofs.delete.delete_after_step.Statement.{statement}
+use Rattle.dict_delete.proofs.delete.delete_after_step.Tie as tie
 
 -- refused as absent, and no step is taken
 returns-2 : tie.Need-returns-2
@@ -13,15 +13,15 @@ returns-2 c = search delete-absent
 returns-3 : tie.Need-returns-3
 returns-3 c = search needs
 
-pub delete-rehashing-spec : {M : Type 1} → statement M
-delete-rehashing-spec =
+pub delete-after-step-spec : {M : Type 1} → statement M
+delete-after-step-spec =
     tie.close
     (tie.spec
     (λ c κs. search needs)
     (λ c. search needs)
     (λ c. search needs)
     (λ c. search needs)
-    (λ c κs. record { sound = search needs; rehashing = search needs; told = cc })
+    (λ c κs. record { sound = search needs; due = search needs; told = cc })
     (λ c. search needs)
     (λ c. search needs)
     (λ c. search needs)

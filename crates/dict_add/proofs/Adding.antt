@@ -1,7 +1,7 @@
 -- From what the functions of numbers leave to the definition: on the current and the other buffer, on the lent ones, and the
 -- answer.
 -- Assumes nothing.
-use Prim.Native.Nat.{ℕ, _≤_}
+use Prim.Native.Nat.{ℕ, _+_, _≤_}
 use mathlib.Core.Path.{_≡_, refl, sym, ap, _∙_}
 use mathlib.Core.Bool.{Bool, true, false, cond}
 use mathlib.Core.List.{List}
@@ -14,15 +14,17 @@ use Rattle.model.specs.declared.Lookup.{Lookup}
 use Rattle.model.specs.declared.AddAnswer.{AddAnswer}
 use Rattle.model.specs.Keys.{bucketOf}
 use Rattle.model.specs.Memory.{linkOf, setEntry, sizeOf, bucketsOf, keysHeld}
-use Rattle.model.specs.Calls.{After, changed, lookup, push, pushed, takeable, target, added, addAlone, isAdded, addAfterStep}
+use Rattle.model.specs.Calls.{After, changed, both, lookup, push, pushed, takeable, target, added, addAlone, isAdded, addAfterStep}
 use Rattle.model.proofs.Soundness.{Sound, Counted, tells-sound, tested-counts}
 use Rattle.model.proofs.Tests.{told}
 use Rattle.memory.specs.Lent.{soundLent}
 use Rattle.memory.proofs.Orientation.{written-first, written-second, writing-refused, writing-sound}
+use Rattle.search.specs.declared.found.Found.{Found}
 use Rattle.search.specs.Found.{foundOf}
 use Rattle.search.specs.Tables.{searchedIn}
-use Rattle.search.proofs.Lookups.{lookup-resting}
-use Rattle.after_step.proofs.StepFirst.{first-resting, first-unsound}
+use Rattle.search.proofs.Lookups.{lookup-resting, lookup-rehashing}
+use Rattle.dict_rehash.proofs.Due.{none-due-resting}
+use Rattle.after_step.proofs.StepFirst.{first-alone, first-unsound}
 use Rattle.dict_add.specs.declared.add.Push.{Push}
 use Rattle.dict_add.specs.Push.{Left, pushFree, pushFound, oneMore, pushAnswer}
 
@@ -92,13 +94,31 @@ module _ (s : State) (current other entries : List ℕ) (key value : ℕ) (r : P
       (old-held s first second (length entries) h f) _
       ∙ ap (added s current other entries key value) (lookup-resting s current other entries key f)
 
+  -- into the new one
+
+  pub added-paused : s .rehashing ≡ true → (at : Found)
+      → at ≡ foundOf (both
+      (searchedIn entries (s .capacity) (s .«old_used») current (s .«old_size») key Table.Old)
+      (searchedIn entries (s .capacity) (s .«new_used») other (s .«new_size») key Table.New))
+      → Left.left r b e
+      ≡ pushFound other entries
+      (pushFree other entries (s .«new_size») (s .capacity) (s .«old_used» + s .«new_used») (s .«free_head») key value) at
+      → After.after (pushAnswer s r) current b e
+      ≡ added s current other entries key value (lookup s current other entries key)
+  unfolding afterLeft changed bucketsOf sizeOf target keysHeld
+  added-paused f at a p =
+      ap (afterLeft s current other Table.New) (rw a at p)
+      ∙ added-by s current other entries key value Table.New (ap target f) (s .«old_used» + s .«new_used») refl _
+      ∙ ap (added s current other entries key value) (lookup-rehashing s current other entries key f)
+
 -- On the lent buffers.
 
 module _ (s : State) (first second entries : List ℕ) (key value : ℕ) (a : AddAnswer) (x y e : List ℕ)
     (h : soundLent (length first) (length second) (length entries) s ≡ true) (rests : s .rehashing ≡ false) where
   alone : (r : After AddAnswer) → r ≡ addAlone s first second entries key value → r ≡ addAfterStep s first second entries key value
   unfolding addAfterStep
-  alone r p = first-resting AddAnswer.Refused isAdded (λ t x y z. addAlone t x y z key value) s first second entries r rests p
+  alone r p =
+      first-alone AddAnswer.Refused isAdded (λ t x y z. addAlone t x y z key value) s first second entries r (none-due-resting s rests) p
 
   pub added-first : s .«second_is_current» ≡ false
       → After.after a x y e ≡ added s first second entries key value (lookup s first second entries key)
@@ -128,16 +148,19 @@ add-unsound s first second entries key value t e f =
     first-unsound AddAnswer.Refused isAdded (λ t x y z. addAlone t x y z key value) s first second entries t e f
     (writing-refused s first second entries t e _ _ f)
 
-module _ (s : State) (x y e : List ℕ) (r : Push) (meant : After AddAnswer)
-    (h : After.after (pushAnswer s r) x y e ≡ meant) where
-  pub add-refused : (error : Error) → r ≡ Push.Refused error → After.after (AddAnswer.Refused error) x y e ≡ meant
+module _ (s : State) (r : Push) where
+  pub answer-refused : (error : Error) → r ≡ Push.Refused error → AddAnswer.Refused error ≡ pushAnswer s r
   unfolding pushAnswer
-  add-refused error p = rw p at h
+  answer-refused error p = rw p
 
-  pub add-done : (free : ℕ) (t : State) → r ≡ Push.Done free → t ≡ oneMore s (target (s .rehashing)) free
-      → After.after (AddAnswer.Added t) x y e ≡ meant
+  pub answer-done : (free : ℕ) (t : State) → r ≡ Push.Done free → t ≡ oneMore s (target (s .rehashing)) free
+      → AddAnswer.Added t ≡ pushAnswer s r
   unfolding pushAnswer
-  add-done free t p o = rw o (rw p at h)
+  answer-done free t p o = rw (p, o)
+
+  pub answered-by : (x y e : List ℕ) (meant : After AddAnswer) (a : AddAnswer) → After.after (pushAnswer s r) x y e ≡ meant
+      → a ≡ pushAnswer s r → After.after a x y e ≡ meant
+  answered-by x y e meant a h p = ap (λ (b : AddAnswer). After.after b x y e) p ∙ h
 
 -- One key more.
 

@@ -15,7 +15,7 @@ use Rattle.model.specs.declared.AddAnswer.{AddAnswer}
 use Rattle.model.specs.declared.StepAnswer.{StepAnswer}
 use Rattle.model.specs.Keys.{bucketOf}
 use Rattle.model.specs.Memory.{linkOf, setEntry, sizeOf, bucketsOf, keysHeld, soundState}
-use Rattle.model.specs.Calls.{After, sound, oriented, checked, back, changed, stateOf, oldNew, retabled, pushed, target, takeable, addAlone, advanced, finished, settled, stepDone, stepped, rehashStep, isAdded, addAfterStep}
+use Rattle.model.specs.Calls.{After, sound, oriented, back, writing, changed, stateOf, oldNew, retabled, lookup, pushed, target, takeable, added, addAlone, advanced, finished, settled, stepDone, stepTaken, stepped, rehashStep, stepDue, isAdded, addAfterStep}
 use Rattle.model.proofs.Soundness.{Sound, Counted, sound-test}
 use Rattle.model.proofs.StepLeaves.{Follows, StepLeaves, step-leaves}
 use Rattle.memory.specs.Lent.{soundLent}
@@ -23,13 +23,15 @@ use Rattle.memory.proofs.Orientation.{writing-sound}
 use Rattle.search.specs.Tables.{lookupLent, Readable}
 use Rattle.dict_rehash.specs.declared.rehash.Progress.{Progress}
 use Rattle.dict_rehash.specs.Progress.{stepAnswer}
+use Rattle.dict_rehash.proofs.Due.{none-due-paused, due-rehashing, due-unpaused, due-stepped}
 use Rattle.after_step.specs.declared.presence.Presence.{Presence}
 use Rattle.after_step.specs.Presence.{presence, presenceAfter, presenceThen, entriesAfter}
 use Rattle.after_step.specs.Planned.{Planned}
-use Rattle.after_step.proofs.StepFirst.{is-absent, StepTaken, then-damaged, step-taken, first-done, first-refused}
-use Rattle.dict_add.specs.Push.{oneMore}
-use Rattle.dict_add.specs.Moving.{firstOf, secondOf, addMoving, movedState, stepOf, Plan, Room, Takes}
-use Rattle.dict_add.proofs.Adding.{taken}
+use Rattle.after_step.proofs.StepFirst.{is-absent, StepTaken, then-damaged, step-taken, first-alone, first-done, first-refused}
+use Rattle.dict_add.specs.declared.add.Push.{Push}
+use Rattle.dict_add.specs.Push.{oneMore, pushAnswer}
+use Rattle.dict_add.specs.Moving.{firstOf, secondOf, addMoving, movedState, Plan, Room, Takes}
+use Rattle.dict_add.proofs.Adding.{taken, answered-by}
 use Rattle.dict_add.proofs.Answering.{addAnswer, alone-answer, told-damaged, told-held, absent-full, absent-bad, none-free, bad-link, good-link, pushedLent, alone-pushes}
 
 -- ---- the current and the other buffer, and the lent ones
@@ -69,21 +71,29 @@ module _ (s : State) (current other entries : List ℕ) where
         pick false = sound-test s current other entries h
         pick true = sound-test s current other entries h
 
-    lent-step : back (s .«second_is_current») (stepOf s current other entries) ≡ rehashStep s first second entries
-    unfolding rehashStep oriented
-    lent-step =
-        writing-sound s first second entries true (sym lent) (StepAnswer.Refused Error.BadState)
-        (λ c o. stepped s c o entries (s .rehashing)) _ refl (ap (back (s .«second_is_current»)) (pick (s .«second_is_current»)))
+    -- a call on the lent buffers is the call on the current and the other one
+    lent-writing : {A : Type 0} (refusal : A) (call : List ℕ → List ℕ → After A)
+        → back (s .«second_is_current») (call current other) ≡ writing s first second entries refusal call
+    unfolding oriented
+    lent-writing refusal call =
+        writing-sound s first second entries true (sym lent) refusal call _ refl
+        (ap (back (s .«second_is_current»)) (pick (s .«second_is_current»)))
       where
-        pick : (f : Bool)
-            → stepOf s current other entries
-            ≡ oriented f (λ c o. stepped s c o entries (s .rehashing)) (firstOf f current other) (secondOf f current other)
+        pick : (f : Bool) → call current other ≡ oriented f call (firstOf f current other) (secondOf f current other)
         pick false = refl
         pick true = refl
 
-    lent-entries : entriesAfter (rehashStep s first second entries) ≡ entriesAfter (stepOf s current other entries)
+    lent-step : stepDue s ≡ true
+        → back (s .«second_is_current») (stepTaken s current other entries) ≡ rehashStep s first second entries
+    unfolding rehashStep
+    lent-step d =
+        ap (back (s .«second_is_current»)) (due-stepped s d current other entries)
+        ∙ lent-writing (StepAnswer.Refused Error.BadState) (λ c o. stepped s c o entries (s .rehashing))
+
+    lent-entries : stepDue s ≡ true
+        → entriesAfter (rehashStep s first second entries) ≡ entriesAfter (stepTaken s current other entries)
     unfolding entriesAfter back
-    lent-entries = ap entriesAfter (sym lent-step) ∙ pick (s .«second_is_current») (stepOf s current other entries)
+    lent-entries d = ap entriesAfter (sym (lent-step d)) ∙ pick (s .«second_is_current») (stepTaken s current other entries)
       where
         pick : (f : Bool) (a : After StepAnswer) → entriesAfter (back f a) ≡ entriesAfter a
         pick false a = refl
@@ -98,10 +108,10 @@ room-then s room t o e = room (sym (o .keys) ∙ e ∙ o .capacity)
 
 module _ (s : State) (current other entries : List ℕ) (key value : ℕ) where
   -- the number that the call alone gives on what any answered step leaves
-  refuses-with : (h : Sound s (length current) (length other) (length entries)) → s .rehashing ≡ true → (v : Presence)
-      → v ≡ presenceThen key (s .«second_is_current») (stepOf s current other entries) → (error : Error)
+  refuses-with : (h : Sound s (length current) (length other) (length entries)) → stepDue s ≡ true → (v : Presence)
+      → v ≡ presenceThen key (s .«second_is_current») (stepTaken s current other entries) → (error : Error)
       → (v ≡ Presence.Damaged → error ≡ Error.Damaged)
-      → ((t : State) (z : List ℕ) (l : Lookup) → Follows s t → z ≡ entriesAfter (stepOf s current other entries) → v ≡ presence l
+      → ((t : State) (z : List ℕ) (l : Lookup) → Follows s t → z ≡ entriesAfter (stepTaken s current other entries) → v ≡ presence l
       → addAnswer t z l ≡ AddAnswer.Refused error)
       → After.after (AddAnswer.Refused error) current other entries ≡ addMoving s current other entries key value
   unfolding addMoving addAfterStep isAdded presenceThen
@@ -110,12 +120,12 @@ module _ (s : State) (current other entries : List ℕ) (key value : ℕ) where
       ∙ ap (back (s .«second_is_current»))
       (first-refused AddAnswer.Refused isAdded (λ t x y z. addAlone t x y z key value) s (first s current other entries)
       (second s current other entries) entries e key v (AddAnswer.Refused error) (lent s current other entries h)
-      (k ∙ ap (presenceAfter key) (lent-step s current other entries h)) (λ d. ap AddAnswer.Refused (damaged d)) refl
+      (k ∙ ap (presenceAfter key) (lent-step s current other entries h e)) (λ d. ap AddAnswer.Refused (damaged d)) refl
       (λ t x y z p o q w.
-      alone-answer t x y z key value p ∙ each t z (lookupLent t x y z key) o (q ∙ lent-entries s current other entries h) w))
+      alone-answer t x y z key value p ∙ each t z (lookupLent t x y z key) o (q ∙ lent-entries s current other entries h e) w))
 
-  module _ (h : Sound s (length current) (length other) (length entries)) (e : s .rehashing ≡ true) (v : Presence)
-      (k : v ≡ presenceThen key (s .«second_is_current») (stepOf s current other entries)) where
+  module _ (h : Sound s (length current) (length other) (length entries)) (e : stepDue s ≡ true) (v : Presence)
+      (k : v ≡ presenceThen key (s .«second_is_current») (stepTaken s current other entries)) where
     pub add-damaged : v ≡ Presence.Damaged
         → After.after (AddAnswer.Refused Error.Damaged) current other entries ≡ addMoving s current other entries key value
     add-damaged d = refuses-with h e v k Error.Damaged (λ f. refl) (λ t z l o q w. told-damaged t z l (sym d ∙ w))
@@ -130,10 +140,10 @@ module _ (s : State) (current other entries : List ℕ) (key value : ℕ) where
     -- for what the step keeps, or for the link that it leaves
     refuses : (error : Error)
         → ((t : State) → Follows s t
-        → addAnswer t (entriesAfter (stepOf s current other entries)) Lookup.Absent ≡ AddAnswer.Refused error)
+        → addAnswer t (entriesAfter (stepTaken s current other entries)) Lookup.Absent ≡ AddAnswer.Refused error)
         → After.after (AddAnswer.Refused error) current other entries ≡ addMoving s current other entries key value
     refuses error each =
-        refuses-with (k .sound) (k .rehashing) Presence.Absent (k .absent) error
+        refuses-with (k .sound) (k .due) Presence.Absent (k .absent) error
         (λ f. let z : _≡_ {A = ℕ} 0 1 = cc in absurd (omega arith))
         (λ t z l o q w.
         ap (addAnswer t z) (is-absent l w) ∙ ap (λ (y : List ℕ). addAnswer t y Lookup.Absent) q ∙ each t o)
@@ -148,7 +158,7 @@ module _ (s : State) (current other entries : List ℕ) (key value : ℕ) where
     add-none-free room e = refuses Error.Damaged (λ t o. absent-bad t _ (room-then s room t o) (none-free t _ (o .free ∙ e)))
 
   pub add-bad-link : Room s current other entries key → (link : ℕ)
-      → link ≡ linkOf (entriesAfter (stepOf s current other entries)) (s .«free_head») → s .capacity < link
+      → link ≡ linkOf (entriesAfter (stepTaken s current other entries)) (s .«free_head») → s .capacity < link
       → After.after (AddAnswer.Refused Error.Damaged) current other entries ≡ addMoving s current other entries key value
   add-bad-link k link e l =
       refuses (k .plan) Error.Damaged
@@ -158,9 +168,9 @@ module _ (s : State) (current other entries : List ℕ) (key value : ℕ) where
 
 -- (what was told stands first: a search that knows it compares less)
 pub plan-of : (s : State) (current other entries : List ℕ) (key : ℕ) (v : Presence) → v ≡ Presence.Absent
-    → v ≡ presenceThen key (s .«second_is_current») (stepOf s current other entries) → s .rehashing ≡ true
+    → v ≡ presenceThen key (s .«second_is_current») (stepTaken s current other entries) → stepDue s ≡ true
     → Sound s (length current) (length other) (length entries) → Plan s current other entries key
-plan-of s current other entries key v d k e h = record { sound = h; rehashing = e; absent = sym d ∙ k }
+plan-of s current other entries key v d k e h = record { sound = h; due = e; absent = sym d ∙ k }
 
 -- By the flag before the step and the new table's size: the rehash goes on, or it is over and the flag is turned.
 data Targets (f : Bool) (size : ℕ) (t : State) : Type 0 where
@@ -222,6 +232,12 @@ module _ (t : State) (c o z : List ℕ) (key value : ℕ) where
 
 -- ---- the step for real, and the entry
 
+taken-leaves : (s : State) (current other entries : List ℕ) → Sound s (length current) (length other) (length entries)
+    → stepDue s ≡ true → StepLeaves s current other entries (stepTaken s current other entries)
+taken-leaves s current other entries h d =
+    subst (StepLeaves s current other entries) (sym (due-stepped s d current other entries))
+    (step-leaves s current other entries h (due-rehashing s d) (due-unpaused s d))
+
 -- the state then, and its counts
 
 pub state-then : (s : State) (count next link : ℕ) (t u : State) → t ≡ settled (advanced s count next)
@@ -229,9 +245,12 @@ pub state-then : (s : State) (count next link : ℕ) (t u : State) → t ≡ set
 unfolding movedState
 state-then s count next link t u te ue = ue ∙ ap (λ (v : State). oneMore v (target (v .rehashing)) link) te
 
+pub counts-sound : (s : State) (current other entries : ℕ) → Sound s current other entries → Counted s
+counts-sound s current other entries h = record { held-fit = h .used-fits; capacity-limit = h .capacity-limit }
+
 pub counts-before : (s : State) (current other entries : List ℕ) (key link : ℕ) → Takes s current other entries key link → Counted s
 counts-before s current other entries key link k =
-    let h = k .room .plan .sound in record { held-fit = h .used-fits; capacity-limit = h .capacity-limit }
+    counts-sound s (length current) (length other) (length entries) (k .room .plan .sound)
 
 pub counts-then : (s : State) (count next : ℕ) (t : State) → Counted s → count ≤ s .«old_used»
     → t ≡ settled (advanced s count next) → Counted t
@@ -243,16 +262,9 @@ counts-then s count next t h l e = subst Counted (sym e) (by (eqb (advanced s co
     by false = record { held-fit = omega (arith, h .held-fit); capacity-limit = h .capacity-limit }
 
 module _ (s : State) (current other entries : List ℕ) (key value link : ℕ) (k : Takes s current other entries key link) (r : Progress)
-    (c o z : List ℕ)
-    (e : After.after (stepAnswer s r) c o z
-    ≡ checked s entries (λ c o. After.after (StepAnswer.Refused Error.BadState) c o entries)
-    (λ c o. stepped s c o entries (s .rehashing)) current other) where
+    (c o z : List ℕ) (taken-step : After.after (stepAnswer s r) c o z ≡ stepTaken s current other entries) where
   abbrev plan : Plan s current other entries key
   plan = k .room .plan
-
-  taken-step : After.after (stepAnswer s r) c o z ≡ stepOf s current other entries
-  unfolding checked
-  taken-step = e ∙ (rw (sound-test s current other entries (plan .sound)) refl)
 
   -- the same on the lent buffers
 
@@ -267,15 +279,15 @@ module _ (s : State) (current other entries : List ℕ) (key value link : ℕ) (
   planned =
       record {
         sound = lent s current other entries (plan .sound);
-        rehashing = plan .rehashing;
-        told = plan .absent ∙ ap (presenceAfter key) (lent-step s current other entries (plan .sound));
+        due = plan .due;
+        told = plan .absent ∙ ap (presenceAfter key) (lent-step s current other entries (plan .sound) (plan .due));
       }
 
   lent-taken : After.after (stepAnswer s r) x y z ≡ rehashStep s (first s current other entries) (second s current other entries) entries
   lent-taken =
       sym (lent-of (s .«second_is_current») (stepAnswer s r) c o z)
       ∙ ap (back (s .«second_is_current»)) taken-step
-      ∙ lent-step s current other entries (plan .sound)
+      ∙ lent-step s current other entries (plan .sound) (plan .due)
 
   -- no step refuses a key that was told to be absent
   pub add-stopped : (error : Error) (a : After AddAnswer) → r ≡ Progress.Refused error
@@ -294,8 +306,8 @@ module _ (s : State) (current other entries : List ℕ) (key value link : ℕ) (
     other-readable =
         let then : StepLeaves s current other entries (After.after (stepAnswer s (Progress.Moved count next)) c o z) =
         subst (StepLeaves s current other entries) (sym (rw d at taken-step))
-        (step-leaves s current other entries (plan .sound) (plan .rehashing)) in
-        let new = plan .sound .rehashing (plan .rehashing) in
+        (taken-leaves s current other entries (plan .sound) (plan .due)) in
+        let new = plan .sound .rehashing (due-rehashing s (plan .due)) in
         record {
           size-legal = new .new-legal;
           buckets-fit = omega (arith, then .1);
@@ -344,8 +356,31 @@ module _ (s : State) (current other entries : List ℕ) (key value link : ℕ) (
         lent-back f (AddAnswer.Added u) c b w
         ∙ ap (back f)
         (first-done AddAnswer.Refused isAdded (λ t x y z. addAlone t x y z key value) s (first s current other entries)
-        (second s current other entries) entries (plan .rehashing) count t x y z (AddAnswer.Added u) (firstOf f c b) (secondOf f c b) w
+        (second s current other entries) entries (plan .due) count t x y z (AddAnswer.Added u) (firstOf f c b) (secondOf f c b) w
         (world .step) (there ∙ alone) refl)
+
+-- ---- safe iterators hold up the step
+
+module _ (s : State) (current other entries : List ℕ) (key value : ℕ) where
+  alone-there : Sound s (length current) (length other) (length entries) → (s .«safe_iterators» ≡ 0 → ⊥)
+      → added s current other entries key value (lookup s current other entries key)
+      ≡ addMoving s current other entries key value
+  unfolding addMoving addAfterStep addAlone
+  alone-there h i =
+      let f = s .«second_is_current» in
+      let m = added s current other entries key value (lookup s current other entries key) in
+      sym (twice-back f m)
+      ∙ ap (back f)
+      (first-alone AddAnswer.Refused isAdded (λ t x y z. addAlone t x y z key value) s (first s current other entries)
+      (second s current other entries) entries (back f m) (none-due-paused s i)
+      (lent-writing s current other entries h (AddAnswer.Refused Error.BadState)
+      (λ c o. added s c o entries key value (lookup s c o entries key))))
+
+  pub moving-alone : Sound s (length current) (length other) (length entries) → (s .«safe_iterators» ≡ 0 → ⊥)
+      → (r : Push) (a : AddAnswer) (o z : List ℕ)
+      → After.after (pushAnswer s r) current o z ≡ added s current other entries key value (lookup s current other entries key)
+      → a ≡ pushAnswer s r → After.after a current o z ≡ addMoving s current other entries key value
+  moving-alone h i r a o z e p = answered-by s r current o z _ a e p ∙ alone-there h i
 
 -- ---- on the lent buffers
 

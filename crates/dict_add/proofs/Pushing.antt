@@ -50,12 +50,12 @@ module _ (buckets entries : List ℕ) (size capacity held free key value : ℕ) 
 
 -- What the search found.
 
--- in the only table, which counts as the old one
-pub as-old : (entries : List ℕ) (capacity used : ℕ) (buckets : List ℕ) (size key : ℕ) (at : Found)
-    → ((t : Table) → at ≡ foundOf (searchedIn entries capacity used buckets size key t))
-    → at ≡ foundOf (searchedIn entries capacity used buckets size key Table.Old)
-as-old entries capacity used buckets size key at h = h Table.Old
+pub found-by : (buckets entries : List ℕ) (absent r : Left) (at v : Found) → at ≡ v → r ≡ pushFound buckets entries absent v
+    → r ≡ pushFound buckets entries absent at
+found-by buckets entries absent r at v e p = rw e p
 
-pub found-by : (buckets entries : List ℕ) (absent r : Left) (at found v : Found) → at ≡ found → at ≡ v
-    → r ≡ pushFound buckets entries absent v → r ≡ pushFound buckets entries absent found
-found-by buckets entries absent r at found v h e p = rw (← h, e) p
+-- in the only table, which counts as the old one
+pub found-one : (entries : List ℕ) (capacity used : ℕ) (buckets : List ℕ) (size key : ℕ) (absent r : Left) (at : Found)
+    → ((t : Table) → at ≡ foundOf (searchedIn entries capacity used buckets size key t)) → r ≡ pushFound buckets entries absent at
+    → r ≡ pushFound buckets entries absent (foundOf (searchedIn entries capacity used buckets size key Table.Old))
+found-one entries capacity used buckets size key absent r at h p = rw (← h Table.Old) p

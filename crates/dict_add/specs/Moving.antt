@@ -7,9 +7,8 @@ use mathlib.Core.List.{List}
 use lib.ListN.{length}
 use Rattle.model.specs.declared.State.{State}
 use Rattle.model.specs.declared.AddAnswer.{AddAnswer}
-use Rattle.model.specs.declared.StepAnswer.{StepAnswer}
 use Rattle.model.specs.Memory.{linkOf}
-use Rattle.model.specs.Calls.{After, oriented, back, target, advanced, settled, stepped, addAfterStep}
+use Rattle.model.specs.Calls.{After, oriented, back, target, advanced, settled, stepTaken, stepDue, addAfterStep}
 use Rattle.model.proofs.Soundness.{Sound}
 use Rattle.after_step.specs.declared.presence.Presence.{Presence}
 use Rattle.after_step.specs.Presence.{presenceThen, entriesAfter}
@@ -33,15 +32,11 @@ movedState s count next link =
     let t = settled (advanced s count next) in
     oneMore t (target (t .rehashing)) link
 
--- what a step leaves
-abbrev pub stepOf : State → List ℕ → List ℕ → List ℕ → After StepAnswer
-stepOf s current other entries = stepped s current other entries (s .rehashing)
-
--- the key is absent then
+-- a step is due, and once it is taken the key is absent
 pub record Plan (s : State) (current other entries : List ℕ) (key : ℕ) : Type 0 where
   pub sound : Sound s (length current) (length other) (length entries)
-  pub rehashing : s .rehashing ≡ true
-  pub absent : Presence.Absent ≡ presenceThen key (s .«second_is_current») (stepOf s current other entries)
+  pub due : stepDue s ≡ true
+  pub absent : Presence.Absent ≡ presenceThen key (s .«second_is_current») (stepTaken s current other entries)
 
 -- and the store is not full, and has a first free entry
 pub record Room (s : State) (current other entries : List ℕ) (key : ℕ) : Type 0 where
@@ -52,5 +47,5 @@ pub record Room (s : State) (current other entries : List ℕ) (key : ℕ) : Typ
 -- and that is its link then
 pub record Takes (s : State) (current other entries : List ℕ) (key link : ℕ) : Type 0 where
   pub room : Room s current other entries key
-  pub link-then : link ≡ linkOf (entriesAfter (stepOf s current other entries)) (s .«free_head»)
+  pub link-then : link ≡ linkOf (entriesAfter (stepTaken s current other entries)) (s .«free_head»)
   pub link-fits : link ≤ s .capacity

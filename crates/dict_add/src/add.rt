@@ -1,13 +1,13 @@
 // Add a key that is not held (SPECIFICATION, "Add"), before any growth. It is a timed call: the state is tested on the lent
 // lengths, then whether a rehash is under way, then which buffer is current. With no rehash there are functions of numbers below
-// that. During one a step comes first ("The step that comes first"), and all that can refuse is asked before it; `add_moving`
-// has two callers, and so stays a call of its own, off the quick path.
+// that. During one a step comes first ("The step that comes first"), unless safe iterators hold it up, and all that can refuse
+// is asked before it; `add_during` has two callers, and so stays a call of its own, off the quick path.
 use after_step::link::link_after_step;
 use after_step::presence::Presence;
 use after_step::presence::presence_in;
 use dict_rehash::rehash::Progress;
 use dict_rehash::rehash::state_after;
-use dict_rehash::rehash::step_in;
+use dict_rehash::rehash::take_step;
 use memory::entry::link_of;
 use memory::entry::set_entry;
 use memory::state::bucket_index;
@@ -17,6 +17,7 @@ use model::Error;
 use model::State;
 use search::found::Found;
 use search::found::entry_in;
+use search::found::entry_in_both;
 ghost use mathlib.Core.Path.{_≡_};
 ghost use mathlib.Core.Bool.{true, false};
 ghost use Prim.Native.Nat.{_≤_, _<_};
@@ -86,7 +87,32 @@ fn push_free(
     }
 }
 
-// Into the only table, by what the search in it found.
+// What the search found decides.
+fn push_found(
+    buckets: &mut [u32],
+    entries: &mut [u32],
+    size: u32,
+    capacity: u32,
+    held: u32,
+    free: u32,
+    key: u32,
+    value: u32,
+    at: Found,
+) -> Push
+    requires { ⌜ Readable size (length (now buckets)) capacity (length (now entries)) ⌝ }
+    requires { ⌜ free ≤ capacity ⌝ }
+    ensures { λ r. ⌜ left r (now (buckets .exit)) (now (entries .exit))
+        ≡ pushFound (now (buckets .entry)) (now (entries .entry))
+        (pushFree (now (buckets .entry)) (now (entries .entry)) size capacity held free key value) at ⌝ }
+{
+    match at {
+        Found::Damaged => Push::Refused(Error::Damaged),
+        Found::Absent => push_free(buckets, entries, size, capacity, held, free, key, value),
+        Found::At(_) => Push::Refused(Error::Present),
+    }
+}
+
+// Into the only table.
 fn push_one(
     buckets: &mut [u32],
     entries: &mut [u32],
@@ -105,11 +131,7 @@ fn push_one(
         (foundOf (searchedIn (now (entries .entry)) capacity used (now (buckets .entry)) size key Table.Old)) ⌝ }
 {
     let at = entry_in(entries, capacity, used, buckets, size, key);
-    match at {
-        Found::Damaged => Push::Refused(Error::Damaged),
-        Found::Absent => push_free(buckets, entries, size, capacity, used, free, key, value),
-        Found::At(_) => Push::Refused(Error::Present),
-    }
+    push_found(buckets, entries, size, capacity, used, free, key, value, at)
 }
 
 // With no rehash under way the flag says which lent buffer has the only table.
@@ -167,6 +189,17 @@ fn one_more(s: State, free: u32) -> State
     }
 }
 
+// The answer, of what happened to the buffers.
+fn answer_of(s: State, pushed: Push) -> AddAnswer
+    requires { ⌜ Counted s ⌝ }
+    ensures { λ r. ⌜ r ≡ pushAnswer s pushed ⌝ }
+{
+    match pushed {
+        Push::Refused(e) => AddAnswer::Refused(e),
+        Push::Done(free) => AddAnswer::Added(one_more(s, free)),
+    }
+}
+
 // The first free entry into what a step leaves that moved so many keys: into the new table, which lies in the other buffer
 // whether the rehash goes on or is over.
 fn push_moved(
@@ -205,7 +238,7 @@ fn step_and_push(
     ensures { λ r. ⌜ after r (now (current .exit)) (now (other .exit)) (now (entries .exit))
         ≡ addMoving s (now (current .entry)) (now (other .entry)) (now (entries .entry)) key value ⌝ }
 {
-    let progress = step_in(current, other, entries, s);
+    let progress = take_step(current, other, entries, s);
     match progress {
         Progress::Refused(e) => AddAnswer::Refused(e),
         Progress::Moved(count, next) => {
@@ -257,8 +290,70 @@ fn add_absent(
     take_free(current, other, entries, s, key, value)
 }
 
-// During a rehash a step comes first, and a refusal leaves all as it was: what is told of the memory after the step decides.
+// A step comes first, and a refusal leaves all as it was: what is told of the memory after the step decides.
 fn add_moving(
+    current: &mut [u32],
+    other: &mut [u32],
+    entries: &mut [u32],
+    s: State,
+    key: u32,
+    value: u32,
+) -> AddAnswer
+    requires { ⌜ Sound s (length (now current)) (length (now other)) (length (now entries)) ⌝ }
+    requires { ⌜ calls.stepDue s ≡ true ⌝ }
+    ensures { λ r. ⌜ after r (now (current .exit)) (now (other .exit)) (now (entries .exit))
+        ≡ addMoving s (now (current .entry)) (now (other .entry)) (now (entries .entry)) key value ⌝ }
+{
+    let presence = presence_in(current, other, entries, s, key);
+    match presence {
+        Presence::Damaged => AddAnswer::Refused(Error::Damaged),
+        Presence::Held => AddAnswer::Refused(Error::Present),
+        Presence::Absent => add_absent(current, other, entries, s, key, value),
+    }
+}
+
+// While safe iterators hold up the rehash: the key is looked for in both tables as they are, and the entry goes into the new one.
+fn push_paused(
+    current: &[u32],
+    other: &mut [u32],
+    entries: &mut [u32],
+    s: State,
+    key: u32,
+    value: u32,
+) -> Push
+    requires { ⌜ Sound s (length (now current)) (length (now other)) (length (now entries)) ⌝ }
+    requires { ⌜ s .rehashing ≡ true ⌝ }
+    ensures { λ r. ⌜ after (pushAnswer s r) (now (current .entry)) (now (other .exit)) (now (entries .exit))
+        ≡ calls.added s (now (current .entry)) (now (other .entry)) (now (entries .entry)) key value
+        (calls.lookup s (now (current .entry)) (now (other .entry)) (now (entries .entry)) key) ⌝ }
+{
+    let at = entry_in_both(
+        current,
+        other,
+        entries,
+        s.capacity,
+        s.old_used,
+        s.new_used,
+        s.old_size,
+        s.new_size,
+        key,
+    );
+    let held = s.old_used + s.new_used;
+    push_found(
+        other,
+        entries,
+        s.new_size,
+        s.capacity,
+        held,
+        s.free_head,
+        key,
+        value,
+        at,
+    )
+}
+
+// On the current and the other bucket buffer.
+fn add_during(
     current: &mut [u32],
     other: &mut [u32],
     entries: &mut [u32],
@@ -271,11 +366,11 @@ fn add_moving(
     ensures { λ r. ⌜ after r (now (current .exit)) (now (other .exit)) (now (entries .exit))
         ≡ addMoving s (now (current .entry)) (now (other .entry)) (now (entries .entry)) key value ⌝ }
 {
-    let presence = presence_in(current, other, entries, s, key);
-    match presence {
-        Presence::Damaged => AddAnswer::Refused(Error::Damaged),
-        Presence::Held => AddAnswer::Refused(Error::Present),
-        Presence::Absent => add_absent(current, other, entries, s, key, value),
+    if s.safe_iterators == 0 {
+        add_moving(current, other, entries, s, key, value)
+    } else {
+        let pushed = push_paused(current, other, entries, s, key, value);
+        answer_of(s, pushed)
     }
 }
 
@@ -294,9 +389,9 @@ fn add_rehashing(
         ≡ calls.addAfterStep s (now (first .entry)) (now (second .entry)) (now (entries .entry)) key value ⌝ }
 {
     if s.second_is_current {
-        add_moving(second, first, entries, s, key, value)
+        add_during(second, first, entries, s, key, value)
     } else {
-        add_moving(first, second, entries, s, key, value)
+        add_during(first, second, entries, s, key, value)
     }
 }
 
@@ -317,10 +412,7 @@ pub fn add_after_step(
             add_rehashing(first, second, entries, s, key, value)
         } else {
             let pushed = push_resting(first, second, entries, s, key, value);
-            match pushed {
-                Push::Refused(e) => AddAnswer::Refused(e),
-                Push::Done(free) => AddAnswer::Added(one_more(s, free)),
-            }
+            answer_of(s, pushed)
         }
     } else {
         AddAnswer::Refused(Error::BadState)

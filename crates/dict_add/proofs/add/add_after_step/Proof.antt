@@ -3,7 +3,7 @@
 -- Assumes nothing.
 use borrow.Author.Needs.{needs}
 use Rattle.memory.proofs.Tested.{tested-lent}
-use Rattle.dict_add.proofs.Adding.{counted, add-unsound, add-refused, add-done}
+use Rattle.dict_add.proofs.Adding.{counted, add-unsound, answered-by}
 use Rattle.dict_add.proofs.add.add_after_step.Statement.{statement}
 use Rattle.dict_add.proofs.add.add_after_step.Tie as tie
 
@@ -14,8 +14,6 @@ add-after-step-spec =
     (λ c κs. search needs)
     (λ c κs. (search tested-lent, search needs))
     (λ c κs. (search tested-lent, search needs))
-    (λ c. search needs)
-    (λ c. search needs)
     (λ c κs. search counted)
     (λ c. search needs)
     (λ c. search needs)
@@ -24,9 +22,5 @@ add-after-step-spec =
     (λ c. search needs)
     (λ c. search needs)
     (λ c. search needs)
-    (λ c. search add-refused)
-    (λ c. search needs)
-    (λ c. search needs)
-    (λ c. search needs)
-    (λ c. search add-done)
+    (λ c. search answered-by)
     (λ c. search add-unsound))

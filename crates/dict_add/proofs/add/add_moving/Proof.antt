@@ -1,6 +1,7 @@
 -- `dict_add::add::add_moving` meets its contract: what is told of the memory after the step decides.
 -- Assumes nothing.
 use borrow.Author.Needs.{needs}
+use Rattle.dict_rehash.proofs.Due.{due-rehashing}
 use Rattle.dict_add.proofs.AddingAfter.{plan-of, add-damaged, add-present}
 use Rattle.dict_add.proofs.add.add_moving.Statement.{statement}
 use Rattle.dict_add.proofs.add.add_moving.Tie as tie
@@ -13,7 +14,7 @@ pub add-moving-spec : {M : Type 1} → statement M
 add-moving-spec =
     tie.close
     (tie.spec
-    (λ c κs. search needs)
+    (λ c κs. (search needs, search due-rehashing))
     (λ c. search needs)
     (λ c. search needs)
     (λ c. search needs)

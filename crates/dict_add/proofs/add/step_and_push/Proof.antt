@@ -1,6 +1,7 @@
 -- `dict_add::add::step_and_push` meets its contract: the step is answered, and the first free entry goes into what it leaves.
 -- Assumes nothing.
 use borrow.Author.Needs.{needs}
+use Rattle.dict_rehash.proofs.Due.{due-rehashing}
 use Rattle.dict_rehash.proofs.Stepping.{moved-old}
 use Rattle.dict_add.proofs.AddingAfter.{other-readable, counts-before, add-stopped, add-taken}
 use Rattle.dict_add.proofs.add.step_and_push.Statement.{statement}
@@ -14,7 +15,7 @@ pub step-and-push-spec : {M : Type 1} → statement M
 step-and-push-spec =
     tie.close
     (tie.spec
-    (λ c κs. search needs)
+    (λ c κs. (search needs, search due-rehashing))
     (λ c. search needs)
     (λ c. search needs)
     (λ c κs. (search other-readable, ((search needs, search moved-old), search counts-before)))

@@ -1,6 +1,7 @@
 -- `dict_add::add::take_free` meets its contract: the link of the first free entry, as the step leaves it, decides.
 -- Assumes nothing.
 use borrow.Author.Needs.{needs}
+use Rattle.dict_rehash.proofs.Due.{due-rehashing}
 use Rattle.dict_add.proofs.AddingAfter.{add-bad-link}
 use Rattle.dict_add.proofs.add.take_free.Statement.{statement}
 use Rattle.dict_add.proofs.add.take_free.Tie as tie
@@ -17,7 +18,7 @@ pub take-free-spec : {M : Type 1} → statement M
 take-free-spec =
     tie.close
     (tie.spec
-    (λ c κs. search needs)
+    (λ c κs. (search needs, (search due-rehashing, search needs)))
     (λ c κs. search needs)
     (λ c. search needs)
     (λ c. search needs)

@@ -230,13 +230,13 @@ impl<'a> Store<'a> {
 
     pub fn add(&mut self, key: u32, value: u32) -> Result<(), Error> {
         self.check_state()?;
-        let next_free = if self.is_step_due() {
+        let next_free = if !self.state.rehashing {
+            let found = self.search(self.old_table(), key)?;
+            self.next_free(found != 0)?
+        } else if self.state.safe_iterators == 0 {
             self.step_before_add(key)?
         } else {
-            if self.look_up(key)? != 0 {
-                return Err(Error::Present);
-            }
-            self.check_number(self.link(self.first_free()?))?
+            self.next_free(self.is_in_either(key)?)?
         };
         self.push(self.state.free_head, key, value);
         self.state.free_head = next_free;
@@ -246,10 +246,23 @@ impl<'a> Store<'a> {
         Ok(())
     }
 
-    /// Whether an add takes a step first: in a move, unless a safe iterator
-    /// holds it up.
-    fn is_step_due(&self) -> bool {
-        self.state.rehashing && self.state.safe_iterators == 0
+    /// The link of the first free entry, for a key that is not held.
+    fn next_free(&self, is_held: bool) -> Result<u32, Error> {
+        if is_held {
+            return Err(Error::Present);
+        }
+        self.check_number(self.link(self.first_free()?))
+    }
+
+    /// Whether one of the two tables of a move holds the key. Both chains are
+    /// read to their ends.
+    fn is_in_either(&self, key: u32) -> Result<bool, Error> {
+        let mut found = false;
+        for table in [self.old_table(), self.new_table()] {
+            let head = table.head(key);
+            self.read_chain(table, head, key, table.used, |_, met| found |= met == key)?;
+        }
+        Ok(found)
     }
 
     /// Whether the only table has too many keys: one for each bucket, where

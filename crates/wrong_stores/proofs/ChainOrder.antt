@@ -1,5 +1,5 @@
 -- No statement fixes the order of a chain: by Reordered it is nothing to `undamaged` and `matches`; `answers` and `walks` do
--- not look at the memory, and `exact` and `look` say what lies in it. So an add at the end of the chain and a find that
+-- not look at the memory, and `exact`, `exact-pass` and `look` say what lies in it. So an add at the end of the chain and a find that
 -- reorders it are excluded by what the call itself promises alone, its equation with its definition; besides, a find is
 -- lent its buffers for reading only. Here: demand 1 holds of both stores as of ours, demand 3 too at a history at which they
 -- differ from ours; and that they differ.
@@ -17,11 +17,11 @@ use Rattle.model.specs.declared.Table.{Table}
 use Rattle.model.specs.Memory.{keyOf, valueOf, setLink, Place, Live}
 use Rattle.model.specs.declared.State.{State}
 use Rattle.model.specs.Answers.{Reply}
-use Rattle.model.specs.Calls.{oriented, back, changed, oldNew, emptyState, recounted, permitted}
+use Rattle.model.specs.Calls.{oriented, back, changed, oldNew, emptyState, recounted, noted}
 use Rattle.model.specs.Sequences.{World, world, ReadCall, Call, Outcome, left, perform, run, Event, events}
 use Rattle.refinement.specs.Worlds.{current, UndamagedAt}
 use Rattle.refinement.specs.Demand1.{Demand1}
-use Rattle.refinement.specs.Demand2.{HandsOut, Demand2}
+use Rattle.refinement.specs.Demand2.{HandsOut, IteratesOut, Demand2}
 use Rattle.refinement.specs.Demand3.{lengthsOf, replay, Matches, SequenceHolds, Demand3}
 use Rattle.wrong_stores.specs.OneCall as one
 use Rattle.wrong_stores.specs.OneCall.{butAdd, butFind, ifDone}
@@ -52,7 +52,7 @@ twoKeys = add 1 10 ∷ add 2 20 ∷ []
 
 ours : World
 ours =
-    world (permitted (recounted (emptyState 1 1 3) 3 (oldNew 2 0)) false) (2 ∷ replicate 15 0) (replicate 16 0)
+    world (noted (recounted (emptyState 1 1 3) 3 (oldNew 2 0)) false 0) (2 ∷ replicate 15 0) (replicate 16 0)
     (0 ∷ 1 ∷ 10 ∷ 1 ∷ 2 ∷ 20 ∷ 0 ∷ 0 ∷ 0 ∷ [])
 
 -- the first before the second
@@ -89,8 +89,8 @@ turned-reordered =
       lengths = refl;
     }
 
--- Say that a store leaves them so, after calls that to an onlooker are as with ours, and that its walk calls and looks are
--- ours. Then demand 3 holds of it at that history.
+-- Say that a store leaves them so, after calls that to an onlooker are as with ours, and that its walk calls, calls that iterate
+-- and looks are ours. Then demand 3 holds of it at that history.
 
 turned-look : perform turned (Call.read ReadCall.currentTable) .reply .values ≡ take (turned .state .«old_size») (current turned)
 unfolding computing ours turned
@@ -100,6 +100,7 @@ module _ (does : World → Call → Outcome) (calls : List Call) (left : run doe
     (left-ours : run perform (started perform 1) calls ≡ ours)
     (seen : events does (started perform 1) calls ≡ events perform (started perform 1) calls)
     (scans : (cursor : ℕ) (lent : List ℕ) → does turned (Call.scan cursor lent) ≡ perform turned (Call.scan cursor lent))
+    (iterates : (place : ℕ) (lent : List ℕ) → does turned (Call.iterate place lent) ≡ perform turned (Call.iterate place lent))
     (looks : does turned (Call.read ReadCall.currentTable) ≡ perform turned (Call.read ReadCall.currentTable))
     (d : Demand2 perform) (h : SequenceHolds perform (lengthsOf zeros) (started perform 1) (startedIdeal 1) calls) where
   turned-undamaged : UndamagedAt turned
@@ -111,6 +112,12 @@ module _ (does : World → Call → Outcome) (calls : List Call) (left : run doe
   unfolding HandsOut
   turned-exact cursor lent done =
       scans cursor lent ∙ d .hands-out turned turned-undamaged cursor lent (rw scans at done)
+
+  turned-exact-pass : (place : ℕ) (lent : List ℕ) → does turned (Call.iterate place lent) .reply .number ≡ 0
+      → IteratesOut does turned place lent
+  unfolding IteratesOut
+  turned-exact-pass place lent done =
+      iterates place lent ∙ d .iterates-out turned turned-undamaged place lent (rw iterates at done)
 
   turned-matches : Matches (lengthsOf zeros) turned (replay (lengthsOf zeros) (startedIdeal 1) calls)
   unfolding turned
@@ -124,6 +131,7 @@ module _ (does : World → Call → Outcome) (calls : List Call) (left : run doe
         answers = rw seen (h .answers);
         walks = λ visits ended walk. h .walks visits ended (rw seen at walk);
         exact = rw left turned-exact;
+        exact-pass = rw left turned-exact-pass;
         look = rw (left, looks) turned-look;
       }
 
@@ -135,15 +143,15 @@ pub addsAtEnd-passes : Demand2 perform → Demand3 perform → SequenceHolds add
 unfolding computing addsAtEnd reordering relinked wrong.head wrong.toEnd ours turned
 addsAtEnd-passes d2 d =
     turned-passes addsAtEnd twoKeys refl refl (alike (answered (add 1 10) [] ∷ answered (add 2 20) [] ∷ []) refl refl)
-    (λ cursor lent. refl) refl d2 (at d 1 refl twoKeys)
+    (λ cursor lent. refl) (λ place lent. refl) refl d2 (at d 1 refl twoKeys)
 
 pub findsToFront-passes : Demand2 perform → Demand3 perform
     → SequenceHolds findsToFront (lengthsOf zeros) (started findsToFront 1) (startedIdeal 1) (add 1 10 ∷ add 2 20 ∷ find 1 ∷ [])
 unfolding computing findsToFront reordering relinked wrong.head wrong.toFront ours turned
 findsToFront-passes d2 d =
     turned-passes findsToFront (add 1 10 ∷ add 2 20 ∷ find 1 ∷ []) refl refl
-    (alike (answered (add 1 10) [] ∷ answered (add 2 20) [] ∷ answered (find 1) (10 ∷ []) ∷ []) refl refl) (λ cursor lent. refl) refl d2
-    (at d 1 refl _)
+    (alike (answered (add 1 10) [] ∷ answered (add 2 20) [] ∷ answered (find 1) (10 ∷ []) ∷ []) refl refl) (λ cursor lent. refl)
+    (λ place lent. refl) refl d2 (at d 1 refl _)
 
 -- Demand 1.
 

@@ -8,7 +8,7 @@ use lib.ListN.{replicate}
 use borrow.Author.Tests.{eqb-false}
 use Rattle.model.specs.Calls as calls
 use Rattle.model.specs.Walk.{Tables}
-use Rattle.model.specs.Sequences.{World, world, Call, Outcome, perform, carry, run}
+use Rattle.model.specs.Sequences.{World, world, StateCall, Call, Outcome, perform, carry, run}
 use Rattle.model.proofs.Tests.{true-not-false}
 use Rattle.refinement.specs.Demand1.{Demand1}
 use Rattle.refinement.specs.Demand3.{Demand3, SequenceHolds, lengthsOf, begun, startNumber}
@@ -19,10 +19,10 @@ use Rattle.wrong_stores.specs.Growth.{neverGrows, growsForbidden, neverF
 use Rattle.wrong_stores.proofs.Start.{computing, zeros, started, forbid, add, delete, at, apart, neither}
 
 abbrev allow : Call
-allow = Call.allowResize true
+allow = Call.note (StateCall.allowResize true)
 
 unfoldable resizing : Unit {0}
-unfolding computing hidden.before-growth growth.thenResized growth.wanted growth.full growth.growing
+unfolding computing hidden.before-growth growth.thenResized growth.wanted growth.full growth.growing growth.permitted
 resizing = tt
 
 -- the size of the new table, 0 where there is none
@@ -153,7 +153,7 @@ flag : Bool → ℕ
 flag allowed = cond allowed 1 0
 
 pub startsForbidding-excluded : Demand3 startsForbidding → ⊥
-unfolding computing startsForbidding roomy flag
+unfolding computing growth.permitted startsForbidding roomy flag
 startsForbidding-excluded d = apart flag false true refl (begins-with d 1 16 refl [] .matches .allowed)
 
 pub keepsPermission-excluded : Demand3 keepsPermission → ⊥
@@ -161,13 +161,13 @@ unfolding computing keepsPermission flag
 keepsPermission-excluded d = apart flag true false refl (at d 1 refl [] .matches .allowed)
 
 pub allowsAgain-excluded : Demand3 allowsAgain → ⊥
-unfolding computing allowsAgain flag
+unfolding computing growth.permitted allowsAgain flag
 allowsAgain-excluded d =
     apart flag true false refl (at d 1 refl (Call.resize 2 ∷ Call.rehashStep ∷ []) .matches .allowed)
 
 -- Demand 1, `numbers`: the state of zeros is answered with 1
 pub allowsAnyState-excluded : Demand1 allowsAnyState → ⊥
-unfolding computing allowsAnyState
+unfolding computing growth.permitted allowsAnyState
 allowsAnyState-excluded d =
     neither (λ h. eqb-false 0 1 refl (h .1)) (λ h. h .0 (λ s. true-not-false (sym s))) (d .numbers zeros allow)
 

@@ -110,7 +110,7 @@ overlooksDamage-excluded d =
 miscounted : World
 miscounted =
     let w = run perform (started perform 2) (add 0 10 ∷ add 1 11 ∷ []) in
-    world (stateOf true (oldNew 1 2) (oldNew 0 1) true 0 (w .state .«free_head») (w .state .capacity) false) (w .first) (w .second)
+    world (stateOf true (oldNew 1 2) (oldNew 0 1) true 0 (w .state .«free_head») (w .state .capacity) false 0) (w .first) (w .second)
     (w .entries)
 
 -- a chain of one entry

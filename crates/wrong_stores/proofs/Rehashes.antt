@@ -14,7 +14,7 @@ use Rattle.refinement.specs.Demand3.{Lengths, Ideal, lengthsOf, predict, Answer
 use Rattle.wrong_stores.specs.Rehashes as wrong
 use Rattle.wrong_stores.specs.Rehashes.{cutsBuffer, stepsNowhere, countsOneMore, keepsIndex, stepsAhead, movesAll, movesQuietly}
 use Rattle.wrong_stores.specs.Walks as walks
-use Rattle.wrong_stores.proofs.Start.{computing, zeros, started, startedIdeal, add, held, at, apart, differ, isScan, no-look, no-scan}
+use Rattle.wrong_stores.proofs.Start.{computing, zeros, started, startedIdeal, add, held, at, apart, differ, isLent, no-look, no-scan, no-iterate}
 
 -- `matches`, `lengths`: the buffers stay as long as they were
 pub cutsBuffer-excluded : Demand3 cutsBuffer → ⊥
@@ -70,15 +70,15 @@ movesQuietly-excluded d =
     (at d 4 refl (threeKeys []) .matches .each-table 1 11
     (held 2 Table.New 1 (lit< tt) (inl refl) refl refl))
 
--- Over a whole rehash with no walk call in it, it answers as the ideal.
+-- Over a whole rehash in which no call is lent a list, it answers as the ideal.
 
--- each call answers as the ideal, and is no walk call
+-- each call answers as the ideal, and is lent no list
 Plainly : Lengths → Ideal → List Event → Type 0
 Plainly l i [] = Unit {0}
 Plainly l i (e ∷ es) =
     (e .number ≡ predict l i (e .call) .number)
     × (e .values ≡ predict l i (e .call) .values)
-    × (isScan (e .call) ≡ 0)
+    × (isLent (e .call) ≡ 0)
     × Plainly l (predict l i (e .call) .state) es
 
 plainly : (l : Lengths) (i : Ideal) (es : List Event) → Plainly l i es → Answered l i es
@@ -90,6 +90,8 @@ plainly l i (e ∷ es) p = (
     values = λ f. p .1;
     answered-walk = λ cursor lent c z. absurd (no-scan (p .2) c);
     refused-walk = λ cursor lent c f. absurd (no-scan (p .2) c);
+    answered-pass = λ place lent c z. absurd (no-iterate (p .2) c);
+    refused-pass = λ place lent c f. absurd (no-iterate (p .2) c);
   },
   plainly l (predict l i (e .call) .state) es (p .3),
 )

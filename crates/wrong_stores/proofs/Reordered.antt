@@ -90,6 +90,7 @@ module _ (w : World) (first second entries : List ℕ) (r : Reordered w (world (
         turned = m .turned;
         index = m .index;
         allowed = m .allowed;
+        iterators = m .iterators;
         each-table = λ key value h. m .each-table key value (held-back h);
         lengths = r .lengths ∙ m .lengths;
       }

@@ -50,5 +50,6 @@ near-keys find update add delete f u a d w (Call.on key KeyCall.delete) = d key 
 near-keys find update add delete f u a d w (Call.resize size) = inl refl
 near-keys find update add delete f u a d w Call.rehashStep = inl refl
 near-keys find update add delete f u a d w (Call.scan cursor lent) = inl refl
+near-keys find update add delete f u a d w (Call.iterate place lent) = inl refl
 near-keys find update add delete f u a d w (Call.read c) = inl refl
-near-keys find update add delete f u a d w (Call.allowResize allowed) = inl refl
+near-keys find update add delete f u a d w (Call.note c) = inl refl

@@ -16,7 +16,7 @@ use Rattle.model.specs.Memory as memory
 use Rattle.model.specs.Memory.{keyOf, valueOf, Place, Live, sizeOf, entriesAt}
 use Rattle.model.specs.Calls as calls
 use Rattle.model.specs.Sequences as sequences
-use Rattle.model.specs.Sequences.{World, KeyCall, ReadCall, Call, Outcome, carry, run, events}
+use Rattle.model.specs.Sequences.{World, KeyCall, ReadCall, StateCall, Call, Outcome, carry, run, events}
 use Rattle.model.proofs.Computing as model
 use Rattle.model.proofs.Tests.{true-not-false}
 use Rattle.refinement.specs.Worlds as worlds
@@ -27,6 +27,7 @@ use Rattle.refinement.specs.Demand3 as demand3
 use Rattle.refinement.specs.Demand3.{Demand3, SequenceHolds, Ideal, lengthsOf, begun, startNumber, replay, Visit, Walk}
 use Rattle.refinement.specs.ExactlyOnce as once
 use Rattle.refinement.specs.ExactlyOnce.{ExactlyOnce, HandOuts}
+use Rattle.refinement.specs.SafeIterators as safe
 use Rattle.refinement.specs.RehashesEnd as ends
 use Rattle.refinement.specs.RehashesEnd.{RehashEnds, RehashesEnd}
 use Rattle.wrong_stores.specs.OneCall as one
@@ -40,7 +41,7 @@ zeros = sequences.world calls.noState (replicate 16 0) (replicate 16 0) (replica
 -- rehash begins where it has a resize, and else not.
 
 abbrev pub forbid : Call
-forbid = Call.allowResize false
+forbid = Call.note (StateCall.allowResize false)
 
 unfoldable pub started : (World → Call → Outcome) → ℕ → World
 started does size = run does (carry zeros (does zeros (Call.init 3 size))) (forbid ∷ [])
@@ -66,28 +67,30 @@ add key value = Call.on key (KeyCall.add value)
 abbrev pub delete : ℕ → Call
 delete key = Call.on key KeyCall.delete
 
--- 1 for a look, and for a walk call; else 0
+-- 1 for a look, and for a call that is lent a list; else 0
 
 unfoldable pub isLook : Call → ℕ
-isLook = byCall (λ capacity size. 0) (λ key c. 0) (λ size. 0) 0 (λ cursor lent. 0) (byReadCall (λ growing. 0) 1) (λ allowed. 0)
+isLook =
+    byCall (λ capacity size. 0) (λ key c. 0) (λ size. 0) 0 (λ cursor lent. 0) (λ place lent. 0)
+    (byReadCall (λ growing. 0) 1 0 (λ fingerprint. 0)) (λ c. 0)
 
-unfoldable pub isScan : Call → ℕ
-isScan = byCall (λ capacity size. 0) (λ key c. 0) (λ size. 0) 0 (λ cursor lent. 1) (λ c. 0) (λ allowed. 0)
+unfoldable pub isLent : Call → ℕ
+isLent = byCall (λ capacity size. 0) (λ key c. 0) (λ size. 0) 0 (λ cursor lent. 1) (λ place lent. 1) (λ c. 0) (λ c. 0)
 
 -- All that a refutation computes with, opened by one name, `computing`: what a history computes with, and these.
 
 -- ours but for one call
 unfoldable pub theStores : Unit {0}
-unfolding one.none one.byCall one.byKeyCall one.byReadCall one.but one.butInit one.butOn one.butResize one.butStep one.butScan one.butRead one.butAllow one.butFind one.butUpdate one.butAdd one.butDelete one.butSuggestedSize one.butLook one.byNumber one.ifDone one.ifRefused one.ifDamaged one.replying one.answering one.handingBack one.listing one.leaving
+unfolding one.none one.byCall one.byKeyCall one.byReadCall one.byStateCall one.but one.butInit one.butOn one.butResize one.butStep one.butScan one.butIterate one.butRead one.butNote one.butFind one.butUpdate one.butAdd one.butDelete one.butSuggestedSize one.butLook one.butBegin one.butEnd one.butAllow one.butBeginSafe one.butEndSafe one.byNumber one.ifDone one.ifRefused one.ifDamaged one.replying one.answering one.handingBack one.listing one.leaving
 theStores = tt
 
 -- the demands, and what they say of a world
 unfoldable pub theStatements : Unit {0}
-unfolding worlds.current worlds.other worlds.UndamagedAt worlds.takesStep worlds.mayGrow demand1.BadState demand1.nth demand1.headOf demand1.ChainAt demand1.SoundChain demand1.Damaged demand1.liveTables demand1.keyPlaces demand1.OnChain demand1.KeyHeld demand1.Full demand1.FreeListDamaged demand1.EmptyFrom demand1.EndFirst demand1.StepDamaged demand1.places demand1.KeysOn demand1.TooMany demand1.GroupDamaged demand1.Short demand1.row demand1.keyRows demand1.aloneRows demand1.stepWorld demand1.onRows demand1.rows demand1.Decides demand1.Leaves demand1.keyZeros demand1.LeavesAll demand2.groupEntries demand2.nextCursor demand2.HandsOut demand3.lengthsOf demand3.ideal demand3.begun demand3.among demand3.tableOf demand3.sizeIn demand3.startNumber demand3.startAnswer demand3.keyAnswer demand3.resizeAnswer demand3.lowest demand3.afterStep demand3.stepAnswer demand3.stepsFirst demand3.onAnswer demand3.grows demand3.thenGrows demand3.isBucket demand3.inGroup demand3.groupPairs demand3.scanAnswer demand3.readAnswer demand3.predict demand3.replay demand3.pairsIn demand3.handedOut demand3.visit demand3.Answered demand3.largest demand3.HeldAtEach demand3.keysHanded once.times once.NotShrinking once.shrinks once.least ends.Ongoing ends.UnderWay ends.isStep ends.answeredStep ends.answeredSteps ends.filledBuckets ends.mostSteps ends.Advances
+unfolding worlds.current worlds.other worlds.UndamagedAt worlds.takesStep worlds.mayGrow demand1.BadState demand1.nth demand1.headOf demand1.ChainAt demand1.SoundChain demand1.Damaged demand1.liveTables demand1.keyPlaces demand1.OnChain demand1.KeyHeld demand1.Full demand1.FreeListDamaged demand1.EmptyFrom demand1.EndFirst demand1.StepDamaged demand1.places demand1.KeysOn demand1.TooMany demand1.GroupDamaged demand1.Short demand1.placeAt demand1.BucketDamaged demand1.KeysFrom demand1.ShortFrom demand1.row demand1.keyRows demand1.aloneRows demand1.stepWorld demand1.onRows demand1.readRows demand1.noteRows demand1.rows demand1.Decides demand1.Leaves demand1.keyZeros demand1.readZeros demand1.LeavesList demand1.LeavesAll demand2.groupEntries demand2.nextCursor demand2.handing demand2.HandsOut demand2.firstFilled demand2.placeBehind demand2.bucketEntries demand2.IteratesOut demand3.lengthsOf demand3.ideal demand3.begun demand3.among demand3.tableOf demand3.sizeIn demand3.startNumber demand3.startAnswer demand3.keyAnswer demand3.resizeAnswer demand3.lowest demand3.afterStep demand3.stepTaken demand3.stepAnswer demand3.stepsFirst demand3.onAnswer demand3.grows demand3.thenGrows demand3.isBucket demand3.inGroup demand3.groupPairs demand3.placeNumber demand3.placeOf demand3.isAt demand3.firstHeld demand3.bucketPairs demand3.placePairs demand3.handAnswer demand3.liveSizes demand3.keysIn demand3.idealPrint demand3.readAnswer demand3.withNotes demand3.endAnswer demand3.noteAnswer demand3.predict demand3.replay demand3.pairsIn demand3.handedOut demand3.visit demand3.Answered demand3.largest demand3.HeldAtEach demand3.keysHanded once.times once.NotShrinking once.shrinks once.least safe.onlooker safe.stays ends.Ongoing ends.UnderWay ends.isStep ends.answeredStep ends.answeredSteps ends.filledBuckets ends.mostSteps ends.Advances
 theStatements = tt
 
 unfoldable pub computing : Unit {0}
-unfolding zeros started startedIdeal room isLook isScan model.computing theStores theStatements
+unfolding zeros started startedIdeal room isLook isLent model.computing theStores theStatements
 computing = tt
 
 -- demand 3 at a history that begins with that start, for a size that it accepts
@@ -102,6 +105,7 @@ at d size fits calls =
       answers = all .answers .1;
       walks = λ visits ended w. all .walks visits ended (Walk.other w);
       exact = all .exact;
+      exact-pass = all .exact-pass;
       look = all .look;
     }
 
@@ -143,24 +147,35 @@ pub must-be-damaged : {Bad Damaged Rest : Type 0} (n : ℕ) → eqb n 1 ≡ fals
 must-be-damaged n f g d =
     neither (λ h. eqb-false n 1 f (h .1)) (λ h. neither (λ i. eqb-false n 2 g (i .1)) (λ i. i .0 d) (h .1))
 
--- And so of a step during a rehash, whose third row is that of 2.
-pub must-step-damaged : {Bad Resting Damaged Rest : Type 0} (n : ℕ) → eqb n 1 ≡ false → ¬ Resting → eqb n 2 ≡ false → Damaged
-    → (Bad × (n ≡ 1)) ⊎ ((¬ Bad) × ((Resting × (n ≡ 8)) ⊎ ((¬ Resting) × ((Damaged × (n ≡ 2)) ⊎ ((¬ Damaged) × Rest)))))
+-- And so of a step during a rehash that is not held up, whose fourth row is that of 2.
+pub must-step-damaged : {Bad Resting HeldUp Damaged Rest : Type 0} (n : ℕ) → eqb n 1 ≡ false → ¬ Resting → ¬ HeldUp
+    → eqb n 2 ≡ false → Damaged
+    → (Bad × (n ≡ 1))
+    ⊎ ((¬ Bad)
+    × ((Resting × (n ≡ 8))
+    ⊎ ((¬ Resting)
+    × ((HeldUp × (n ≡ 18)) ⊎ ((¬ HeldUp) × ((Damaged × (n ≡ 2)) ⊎ ((¬ Damaged) × Rest)))))))
     → ⊥
-must-step-damaged n f moving g d =
+must-step-damaged n f moving free g d =
     neither (λ h. eqb-false n 1 f (h .1))
     (λ h.
-    neither (λ i. moving (i .0)) (λ i. neither (λ j. eqb-false n 2 g (j .1)) (λ j. j .0 d) (i .1)) (h .1))
+    neither (λ i. moving (i .0))
+    (λ i. neither (λ j. free (j .0)) (λ j. neither (λ k. eqb-false n 2 g (k .1)) (λ k. k .0 d) (j .1)) (i .1))
+    (h .1))
 
--- calls that are no look, and no walk call
+-- calls that are no look, and that are lent no list
 
 pub no-look : {c : Call} → isLook c ≡ 0 → c ≡ Call.read ReadCall.currentTable → ⊥
 unfolding isLook byCall byReadCall
 no-look is-not same = eqb-false 0 1 refl (sym is-not ∙ ap isLook same)
 
-pub no-scan : {c : Call} {cursor : ℕ} {lent : List ℕ} → isScan c ≡ 0 → c ≡ Call.scan cursor lent → ⊥
-unfolding isScan byCall
-no-scan is-not same = eqb-false 0 1 refl (sym is-not ∙ ap isScan same)
+pub no-scan : {c : Call} {cursor : ℕ} {lent : List ℕ} → isLent c ≡ 0 → c ≡ Call.scan cursor lent → ⊥
+unfolding isLent byCall
+no-scan is-not same = eqb-false 0 1 refl (sym is-not ∙ ap isLent same)
+
+pub no-iterate : {c : Call} {place : ℕ} {lent : List ℕ} → isLent c ≡ 0 → c ≡ Call.iterate place lent → ⊥
+unfolding isLent byCall
+no-iterate is-not same = eqb-false 0 1 refl (sym is-not ∙ ap isLent same)
 
 -- the entries at a place
 abbrev pub entriesIn : World → Place → List ℕ

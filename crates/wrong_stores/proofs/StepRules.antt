@@ -89,7 +89,7 @@ end-first = (lit< tt, inl (lit≤ tt, all-empty 6 (lit< tt)))
 pub passesToEnd-excluded : Demand1 passesToEnd → ⊥
 unfolding computing passesToEnd sparse
 passesToEnd-excluded d =
-    must-step-damaged 0 refl true-not-false refl end-first (d .numbers (sparse 0 6) Call.rehashStep)
+    must-step-damaged 0 refl true-not-false (λ up. omega arith) refl end-first (d .numbers (sparse 0 6) Call.rehashStep)
 
 -- .. and from bucket 5 on a step passes ten, and is not damaged
 not-damaged : StepDamaged (sparse 0 5) → ⊥
@@ -102,7 +102,13 @@ pub passesEleven-excluded-by-numbers : Demand1 passesEleven → ⊥
 unfolding looks sparse
 passesEleven-excluded-by-numbers d =
     neither (λ h. eqb-false 2 1 refl (h .1))
-    (λ h. neither (λ i. true-not-false (i .0)) (λ i. neither (λ j. not-damaged (j .0)) (λ j. eqb-false 2 0 refl (j .1)) (i .1)) (h .1))
+    (λ h.
+    neither (λ i. true-not-false (i .0))
+    (λ i.
+    neither (λ j. eqb-false 2 18 refl (j .1))
+    (λ j. neither (λ k. not-damaged (k .0)) (λ k. eqb-false 2 0 refl (k .1)) (j .1))
+    (i .1))
+    (h .1))
     (d .numbers (sparse 0 5) Call.rehashStep)
 
 -- How soon a rehash ends, `within-size`: with one bucket, filled, the first step ends it; ..

@@ -74,7 +74,7 @@ step-damaged =
 pub movesStrays-excluded : Demand1 movesStrays → ⊥
 unfolding computing movesStrays movedUntested untested readBy moving bucketZero
 movesStrays-excluded d =
-    must-step-damaged 0 refl true-not-false refl step-damaged (d .numbers (moving 2 5) Call.rehashStep)
+    must-step-damaged 0 refl true-not-false (λ up. omega arith) refl step-damaged (d .numbers (moving 2 5) Call.rehashStep)
 
 -- Key 5 is on that chain, but not held: its own bucket is empty.
 not-held : KeyHeld (resting 2 5) 5 → ⊥

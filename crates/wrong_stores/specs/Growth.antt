@@ -8,7 +8,7 @@ use Rattle.model.specs.declared.State.{State}
 use Rattle.model.specs.Limits.{largestExponent, forceRatio}
 use Rattle.model.specs.Memory.{keysHeld}
 use Rattle.model.specs.Answers.{reply}
-use Rattle.model.specs.Calls.{permitted, powerFrom, suggested, crowded, growthDue}
+use Rattle.model.specs.Calls.{noted, powerFrom, suggested, crowded, growthDue}
 use Rattle.model.specs.Sequences.{World, KeyCall, Call, Outcome, kept, perform, carry}
 use Rattle.refinement.proofs.HiddenSteps.{before-growth}
 use Rattle.wrong_stores.specs.OneCall.{butInit, butAdd, butDelete, butStep, butAllow, ifDone, replying, handingBack, leaving}
@@ -107,6 +107,9 @@ refusesCramped =
 
 -- The permission: off at a start; never set; set again when a rehash ends; refused during a rehash; set in a state that is
 -- not sound.
+
+unfoldable pub permitted : State → Bool → State
+permitted s allowed = noted s allowed (s .«safe_iterators»)
 
 unfoldable pub startsForbidding : World → Call → Outcome
 startsForbidding = butInit (λ capacity size w o. ifDone (handingBack (permitted (o .reply .state) false) o) o)

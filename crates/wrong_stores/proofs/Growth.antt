@@ -15,8 +15,8 @@ use Rattle.refinement.specs.Demand3.{Demand3, SequenceHolds, lengthsOf, begun, 
 use Rattle.refinement.specs.RehashesEnd.{Ongoing}
 use Rattle.refinement.proofs.HiddenSteps as hidden
 use Rattle.wrong_stores.specs.Growth as growth
-use Rattle.wrong_stores.specs.Growth.{neverGrows, growsForbidden, neverForced, growsLate, forcedEarly, forcedByKeys, growsForBefore, growsToTwo, growsHalfway, growsFromRest, shrinks, deletesShrinking, deletesGrowing, stepsGrowing, allowsGrowing, refusesCramped, startsForbidding, keepsPermission, allowsAgain, refusesPermission, allowsAnyState}
-use Rattle.wrong_stores.proofs.Start.{computing, zeros, started, forbid, add, delete, at, apart, neither}
+use Rattle.wrong_stores.specs.Growth.{neverGrows, growsForbidden, neverForced, growsLate, forcedEarly, forcedByKeys, growsForBefore, growsToTwo, growsHalfway, growsFromRest, neverGrowsPaused, shrinks, deletesShrinking, deletesGrowing, stepsGrowing, allowsGrowing, refusesCramped, startsForbidding, keepsPermission, allowsAgain, refusesPermission, allowsAnyState}
+use Rattle.wrong_stores.proofs.Start.{computing, zeros, started, forbid, beginSafe, add, delete, at, apart, neither}
 
 abbrev allow : Call
 allow = Call.note (StateCall.allowResize true)
@@ -66,6 +66,12 @@ unfolding resizing growsFromRest newSize
 growsFromRest-excluded d =
     apart newSize (Tables.one 2) (Tables.two 2 4) refl
     (at d 4 refl (allow ∷ add 0 10 ∷ Call.resize 2 ∷ add 1 11 ∷ []) .matches .tables)
+
+-- a safe iterator does not hold up growth
+pub neverGrowsPaused-excluded : Demand3 neverGrowsPaused → ⊥
+unfolding resizing neverGrowsPaused newSize
+neverGrowsPaused-excluded d =
+    apart newSize (Tables.one 1) (Tables.two 1 4) refl (at d 1 refl (allow ∷ beginSafe ∷ add 1 10 ∷ []) .matches .tables)
 
 -- one key in 16 buckets; and once it is deleted, none
 pub shrinks-excluded : Demand3 shrinks → ⊥

@@ -14,14 +14,10 @@ use Rattle.refinement.specs.Demand3.{lengthsOf, Visit, Walk, Walk.over, Walk.ot
 use Rattle.refinement.specs.ExactlyOnce.{times, shrinks, least, HandOuts, ExactlyOnce}
 use Rattle.wrong_stores.specs.Walks as wrong
 use Rattle.wrong_stores.specs.Walks.{leavesOut, handsLargerTwice, startsOver, neverEnds, passesOver, upwards}
-use Rattle.wrong_stores.proofs.Start.{computing, zeros, started, startedIdeal, room, add, walk-at}
+use Rattle.wrong_stores.proofs.Start.{computing, zeros, started, startedIdeal, room, add, visited, walk-at}
 use Rattle.wrong_stores.proofs.Walks.{handing}
 
--- a visit at a cursor and a smaller live size, with the keys held and those handed out
-abbrev visited : ℕ → ℕ → List ℕ → List ℕ → Visit
-visited cursor size held handed = record { cursor = cursor; size = size; held = held; handed = handed }
-
--- with key 0 held and handed out
+-- a visit with key 0 held and handed out
 abbrev zeroAt : ℕ → ℕ → Visit
 zeroAt cursor size = visited cursor size (0 ∷ []) (0 ∷ [])
 

@@ -19,11 +19,11 @@ use Rattle.refinement.specs.RehashesEnd.{UnderWay, answeredSteps, RehashesEnd}
 use Rattle.refinement.proofs.HiddenSteps.{alone}
 use Rattle.wrong_stores.specs.Rehashes as rehashes
 use Rattle.wrong_stores.specs.HiddenSteps as wrong
-use Rattle.wrong_stores.specs.HiddenSteps.{addsUnmoved, deletesUnmoved, addsThenSteps, deletesThenSteps, addsAfterTwo, addsPassingOne, addStepStays, deleteStepStays, findsStepping, updatesStepping, walksStepping, looksBefore}
+use Rattle.wrong_stores.specs.HiddenSteps.{addsUnmoved, deletesUnmoved, addsThenSteps, deletesThenSteps, addsAfterTwo, addsPassingOne, addStepStays, deleteStepStays, findsStepping, updatesStepping, walksStepping, iteratesStepping, looksBefore}
 use Rattle.wrong_stores.proofs.Start.{computing, alike, started, room, find, update, add, delete, at, rehash-at, apart, neither}
 
 unfoldable stepping : Unit {0}
-unfolding computing alone rehashes.goingOn wrong.thenSteps addsThenSteps deletesThenSteps wrong.stepped wrong.alsoSteps addsUnmoved deletesUnmoved addsAfterTwo addsPassingOne addStepStays deleteStepStays findsStepping updatesStepping walksStepping looksBefore
+unfolding computing alone rehashes.goingOn wrong.thenSteps addsThenSteps deletesThenSteps wrong.stepped wrong.alsoSteps addsUnmoved deletesUnmoved addsAfterTwo addsPassingOne addStepStays deleteStepStays findsStepping updatesStepping walksStepping iteratesStepping looksBefore
 stepping = tt
 
 -- Demand 3, `answers`, `number`. Key 0 is the only one, and a rehash from size 2 to 4 is begun: a call, and then a step, ..
@@ -52,6 +52,11 @@ updatesStepping-excluded d = eqb-false 8 0 refl (at d 2 refl (thenStep (update 0
 pub walksStepping-excluded : Demand3 walksStepping → ⊥
 unfolding stepping
 walksStepping-excluded d = eqb-false 8 0 refl (at d 2 refl (thenStep (Call.scan 0 room)) .answers .1 .1 .1 .0 .number)
+
+pub iteratesStepping-excluded : Demand3 iteratesStepping → ⊥
+unfolding stepping
+iteratesStepping-excluded d =
+    eqb-false 8 0 refl (at d 2 refl (thenStep (Call.iterate 0 room)) .answers .1 .1 .1 .0 .number)
 
 -- key 0, and those keys, in a rehash from size 2 to 4
 begun : List Call → World

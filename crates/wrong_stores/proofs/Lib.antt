@@ -11,6 +11,8 @@ pub mod Growth
 pub mod ReadCalls
 pub mod Refusals
 pub mod Strays
+pub mod Passes
+pub mod Iterators
 pub mod OneMoment
 pub mod Reordered
 pub mod SameNumbers

@@ -19,6 +19,7 @@ use Rattle.refinement.specs.Demand2.{Demand2}
 use Rattle.wrong_stores.specs.KeyCalls.{findsNothing, findsZero, writesNothing, addsLoop}
 use Rattle.wrong_stores.specs.Walks as walks
 use Rattle.wrong_stores.specs.Walks.{backwards}
+use Rattle.wrong_stores.specs.Passes.{iteratesBackwards}
 use Rattle.wrong_stores.proofs.Start.{computing, started, room, apart, differ, entriesIn, held, in-no-bucket}
 
 -- a start of one bucket and three entries, all free
@@ -133,3 +134,10 @@ unfolding computing backwards walks.handing walks.handingOut fresh noPairs
 backwards-excluded-by-demand2 d =
     let s = onward d (onward d stands 1 (KeyCall.add 11)) 0 (KeyCall.add 10) in
     apart (λ (o : Outcome). getD (o .lent) 0 0) _ _ refl (d .hands-out _ (s .undamaged) 0 room refl)
+
+-- `iterates-out`. And so with a call that iterates.
+pub iteratesBackwards-excluded-by-demand2 : Demand2 iteratesBackwards → ⊥
+unfolding computing iteratesBackwards fresh noPairs
+iteratesBackwards-excluded-by-demand2 d =
+    let s = onward d (onward d stands 1 (KeyCall.add 11)) 0 (KeyCall.add 10) in
+    apart (λ (o : Outcome). getD (o .lent) 0 0) _ _ refl (d .iterates-out _ (s .undamaged) 0 room refl)

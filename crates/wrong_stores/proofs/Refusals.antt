@@ -17,8 +17,8 @@ use Rattle.model.specs.Calls.{stateOf, oldNew}
 use Rattle.model.specs.Sequences.{World, world, Call, Outcome, perform, run}
 use Rattle.refinement.specs.Demand1.{Demand1, nth, Chain, SoundChain, places, TooMany, GroupDamaged}
 use Rattle.refinement.specs.Demand3.{Demand3}
-use Rattle.wrong_stores.specs.Refusals.{refusesAll, refusesLarge, takesLarger, refusesResizes, refusesSteps, overlooksDamage, losesState, writesFirst, refusesWalks, alwaysShort, readAgain, sumAfterShort, sumByCapacity, sumBelowKeys, roomForAll, shortMiscounts, countsRefused, writesRefused}
-use Rattle.wrong_stores.proofs.Start.{computing, zeros, started, room, find, update, add, at, apart, differ, must-be-damaged, no-look}
+use Rattle.wrong_stores.specs.Refusals.{refusesAll, refusesLarge, takesLarger, refusesResizes, refusesSteps, overlooksDamage, losesState, writesFirst, asDamaged, refusesWalks, asShort, alwaysShort, readAgain, sumAfterShort, sumByCapacity, sumBelowKeys, roomForAll, miscounting, shortMiscounts, countsRefused, scribbling, writesRefused}
+use Rattle.wrong_stores.proofs.Start.{computing, zeros, started, room, find, update, add, at, apart, differ, must-be-damaged, no-look, single}
 
 -- Demand 3, `begins`: the start's number is fixed by the limits and the lengths.
 pub refusesAll-excluded : Demand3 refusesAll → ⊥
@@ -54,33 +54,33 @@ refusesSteps-excluded d =
 
 -- a walk call's only refusal is 9
 pub refusesWalks-excluded : Demand3 refusesWalks → ⊥
-unfolding computing refusesWalks twoKeys
+unfolding computing asDamaged refusesWalks twoKeys
 refusesWalks-excluded d = eqb-false 2 0 refl (at d 2 refl (twoKeys (Call.scan 0 room)) .answers .1 .1 .0 .number)
 
 -- two places for each key to be handed out are enough
 pub alwaysShort-excluded : Demand3 alwaysShort → ⊥
-unfolding computing alwaysShort twoKeys
+unfolding computing asShort alwaysShort twoKeys
 alwaysShort-excluded d = eqb-false 9 0 refl (at d 2 refl (twoKeys (Call.scan 0 room)) .answers .1 .1 .0 .number)
 
 pub roomForAll-excluded : Demand3 roomForAll → ⊥
-unfolding computing roomForAll twoKeys
+unfolding computing asShort roomForAll twoKeys
 roomForAll-excluded d =
     eqb-false 9 0 refl (at d 2 refl (twoKeys (Call.scan 0 (0 ∷ 0 ∷ []))) .answers .1 .1 .0 .number)
 
 -- a group may have as many entries as there are keys held
 pub sumBelowKeys-excluded : Demand3 sumBelowKeys → ⊥
-unfolding computing sumBelowKeys
+unfolding computing asDamaged sumBelowKeys
 sumBelowKeys-excluded d = eqb-false 2 0 refl (at d 1 refl (add 1 10 ∷ Call.scan 0 room ∷ []) .answers .1 .0 .number)
 
 -- Demand 3, `answers`, `values`: the number of keys comes with 9.
 pub shortMiscounts-excluded : Demand3 shortMiscounts → ⊥
-unfolding computing shortMiscounts twoKeys
+unfolding computing miscounting shortMiscounts twoKeys
 shortMiscounts-excluded d =
     differ 1 (0 ∷ 2 ∷ []) (0 ∷ 1 ∷ []) refl (at d 2 refl (twoKeys (Call.scan 0 [])) .answers .1 .1 .0 .values (no-look refl))
 
 -- Demand 3, `answers`, `refused-walk`: a short walk call leaves the list.
 pub writesRefused-excluded : Demand3 writesRefused → ⊥
-unfolding computing writesRefused
+unfolding computing scribbling writesRefused
 writesRefused-excluded d =
     differ 0 (0 ∷ []) (7 ∷ []) refl
     (at d 1 refl (add 1 10 ∷ Call.scan 0 (7 ∷ []) ∷ []) .answers .1 .0 .refused-walk 0 (7 ∷ []) refl (eqb-false 9 0 refl))
@@ -113,31 +113,13 @@ miscounted =
     world (stateOf true (oldNew 1 2) (oldNew 0 1) true 0 (w .state .«free_head») (w .state .capacity) false 0) (w .first) (w .second)
     (w .entries)
 
--- a chain of one entry
-alone : (b head : ℕ) → 0 < head → head ≤ 3 → inBucket 2 b (keyOf (miscounted .entries) head) ≡ true
-    → linkOf (miscounted .entries) head ≡ 0
-    → Chain (inBucket 2 b) (miscounted .entries) (miscounted .state .capacity) head 1
-unfolding computing miscounted
-alone b head pos fits own end =
-    record {
-      entry =
-          λ k l.
-          let first : 0 ≡ k = omega arith in
-          subst (λ (j : ℕ). (0 < nth (miscounted .entries) head j) × (nth (miscounted .entries) head j ≤ 3)) first (pos, fits);
-      key =
-          λ k l.
-          let first : 0 ≡ k = omega arith in
-          subst (λ (j : ℕ). inBucket 2 b (keyOf (miscounted .entries) (nth (miscounted .entries) head j)) ≡ true) first own;
-      end = end;
-    }
-
 two-counted : TooMany miscounted (places miscounted 0)
 unfolding computing miscounted
 two-counted =
     let nothing : Chain (inBucket 1 0) (miscounted .entries) 3 0 0 =
     record { entry = λ k l. absurd (omega arith); key = λ k l. absurd (omega arith); end = refl } in (
       2,
-      (0, 2, nothing, (1, 1, alone 0 1 (lit< tt) (lit≤ tt) refl refl, (1, 0, alone 1 2 (lit< tt) (lit≤ tt) refl refl, refl, refl), refl), refl),
+      (0, 2, nothing, (1, 1, single (inBucket 2 0) (miscounted .entries) 3 1 (lit< tt) (lit≤ tt) refl refl, (1, 0, single (inBucket 2 1) (miscounted .entries) 3 2 (lit< tt) (lit≤ tt) refl refl, refl, refl), refl), refl),
       lit< tt,
     )
 
@@ -172,14 +154,14 @@ writesFirst-excluded d =
 
 -- .. and the lent list; ..
 pub writesRefused-excluded-by-refusals : Demand1 writesRefused → ⊥
-unfolding computing writesRefused oneKey
+unfolding computing scribbling writesRefused oneKey
 writesRefused-excluded-by-refusals d =
     apart (λ (o : Outcome). getD (o .lent) 0 0) _ _ refl
     (d .refusals oneKey (Call.scan 0 (7 ∷ [])) (eqb-false 9 0 refl) .2)
 
 -- .. and the count is with 9 that of the keys, else 0.
 pub shortMiscounts-excluded-by-refusals : Demand1 shortMiscounts → ⊥
-unfolding computing shortMiscounts oneKey
+unfolding computing miscounting shortMiscounts oneKey
 shortMiscounts-excluded-by-refusals d =
     let h = d .refusals oneKey (Call.scan 0 []) (eqb-false 9 0 refl) in
     let keys = h .1 .short refl in

@@ -1,9 +1,9 @@
 -- What the refutations share: a world of zeros to start from, demand 3 at a start of three entries in it, and everything that
 -- a store of specs/ computes with, opened by one name.
 -- Assumes nothing.
-use Prim.Native.Nat.{ℕ, zero, suc, _<_}
+use Prim.Native.Nat.{ℕ, zero, suc, _<_, _≤_}
 use mathlib.Core.Path.{_≡_, refl, sym, _∙_, ap}
-use mathlib.Core.Bool.{Bool, false}
+use mathlib.Core.Bool.{Bool, true, false}
 use mathlib.Core.Logic.{_⊎_, inl, inr}
 use mathlib.Core.List.{List, [], _∷_, _++_}
 use lib.ListN.{replicate, getD}
@@ -13,7 +13,7 @@ use borrow.Author.Tests.{eqb-false}
 use Rattle.cursor.specs.Member.{In}
 use Rattle.model.specs.declared.Table.{Table}
 use Rattle.model.specs.Memory as memory
-use Rattle.model.specs.Memory.{keyOf, valueOf, Place, Live, sizeOf, entriesAt}
+use Rattle.model.specs.Memory.{linkOf, keyOf, valueOf, Place, Live, sizeOf, entriesAt}
 use Rattle.model.specs.Calls as calls
 use Rattle.model.specs.Sequences as sequences
 use Rattle.model.specs.Sequences.{World, KeyCall, ReadCall, StateCall, Call, Outcome, carry, run, events}
@@ -22,12 +22,14 @@ use Rattle.model.proofs.Tests.{true-not-false}
 use Rattle.refinement.specs.Worlds as worlds
 use Rattle.refinement.specs.Worlds.{current, other, Held}
 use Rattle.refinement.specs.Demand1 as demand1
+use Rattle.refinement.specs.Demand1.{nth, Chain}
 use Rattle.refinement.specs.Demand2 as demand2
 use Rattle.refinement.specs.Demand3 as demand3
 use Rattle.refinement.specs.Demand3.{Demand3, SequenceHolds, Ideal, lengthsOf, begun, startNumber, replay, Visit, Walk}
 use Rattle.refinement.specs.ExactlyOnce as once
 use Rattle.refinement.specs.ExactlyOnce.{ExactlyOnce, HandOuts}
 use Rattle.refinement.specs.SafeIterators as safe
+use Rattle.refinement.specs.SafeIterators.{SafeIterators, Pass, PassHolds}
 use Rattle.refinement.specs.RehashesEnd as ends
 use Rattle.refinement.specs.RehashesEnd.{RehashEnds, RehashesEnd}
 use Rattle.wrong_stores.specs.OneCall as one
@@ -66,6 +68,14 @@ add key value = Call.on key (KeyCall.add value)
 
 abbrev pub delete : ℕ → Call
 delete key = Call.on key KeyCall.delete
+
+-- a safe iterator's begin and end
+
+abbrev pub beginSafe : Call
+beginSafe = Call.note StateCall.beginSafe
+
+abbrev pub endSafe : Call
+endSafe = Call.note StateCall.endSafe
 
 -- 1 for a look, and for a call that is lent a list; else 0
 
@@ -117,6 +127,17 @@ unfolding started startedIdeal demand3.replay sequences.run sequences.event sequ
 walk-at d size answered calls {visits} {ended} w =
     d .walks zeros 3 size answered (forbid ∷ calls) visits ended (Walk.other w)
 
+-- and for a pass of it, by a safe iterator that begins after some calls
+pub pass-at : {does : World → Call → Outcome} → SafeIterators does → (size : ℕ) → does zeros (Call.init 3 size) .reply .number ≡ 0
+    → (before : List Call) → does (run does (started does size) before) beginSafe .reply .number ≡ 0 → (calls : List Call)
+    {moments : List Visit} {ended : Bool}
+    → Pass (lengthsOf zeros) 0 (replay (lengthsOf zeros) (startedIdeal size) (before ++ beginSafe ∷ []))
+    (events does (run does (started does size) (before ++ beginSafe ∷ [])) calls) moments ended
+    → PassHolds moments ended
+unfolding started startedIdeal demand3.replay sequences.run
+pass-at d size answered before begins calls {moments} {ended} p =
+    d .passes zeros 3 size answered (forbid ∷ before) begins calls moments ended p
+
 -- and for a rehash of that history, which a call begins after some others
 pub rehash-at : {does : World → Call → Outcome} → RehashesEnd does → (size : ℕ) → does zeros (Call.init 3 size) .reply .number ≡ 0
     → (before : List Call) (first : Call) → run does (started does size) before .state .rehashing ≡ false → (calls : List Call)
@@ -124,6 +145,10 @@ pub rehash-at : {does : World → Call → Outcome} → RehashesEnd does → (si
 unfolding started sequences.run ends.Ongoing
 rehash-at d size answered before first resting calls =
     d .rehashes zeros 3 size answered (forbid ∷ before) first (λ on. true-not-false (sym (on .0) ∙ resting)) calls
+
+-- a visit at a cursor, or a place, and a smaller live size, with the keys held and those handed out
+abbrev pub visited : ℕ → ℕ → List ℕ → List ℕ → Visit
+visited cursor size held handed = record { cursor = cursor; size = size; held = held; handed = handed }
 
 -- Two things that are both this one: each is computed by itself.
 pub alike : {A : Type 0} (this : A) {x y : A} → x ≡ this → y ≡ this → x ≡ y
@@ -180,6 +205,20 @@ no-iterate is-not same = eqb-false 0 1 refl (sym is-not ∙ ap isLent same)
 -- the entries at a place
 abbrev pub entriesIn : World → Place → List ℕ
 entriesIn w p = entriesAt (w .state) (current w) (other w) (w .entries) p
+
+-- a chain of one entry
+pub single : (test : ℕ → Bool) (entries : List ℕ) (capacity head : ℕ) → 0 < head → head ≤ capacity
+    → test (keyOf entries head) ≡ true → linkOf entries head ≡ 0 → Chain test entries capacity head 1
+unfolding demand1.nth
+single test entries capacity head pos fits own end = record { entry = entry; key = key; end = end }
+  where
+    entry : (k : ℕ) → k < 1 → (0 < nth entries head k) × (nth entries head k ≤ capacity)
+    entry zero l = (pos, fits)
+    entry (suc k) l = absurd (omega arith)
+
+    key : (k : ℕ) → k < 1 → test (keyOf entries (nth entries head k)) ≡ true
+    key zero l = own
+    key (suc k) l = absurd (omega arith)
 
 -- With one table of one bucket, an entry that is not in that bucket is in none, and one that is not free either on no chain.
 

@@ -14,9 +14,9 @@ use Rattle.model.specs.Memory.{Place, inBucket}
 use Rattle.model.specs.Cases.{bucketZero, resting, moving}
 use Rattle.model.specs.Sequences.{Call}
 use Rattle.model.proofs.Tests.{true-not-false}
-use Rattle.refinement.specs.Demand1.{Demand1, Chain, ChainAt, SoundChain, Damaged, KeyHeld, keyPlaces, FirstFilled, StepDamaged, GroupDamaged}
+use Rattle.refinement.specs.Demand1.{Demand1, Chain, ChainAt, SoundChain, Damaged, KeyHeld, keyPlaces, FirstFilled, StepDamaged, GroupDamaged, FirstFrom, BucketDamaged}
 use Rattle.refinement.specs.Demand3.{Demand3}
-use Rattle.wrong_stores.specs.Strays.{readBy, untested, firstTested, lookupBy, findBy, findsAmongStrays, findsBehindFirst, readAll, walksStrays, movedUntested, movesStrays, findsElsewhere, orDamaged, testsBucketZero, testsOtherSize, testsFree}
+use Rattle.wrong_stores.specs.Strays.{readBy, untested, firstTested, lookupBy, findBy, findsAmongStrays, findsBehindFirst, readAll, walksStrays, iteratedBy, iteratesStrays, movedUntested, movesStrays, findsElsewhere, orDamaged, testsBucketZero, testsOtherSize, testsFree}
 use Rattle.wrong_stores.proofs.Start.{computing, find, add, room, at, neither, must-be-damaged, must-step-damaged}
 
 -- Demand 1, `numbers`: keys 2 and 5 on the chain of bucket 0, at size 2, in either order. It is not sound, ..
@@ -56,6 +56,23 @@ walk-damaged = (lit< tt, inl find-damaged)
 pub walksStrays-excluded : Demand1 walksStrays → ⊥
 unfolding computing walksStrays readAll untested readBy resting bucketZero
 walksStrays-excluded d = must-be-damaged 0 refl refl walk-damaged (d .numbers (resting 2 5) (Call.scan 0 room))
+
+-- .. a call that iterates from place 0, ..
+bucket-damaged : BucketDamaged (resting 2 5) 0
+unfolding computing resting
+bucket-damaged =
+    let first : FirstFrom (resting 2 5) 0 0 =
+    record {
+      from-place = lit≤ tt;
+      before-end = lit< tt;
+      filled = eqb-false 1 0 refl;
+      empty-before = λ m from before. absurd (omega arith);
+    } in
+    (0, first, λ c. second-off (c .0) (c .2))
+
+pub iteratesStrays-excluded : Demand1 iteratesStrays → ⊥
+unfolding computing iteratesStrays iteratedBy untested readBy resting bucketZero
+iteratesStrays-excluded d = must-be-damaged 0 refl refl bucket-damaged (d .numbers (resting 2 5) (Call.iterate 0 room))
 
 -- .. and a step from that table.
 step-damaged : StepDamaged (moving 2 5)

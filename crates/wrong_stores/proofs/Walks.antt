@@ -76,7 +76,7 @@ handsTwice-excluded d =
 
 -- `beyond`: the places behind the pairs stay
 pub writesBeyond-excluded : Demand3 writesBeyond → ⊥
-unfolding handing writesBeyond
+unfolding handing wrong.overwriting writesBeyond
 writesBeyond-excluded d =
     differ 0 (0 ∷ []) (7 ∷ []) refl
     (at d 1 refl (add 1 10 ∷ Call.scan 0 (0 ∷ 0 ∷ 7 ∷ []) ∷ []) .answers .1 .0 .answered-walk 0 (0 ∷ 0 ∷ 7 ∷ []) refl refl

@@ -8,7 +8,7 @@ use Rattle.model.specs.declared.State.{State}
 use Rattle.model.specs.Limits.{largestExponent, forceRatio}
 use Rattle.model.specs.Memory.{keysHeld}
 use Rattle.model.specs.Answers.{reply}
-use Rattle.model.specs.Calls.{noted, powerFrom, suggested, crowded, growthDue}
+use Rattle.model.specs.Calls.{noted, paused, powerFrom, suggested, crowded, growthDue}
 use Rattle.model.specs.Sequences.{World, KeyCall, Call, Outcome, kept, perform, carry}
 use Rattle.refinement.proofs.HiddenSteps.{before-growth}
 use Rattle.wrong_stores.specs.OneCall.{butInit, butAdd, butDelete, butStep, butAllow, ifDone, replying, handingBack, leaving}
@@ -76,6 +76,11 @@ growsHalfway = butAdd (λ key value. thenResized full (λ s. wanted s / 2))
 unfoldable pub growsFromRest : World → Call → Outcome
 growsFromRest =
     butAdd (λ key value w o. cond (w .state .rehashing) (before-growth w key (KeyCall.add value)) o)
+
+-- only where no safe iterator has begun
+unfoldable pub neverGrowsPaused : World → Call → Outcome
+neverGrowsPaused =
+    butAdd (λ key value w o. cond (paused (w .state)) (before-growth w key (KeyCall.add value)) o)
 
 -- to any other size than the present one, be it smaller
 unfoldable pub shrinks : World → Call → Outcome

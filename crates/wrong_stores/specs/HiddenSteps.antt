@@ -5,7 +5,7 @@ use mathlib.Core.Bool.{cond}
 use lib.Dec.{eqb}
 use Rattle.model.specs.Sequences.{World, world, KeyCall, Call, Outcome, perform, carry}
 use Rattle.refinement.proofs.HiddenSteps.{alone}
-use Rattle.wrong_stores.specs.OneCall.{Change, butFind, butUpdate, butAdd, butDelete, butScan, ifDone, ifDamaged, handingBack, leaving}
+use Rattle.wrong_stores.specs.OneCall.{Change, butFind, butUpdate, butAdd, butDelete, butScan, butIterate, ifDone, ifDamaged, handingBack, leaving}
 use Rattle.wrong_stores.specs.Rehashes.{goingOn}
 
 -- an add, or a delete, that takes no step
@@ -56,7 +56,7 @@ addStepStays number = butAdd (λ key value w o. cond (eqb (o .reply .number) num
 unfoldable pub deleteStepStays : ℕ → World → Call → Outcome
 deleteStepStays number = butDelete (λ key w o. cond (eqb (o .reply .number) number) (stepped w o) o)
 
--- .. and with the state after it: a find, a change, or a walk call that takes a step
+-- .. and with the state after it: a find, a change, a walk call, or one that iterates, that takes a step
 unfoldable pub alsoSteps : Change
 alsoSteps w o =
     cond (w .state .rehashing) (handingBack (perform w Call.rehashStep .reply .state) (stepped w o)) o
@@ -69,6 +69,9 @@ updatesStepping = butUpdate (λ key value w o. ifDone (alsoSteps w o) o)
 
 unfoldable pub walksStepping : World → Call → Outcome
 walksStepping = butScan (λ cursor lent w o. ifDone (alsoSteps w o) o)
+
+unfoldable pub iteratesStepping : World → Call → Outcome
+iteratesStepping = butIterate (λ place lent w o. ifDone (alsoSteps w o) o)
 
 -- an add that is damaged only where its chains are so before the step
 unfoldable pub looksBefore : World → Call → Outcome

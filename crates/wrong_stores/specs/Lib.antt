@@ -10,3 +10,5 @@ pub mod Growth
 pub mod ReadCalls
 pub mod Refusals
 pub mod Strays
+pub mod Passes
+pub mod Iterators

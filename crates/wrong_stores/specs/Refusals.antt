@@ -18,7 +18,7 @@ use Rattle.model.specs.Calls.{noState}
 use Rattle.model.specs.Walk.{AfterScan, tablesOf, group, groupPlaces, chainsAt, atMost, scanned}
 use Rattle.model.specs.Sequences.{World, Call, Outcome, kept, keptScan, perform}
 use Rattle.refinement.specs.Worlds.{current, other}
-use Rattle.wrong_stores.specs.OneCall.{but, butInit, butFind, butUpdate, butResize, butStep, butScan, ifDone, ifRefused, ifDamaged, answering, handingBack, listing, leaving}
+use Rattle.wrong_stores.specs.OneCall.{Change, but, butInit, butFind, butUpdate, butResize, butStep, butScan, ifDone, ifRefused, ifDamaged, answering, handingBack, listing, leaving}
 
 -- refuses every call
 unfoldable pub refusesAll : World → Call → Outcome
@@ -56,24 +56,25 @@ writesFirst = butUpdate (λ key value w o. ifRefused (leaving (o .first) (o .sec
 -- Walk calls.
 
 -- refuses every one as damaged
+unfoldable pub asDamaged : List ℕ → Change
+asDamaged lent w o = keptScan w (AfterScan.after (ScanAnswer.Refused Error.Damaged) lent)
+
 unfoldable pub refusesWalks : World → Call → Outcome
-refusesWalks = butScan (λ cursor lent w o. keptScan w (AfterScan.after (ScanAnswer.Refused Error.Damaged) lent))
+refusesWalks = butScan (λ cursor. asDamaged)
 
 -- always short, with the right number of keys
+unfoldable pub asShort : List ℕ → Change
+asShort lent w o = ifDone (keptScan w (AfterScan.after (ScanAnswer.Short (getD (o .reply .values) 1 0)) lent)) o
+
 unfoldable pub alwaysShort : World → Call → Outcome
-alwaysShort =
-    butScan
-    (λ cursor lent w o.
-    ifDone (keptScan w (AfterScan.after (ScanAnswer.Short (getD (o .reply .values) 1 0)) lent)) o)
+alwaysShort = butScan (λ cursor. asShort)
 
 -- damaged where the group has as many entries as there are keys held, and some are held
 unfoldable pub sumBelowKeys : World → Call → Outcome
 sumBelowKeys =
     butScan
     (λ cursor lent w o.
-    cond (ltb 0 (keysHeld (w .state)) && eqb (getD (o .reply .values) 1 0) (keysHeld (w .state)))
-    (keptScan w (AfterScan.after (ScanAnswer.Refused Error.Damaged) lent))
-    o)
+    cond (ltb 0 (keysHeld (w .state)) && eqb (getD (o .reply .values) 1 0) (keysHeld (w .state))) (asDamaged lent w o) o)
 
 -- What a call that ours refuses as damaged would be with another limit on the entries of its group, or with none.
 
@@ -101,15 +102,14 @@ unfoldable pub roomForAll : World → Call → Outcome
 roomForAll =
     butScan
     (λ cursor lent w o.
-    cond (leb (keysHeld (w .state) * 2) (length lent)) o
-    (ifDone (keptScan w (AfterScan.after (ScanAnswer.Short (getD (o .reply .values) 1 0)) lent)) o))
+    cond (leb (keysHeld (w .state) * 2) (length lent)) o (asShort lent w o))
 
 -- makes up the number of keys that comes with 9
+unfoldable pub miscounting : Change
+miscounting w o = cond (eqb (o .reply .number) 9) (answering (0 ∷ suc (getD (o .reply .values) 1 0) ∷ []) o) o
+
 unfoldable pub shortMiscounts : World → Call → Outcome
-shortMiscounts =
-    butScan
-    (λ cursor lent w o.
-    cond (eqb (o .reply .number) 9) (answering (0 ∷ suc (getD (o .reply .values) 1 0) ∷ []) o) o)
+shortMiscounts = butScan (λ cursor lent. miscounting)
 
 -- says a number of keys with any other refusal
 unfoldable pub countsRefused : World → Call → Outcome
@@ -117,5 +117,8 @@ countsRefused =
     butScan (λ cursor lent w o. cond (eqb (o .reply .number) 9) o (ifRefused (answering (0 ∷ 1 ∷ []) o) o))
 
 -- writes the list and refuses
+unfoldable pub scribbling : Change
+scribbling w o = ifRefused (listing (replicate (length (o .lent)) 0) o) o
+
 unfoldable pub writesRefused : World → Call → Outcome
-writesRefused = butScan (λ cursor lent w o. ifRefused (listing (replicate (length lent) 0) o) o)
+writesRefused = butScan (λ cursor lent. scribbling)

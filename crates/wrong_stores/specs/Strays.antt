@@ -1,6 +1,6 @@
 -- Wrong stores by the keys on a chain: they pass over a key off its bucket, look for it where it does not belong, or find
 -- damage where there is none.
-use Prim.Native.Nat.{ℕ}
+use Prim.Native.Nat.{ℕ, suc}
 use mathlib.Core.Bool.{Bool, _||_, cond}
 use mathlib.Core.List.{List, [], _∷_}
 use mathlib.Core.Option.{Option, none, some}
@@ -17,9 +17,11 @@ use Rattle.model.specs.Memory.{keyOf, keysHeld, chain, inBucket, anyKey, Place,
 use Rattle.model.specs.Answers.{findReply, addReply, stepReply}
 use Rattle.model.specs.Calls.{After, back, searched, both, found, target, movedChain, movedFrom, aheadOf}
 use Rattle.model.specs.Walk.{tablesOf, group, groupPlaces, joined, atMost, scanned}
+use Rattle.model.specs.Iterators.{bucketAt}
 use Rattle.model.specs.Sequences.{World, Call, Outcome, kept, keptScan, left}
 use Rattle.refinement.specs.Worlds.{current, other}
-use Rattle.wrong_stores.specs.OneCall.{butFind, butAdd, butStep, butScan, ifDone, ifDamaged}
+use Rattle.refinement.specs.Demand2.{firstFilled}
+use Rattle.wrong_stores.specs.OneCall.{butFind, butAdd, butStep, butScan, butIterate, ifDone, ifDamaged}
 
 -- A chain read in another way.
 
@@ -73,6 +75,14 @@ walksStrays =
     (scanned (w .entries) lent (group tables cursor .answered)
     (atMost (keysHeld (w .state)) (readAll w (groupPlaces tables cursor)))))
     o)
+
+-- and so a call that iterates
+unfoldable pub iteratedBy : World → List ℕ → Option ℕ → Outcome → Outcome
+iteratedBy w lent none o = o
+iteratedBy w lent (some n) o = keptScan w (scanned (w .entries) lent (suc n) (untested w (bucketAt (tablesOf (w .state)) n)))
+
+unfoldable pub iteratesStrays : World → Call → Outcome
+iteratesStrays = butIterate (λ place lent w o. ifDamaged (iteratedBy w lent (firstFilled w place) o) o)
 
 -- a step moves whatever keys are on its chain
 unfoldable pub movedUntested : World → Ahead → After StepAnswer

@@ -111,8 +111,11 @@ unfoldable pub losesValues : World → Call → Outcome
 losesValues = butScan (λ cursor lent w o. ifDone (listing (keysOnly (getD (o .reply .values) 1 0) (o .lent)) o) o)
 
 -- the places behind the pairs written too
+unfoldable pub overwriting : Change
+overwriting w o = ifDone (listing (set (o .lent) (getD (o .reply .values) 1 0 * 2) 0) o) o
+
 unfoldable pub writesBeyond : World → Call → Outcome
-writesBeyond = butScan (λ cursor lent w o. ifDone (listing (set (o .lent) (getD (o .reply .values) 1 0 * 2) 0) o) o)
+writesBeyond = butScan (λ cursor lent. overwriting)
 
 -- Another group during a rehash, made from the smaller and the larger size; with one table, as ours.
 

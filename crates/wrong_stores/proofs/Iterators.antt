@@ -1,0 +1,140 @@
+-- The stores of specs/Iterators are excluded, by demand 3 or by demand 1; and a store of ours that changes between the begin
+-- and the end of an iterator, and has the same fingerprint.
+-- Assumes nothing.
+use Prim.Native.Nat.{ℕ}
+use mathlib.Core.Path.{_≡_, refl}
+use mathlib.Core.Bool.{false}
+use mathlib.Core.Logic.{_⊎_}
+use mathlib.Core.List.{List, [], _∷_}
+use lib.Dec.{lit<, lit≤, eqb}
+use borrow.Author.Tests.{eqb-false}
+use Rattle.fingerprint.specs.Mix as mix
+use Rattle.model.specs.Limits.{mostSafeIterators}
+use Rattle.model.specs.Iterators.{fingerprintOf}
+use Rattle.model.specs.Cases.{bucketZero, moving}
+use Rattle.model.specs.Sequences.{World, world, ReadCall, Call, perform, run}
+use Rattle.refinement.specs.Demand1.{Demand1}
+use Rattle.refinement.specs.Demand3.{Demand3}
+use Rattle.wrong_stores.specs.Iterators as wrong
+use Rattle.wrong_stores.specs.Iterators.{printsZero, neverChanged, alwaysChanged, countsNone, keepsCounted, beginsBeyond, endsNone, startsAsBefore, startsWithOne, stepsPaused, damagedFirst, pausedAtRest, addsPaused, deletesPaused, refusesPaused}
+use Rattle.wrong_stores.proofs.Start.{computing, started, find, add, delete, beginSafe, endSafe, at, differ, neither, no-look}
+
+-- what a store of specs/Iterators computes with
+unfoldable pub counting : Unit {0}
+unfolding computing wrong.saying wrong.counting wrong.startsCounting wrong.unpaused
+counting = tt
+
+-- .. and a fingerprint
+unfoldable printing : Unit {0}
+unfolding counting mix.cut mix.plus mix.inverse mix.left mix.right mix.mixed mix.folded mix.fingerprint
+printing = tt
+
+-- Demand 3, `answers`, `values`: a begin answers the fingerprint.
+pub printsZero-excluded : Demand3 printsZero → ⊥
+unfolding printing printsZero
+printsZero-excluded d =
+    differ 0 (0 ∷ []) _ refl (at d 1 refl (Call.read ReadCall.beginIterator ∷ []) .answers .0 .values (no-look refl))
+
+-- `matches`, `iterators`: one more with each begin, one fewer with each end, none after a start
+
+pub countsNone-excluded : Demand3 countsNone → ⊥
+unfolding counting countsNone
+countsNone-excluded d = eqb-false 0 1 refl (at d 1 refl (beginSafe ∷ []) .matches .iterators)
+
+pub keepsCounted-excluded : Demand3 keepsCounted → ⊥
+unfolding counting keepsCounted
+keepsCounted-excluded d = eqb-false 1 0 refl (at d 1 refl (beginSafe ∷ endSafe ∷ []) .matches .iterators)
+
+pub startsAsBefore-excluded : Demand3 startsAsBefore → ⊥
+unfolding counting startsAsBefore
+startsAsBefore-excluded d = eqb-false 1 0 refl (at d 1 refl (beginSafe ∷ Call.init 3 1 ∷ []) .matches .iterators)
+
+pub startsWithOne-excluded : Demand3 startsWithOne → ⊥
+unfolding counting startsWithOne
+startsWithOne-excluded d = eqb-false 1 0 refl (at d 1 refl [] .matches .iterators)
+
+-- `answers`, `number`. Key 0 is the only one, and a rehash from size 2 to 4 is begun and held up: a step after an add, or a
+-- delete, is so too, since neither has ended the rehash; ..
+
+abbrev heldUp : List Call → List Call
+heldUp calls = add 0 10 ∷ Call.resize 4 ∷ beginSafe ∷ calls
+
+pub addsPaused-excluded : Demand3 addsPaused → ⊥
+unfolding counting addsPaused
+addsPaused-excluded d =
+    eqb-false 8 18 refl (at d 2 refl (heldUp (add 1 11 ∷ Call.rehashStep ∷ [])) .answers .1 .1 .1 .1 .0 .number)
+
+pub deletesPaused-excluded : Demand3 deletesPaused → ⊥
+unfolding counting deletesPaused
+deletesPaused-excluded d =
+    eqb-false 8 18 refl (at d 2 refl (heldUp (delete 0 ∷ Call.rehashStep ∷ [])) .answers .1 .1 .1 .1 .0 .number)
+
+-- .. and a resize is held up by nothing
+pub refusesPaused-excluded : Demand3 refusesPaused → ⊥
+unfolding counting refusesPaused
+refusesPaused-excluded d = eqb-false 18 0 refl (at d 1 refl (beginSafe ∷ Call.resize 2 ∷ []) .answers .1 .0 .number)
+
+-- Demand 1, `numbers`. The row after that of 1 is the end's 15, ..
+
+abbrev fresh : World
+fresh = started perform 1
+
+pub neverChanged-excluded : Demand1 neverChanged → ⊥
+unfolding printing neverChanged
+neverChanged-excluded d =
+    neither (λ h. eqb-false 0 1 refl (h .1))
+    (λ h. neither (λ i. eqb-false 0 15 refl (i .1)) (λ i. i .0 (eqb-false 0 _ refl)) (h .1))
+    (d .numbers fresh (Call.read (ReadCall.endIterator 0)))
+
+pub alwaysChanged-excluded : Demand1 alwaysChanged → ⊥
+unfolding printing alwaysChanged
+alwaysChanged-excluded d =
+    neither (λ h. eqb-false 15 1 refl (h .1)) (λ h. neither (λ i. i .0 refl) (λ i. eqb-false 15 0 refl (i .1)) (h .1))
+    (d .numbers fresh (Call.read (ReadCall.endIterator (fingerprintOf (fresh .state)))))
+
+-- .. or a safe iterator's 16 or 17, ..
+
+-- that world with so many safe iterators
+counted : World → ℕ → World
+counted w iterators = world (wrong.counting iterators (w .state)) (w .first) (w .second) (w .entries)
+
+pub endsNone-excluded : Demand1 endsNone → ⊥
+unfolding counting endsNone
+endsNone-excluded d =
+    neither (λ h. eqb-false 0 1 refl (h .1)) (λ h. neither (λ i. eqb-false 0 16 refl (i .1)) (λ i. i .0 refl) (h .1))
+    (d .numbers fresh endSafe)
+
+pub beginsBeyond-excluded : Demand1 beginsBeyond → ⊥
+unfolding counting beginsBeyond counted
+beginsBeyond-excluded d =
+    neither (λ h. eqb-false 0 1 refl (h .1)) (λ h. neither (λ i. eqb-false 0 17 refl (i .1)) (λ i. i .0 (lit≤ tt)) (h .1))
+    (d .numbers (counted fresh mostSafeIterators) beginSafe)
+
+-- .. and that of 18 is behind that of 8, and before that of 2.
+
+must-be-paused : {Bad Resting HeldUp Rest : Type 0} (n : ℕ) → eqb n 1 ≡ false → eqb n 8 ≡ false → eqb n 18 ≡ false → HeldUp
+    → (Bad × (n ≡ 1))
+    ⊎ ((¬ Bad)
+    × ((Resting × (n ≡ 8)) ⊎ ((¬ Resting) × ((HeldUp × (n ≡ 18)) ⊎ ((¬ HeldUp) × Rest)))))
+    → ⊥
+must-be-paused n f g k up =
+    neither (λ h. eqb-false n 1 f (h .1))
+    (λ h.
+    neither (λ i. eqb-false n 8 g (i .1)) (λ i. neither (λ j. eqb-false n 18 k (j .1)) (λ j. j .0 up) (i .1)) (h .1))
+
+pub stepsPaused-excluded : Demand1 stepsPaused → ⊥
+unfolding counting stepsPaused
+stepsPaused-excluded d =
+    must-be-paused 0 refl refl refl (lit< tt)
+    (d .numbers (run perform (started perform 2) (heldUp [])) Call.rehashStep)
+
+pub damagedFirst-excluded : Demand1 damagedFirst → ⊥
+unfolding counting damagedFirst counted moving bucketZero
+damagedFirst-excluded d =
+    must-be-paused 2 refl refl refl (lit< tt) (d .numbers (counted (moving 2 5) 1) Call.rehashStep)
+
+pub pausedAtRest-excluded : Demand1 pausedAtRest → ⊥
+unfolding counting pausedAtRest counted
+pausedAtRest-excluded d =
+    neither (λ h. eqb-false 18 1 refl (h .1)) (λ h. neither (λ i. eqb-false 18 8 refl (i .1)) (λ i. i .0 refl) (h .1))
+    (d .numbers (counted fresh 1) Call.rehashStep)

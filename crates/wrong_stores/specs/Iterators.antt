@@ -1,0 +1,100 @@
+-- Wrong stores by the begin or the end of an iterator, and by the safe iterators that hold up a rehash.
+use Prim.Native.Nat.{ℕ, suc}
+use mathlib.Core.Bool.{_&&_, cond}
+use mathlib.Core.List.{[], _∷_}
+use lib.Dec.{eqb}
+use Rattle.model.specs.declared.State.{State}
+use Rattle.model.specs.Answers.{reply}
+use Rattle.model.specs.Calls.{noted, paused}
+use Rattle.model.specs.Sequences.{World, world, KeyCall, Call, Outcome, kept, perform}
+use Rattle.wrong_stores.specs.OneCall.{Change, butInit, butAdd, butDelete, butResize, butStep, butBegin, butEnd, butBeginSafe, butEndSafe, ifDone, answering, handingBack}
+
+-- An iterator.
+
+-- another number, with no values, and nothing changed
+unfoldable pub saying : ℕ → World → Outcome
+saying number w = kept w (reply number [] (w .state)) []
+
+-- begins with a made-up fingerprint
+unfoldable pub printsZero : World → Call → Outcome
+printsZero = butBegin (λ w o. ifDone (answering (0 ∷ []) o) o)
+
+-- says of no store that it changed, or of every one
+unfoldable pub neverChanged : World → Call → Outcome
+neverChanged = butEnd (λ fingerprint w o. cond (eqb (o .reply .number) 15) (saying 0 w) o)
+
+unfoldable pub alwaysChanged : World → Call → Outcome
+alwaysChanged = butEnd (λ fingerprint w o. ifDone (saying 15 w) o)
+
+-- A safe iterator.
+
+-- the state with another number of them
+unfoldable pub counting : ℕ → State → State
+counting iterators s = noted s (s .«resize_allowed») iterators
+
+-- its begin, or its end, changes nothing
+unfoldable pub countsNone : World → Call → Outcome
+countsNone = butBeginSafe (λ w o. ifDone (handingBack (w .state) o) o)
+
+unfoldable pub keepsCounted : World → Call → Outcome
+keepsCounted = butEndSafe (λ w o. ifDone (handingBack (w .state) o) o)
+
+-- begins one more than there can be
+unfoldable pub beginsBeyond : World → Call → Outcome
+beginsBeyond =
+    butBeginSafe
+    (λ w o.
+    let s = w .state in
+    cond (eqb (o .reply .number) 17) (kept w (reply 0 [] (counting (suc (s .«safe_iterators»)) s)) []) o)
+
+-- ends one where none has begun
+unfoldable pub endsNone : World → Call → Outcome
+endsNone = butEndSafe (λ w o. cond (eqb (o .reply .number) 16) (saying 0 w) o)
+
+-- a start with as many as there were, or with one
+unfoldable pub startsCounting : (World → ℕ) → World → Call → Outcome
+startsCounting iterators =
+    butInit (λ capacity size w o. ifDone (handingBack (counting (iterators w) (o .reply .state)) o) o)
+
+unfoldable pub startsAsBefore : World → Call → Outcome
+startsAsBefore = startsCounting (λ w. w .state .«safe_iterators»)
+
+unfoldable pub startsWithOne : World → Call → Outcome
+startsWithOne = startsCounting (λ w. 1)
+
+-- What safe iterators hold up.
+
+-- a call as ours does it with none of them, but that there are as many after it
+unfoldable pub unpaused : Call → Change
+unpaused c w o =
+    let s = w .state in
+    let p = perform (world (counting 0 s) (w .first) (w .second) (w .entries)) c in
+    cond (eqb (o .reply .number) 1) o (handingBack (counting (s .«safe_iterators») (p .reply .state)) p)
+
+-- a step moves, ..
+unfoldable pub stepsPaused : World → Call → Outcome
+stepsPaused = butStep (unpaused Call.rehashStep)
+
+-- .. or is refused as damaged first; ..
+unfoldable pub damagedFirst : World → Call → Outcome
+damagedFirst =
+    butStep
+    (λ w o. let p = unpaused Call.rehashStep w o in cond (eqb (p .reply .number) 2) p o)
+
+-- .. it is held up with nothing to move; ..
+unfoldable pub pausedAtRest : World → Call → Outcome
+pausedAtRest =
+    butStep
+    (λ w o.
+    cond (paused (w .state) && eqb (o .reply .number) 8) (kept w (reply 18 (0 ∷ 0 ∷ []) (w .state)) []) o)
+
+-- .. an add, or a delete, takes its step; ..
+unfoldable pub addsPaused : World → Call → Outcome
+addsPaused = butAdd (λ key value. unpaused (Call.on key (KeyCall.add value)))
+
+unfoldable pub deletesPaused : World → Call → Outcome
+deletesPaused = butDelete (λ key. unpaused (Call.on key KeyCall.delete))
+
+-- .. and a resize is refused
+unfoldable pub refusesPaused : World → Call → Outcome
+refusesPaused = butResize (λ size w o. cond (paused (w .state)) (ifDone (saying 18 w) o) o)

@@ -27,10 +27,10 @@ use Rattle.memory.specs.Length.{bucketChain}
 use Rattle.memory.specs.Lent.{soundLent}
 use Rattle.memory.proofs.Tested.{lent-first, lent-second}
 use Rattle.memory.proofs.Orientation.{read-first, read-second, oriented-map, reading-refused, reading-sound}
-use Rattle.scan_group.specs.Tables.{TableIn}
+use Rattle.scan_group.specs.Tables.{TableIn, One}
 use Rattle.scan_group.specs.Chains.{cursorChain, chains, groupChains}
 use Rattle.scan_group.proofs.Chains.{joined-end, chain-short}
-use Rattle.dict_scan.specs.Tables.{Holding, One, Two}
+use Rattle.dict_scan.specs.Tables.{Holding, Two}
 use Rattle.dict_scan.specs.Groups.{scannedTwo, scannedBoth}
 
 -- The places of a group, over numbers.

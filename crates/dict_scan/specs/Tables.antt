@@ -5,7 +5,6 @@ use mathlib.Core.Bool.{Bool, true}
 use mathlib.Core.List.{List}
 use lib.ListN.{length}
 use Rattle.model.specs.declared.State.{State}
-use Rattle.model.specs.Limits.{legalSize}
 use Rattle.memory.specs.Lent.{soundLent}
 use Rattle.scan_group.specs.Tables.{TableIn, Larger}
 
@@ -14,12 +13,6 @@ pub record Holding (first second entries : ℕ) (s : State) (rehashing : Bool) :
   pub sound : soundLent first second entries s ≡ true
   pub some-keys : s .«old_used» + s .«new_used» ≡ 0 → ⊥
   pub known : s .rehashing ≡ rehashing
-
--- one live table
-pub record One (entries : List ℕ) (capacity used size : ℕ) : Type 0 where
-  pub legal : legalSize size ≡ true
-  pub entries-fit : capacity * 3 ≤ length entries
-  pub used-fits : used ≤ capacity
 
 -- two live tables, the smaller one and the larger one
 pub record Both (larger entries : List ℕ) (capacity small-used large-used small large : ℕ) : Type 0 where

@@ -2,7 +2,6 @@
 // lengths before a buffer is chosen, and what has more than one caller below takes numbers and no state.
 use cursor::next_cursor;
 use memory::chain::ChainLength;
-use memory::chain::chain_length;
 use memory::state::bucket_index;
 use memory::state::is_sound_lent;
 use model::Error;
@@ -10,7 +9,7 @@ use model::ScanAnswer;
 use model::State;
 use scan_group::bucket::bucket_head;
 use scan_group::count::count_group;
-use scan_group::write::write_chain;
+use scan_group::hand_out::hand_out;
 use scan_group::write::write_group;
 ghost use mathlib.Core.Path.{_≡_};
 ghost use mathlib.Core.Bool.{true, false};
@@ -18,12 +17,12 @@ ghost use lib.ListN.{length};
 ghost use Rattle.cursor.specs.Group.{oneTable};
 ghost use Rattle.model.specs.Walk as walk;
 ghost use Rattle.model.specs.Walk.AfterScan.{after};
+ghost use Rattle.scan_group.specs.Tables.{One};
 ghost use Rattle.scan_group.specs.Chains.{cursorChain};
-ghost use Rattle.dict_scan.specs.Tables.{Holding, One, Both, Two};
+ghost use Rattle.dict_scan.specs.Tables.{Holding, Both, Two};
 ghost use Rattle.dict_scan.specs.Groups.{scannedTwo, scannedBoth};
 
-// One live table: the chain of the cursor's bucket, whose head the caller has read. Nothing is written before it was tested
-// and the room is known.
+// One live table: the chain of the cursor's bucket, whose head the caller has read.
 fn scan_one(
     head: u32,
     entries: &[u32],
@@ -40,18 +39,7 @@ fn scan_one(
 {
     let next = next_cursor(size, cursor);
     let b = bucket_index(cursor, size);
-    let length = chain_length(entries, capacity, used, head, size, b);
-    match length {
-        ChainLength::Unsound => ScanAnswer::Refused(Error::Damaged),
-        ChainLength::Sound(count) => {
-            if count as usize * 2 <= list.len() {
-                write_chain(head, entries, list, 0);
-                ScanAnswer::Scanned(next, count)
-            } else {
-                ScanAnswer::Short(count)
-            }
-        }
-    }
+    hand_out(head, entries, list, capacity, used, size, b, next)
 }
 
 // Two live tables: the chain of the smaller one's bucket, then those of the larger one's buckets. A group with more entries

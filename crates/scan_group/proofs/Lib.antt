@@ -1,6 +1,7 @@
--- The larger table's buckets, one a turn, and the chains read one after the other, both for the walk call too; and what the
--- two passes keep.
+-- The larger table's buckets, one a turn, the chains read one after the other, and what is answered and written, all for the
+-- calls too; and what the two passes keep.
 pub mod Buckets
 pub mod Chains
+pub mod HandingOut
 mod Counting
 mod Writing

@@ -21,3 +21,9 @@ pub record Sizes (larger : List ℕ) (small large : ℕ) : Type 0 where
 pub record Larger (larger entries : List ℕ) (capacity small large : ℕ) : Type 0 where
   pub sizes : Sizes larger small large
   pub entries-fit : capacity * 3 ≤ length entries
+
+-- a table's chains
+pub record One (entries : List ℕ) (capacity used size : ℕ) : Type 0 where
+  pub legal : legalSize size ≡ true
+  pub entries-fit : capacity * 3 ≤ length entries
+  pub used-fits : used ≤ capacity

@@ -1,6 +1,8 @@
 // The two passes of a walk call over the chains of its group: one counts their entries and tests them, the other writes
-// their pairs. They are public only for dict_scan, which calls the second one only after the first.
+// their pairs. And both passes over one chain, for a group of one bucket and for the iterators. They are public only for
+// these calls, which write only what they have counted.
 
 pub mod bucket;
 pub mod count;
+pub mod hand_out;
 pub mod write;

@@ -1,7 +1,7 @@
--- `dict_scan::scan::scan_one` meets its contract: each way out is a case of the definition.
+-- `dict_scan::scan::scan_one` meets its contract: the bucket and the next cursor are those of the cursor.
 -- Assumes nothing.
 use borrow.Author.Needs.{needs}
-use Rattle.dict_scan.proofs.Scanning.{one-counted, scanned-damaged, scanned-short, one-writable, one-written}
+use Rattle.dict_scan.proofs.Scanning.{one-handed-out}
 use Rattle.dict_scan.proofs.scan.scan_one.Statement.{statement}
 use Rattle.dict_scan.proofs.scan.scan_one.Tie as tie
 
@@ -13,11 +13,4 @@ scan-one-spec =
     (λ c κs. search needs)
     (λ c κs. search needs)
     (λ c. search needs)
-    (λ c. search needs)
-    (λ c. search needs)
-    (λ c. search needs)
-    (λ c κs. search one-writable)
-    (λ c. search (scanned-damaged, one-counted))
-    (λ c. search needs)
-    (λ c. search (one-written, one-counted))
-    (λ c. search (scanned-short, one-counted)))
+    (λ c. search one-handed-out))

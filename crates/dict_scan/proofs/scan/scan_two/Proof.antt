@@ -2,7 +2,8 @@
 -- Assumes nothing.
 use borrow.Author.Needs.{needs}
 use Rattle.dict_scan.specs.Groups.{scannedTwo}
-use Rattle.dict_scan.proofs.Scanning.{scanned-damaged, scanned-short, two-writable, two-written}
+use Rattle.scan_group.proofs.HandingOut.{scanned-damaged, scanned-short}
+use Rattle.dict_scan.proofs.Scanning.{two-writable, two-written}
 use Rattle.dict_scan.proofs.scan.scan_two.Statement.{statement}
 use Rattle.dict_scan.proofs.scan.scan_two.Tie as tie
 

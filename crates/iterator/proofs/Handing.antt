@@ -16,9 +16,9 @@ use Rattle.model.specs.declared.ScanAnswer.{ScanAnswer}
 use Rattle.model.specs.Memory.{sizeOf, usedOf, bucketsOf, Place, headAt, budgetAt, belongs, chainAt, chain, inBucket}
 use Rattle.model.specs.Walk.{Tables, tablesBy, tablesOf, AfterScan, scanned}
 use Rattle.model.specs.Iterators.{bucketAt, endPlace, firstFrom, firstPlace, filled, handed}
-use Rattle.model.proofs.Soundness.{Sound}
+use Rattle.model.proofs.FirstPlace.{first-agree}
 use Rattle.iterator.specs.Tables.{filledIn, firstFilled, below, handedLast, LastTable}
-use Rattle.iterator.proofs.Searching.{orElse, first-shifted, first-same, first-tables}
+use Rattle.iterator.proofs.Searching.{orElse, first-shifted, first-tables}
 
 -- what the search's number says
 found : (size b : ℕ) (o : Option ℕ) → b < size → below size b ≡ o → o ≡ some b
@@ -64,7 +64,7 @@ module _ (s : State) (current other entries list : List ℕ) (t : Table) (base :
       → handedLast entries list (s .capacity) (usedOf s t) (sizeOf s t) (bucketsOf current other t) base
       (firstFilled (bucketsOf current other t) from (sizeOf s t))
       ≡ handed s current other entries list (firstFrom (filled s current other) (base + from) (sizeOf s t - from))
-  unfolding firstFilled
+  unfolding firstFilled firstPlace endPlace
   last-table from =
       handed-last _
       ∙ ap (handed s current other entries list) (sym (first-shifted _ _ base from _ (λ b l h. filled-last b)))
@@ -110,8 +110,9 @@ module _ (s : State) (current other entries list : List ℕ) (place : ℕ) (a : 
 
     -- the places of the old table, then those of the new one
     in-old : firstFrom (filled s current other) place (s .«old_size» - place) ≡ firstFilled current place (s .«old_size»)
-    unfolding firstFilled filled filledIn headAt bucketsOf
-    in-old = first-same _ _ place _ (λ b l h. rw (old-at b (omega arith)))
+    unfolding firstFilled firstPlace endPlace filled filledIn headAt bucketsOf
+    in-old =
+        first-agree (filled s current other) (filledIn current) (Tables.one (s .«old_size»)) place (λ b from l. rw (old-at b l))
 
     in-both : firstPlace (filled s current other) (tablesOf s) place
         ≡ orElse (firstFilled current place (s .«old_size»))

@@ -11,7 +11,7 @@ use native.Mathlib.Numerals.{add-one}
 use native.Mathlib.Omega.{arith}
 use lib.ListN.{getD}
 use borrow.Author.Tests.{eq-eqb, ne-eqb, lt-ltb, le-ltb}
-use Rattle.model.specs.Iterators.{firstFrom}
+use Rattle.model.specs.Iterators.{endPlace, firstFrom, firstPlace}
 use Rattle.iterator.specs.Tables.{filledIn, firstFilled, below}
 
 -- the second where the first is none
@@ -55,18 +55,6 @@ first-shifted test here base n (suc left) same =
     pick true rest = refl
     pick false rest = rest
 
-unmoved : (o : Option ℕ) → Option·map (λ b. 0 + b) o ≡ o
-unmoved none = refl
-unmoved (some b) = ap some (omega arith)
-
--- .. and the same numbers
-pub first-same : (test here : ℕ → Bool) (n left : ℕ) → ((b : ℕ) → n ≤ b → b < n + left → test b ≡ here b)
-    → firstFrom test n left ≡ firstFrom here n left
-first-same test here n left same =
-    ap (λ m. firstFrom test m left) (omega arith)
-    ∙ first-shifted test here 0 n left (λ b l h. ap test (omega arith) ∙ same b l h)
-    ∙ unmoved (firstFrom here n left)
-
 -- the places of one table, and then those of another
 pub first-tables : (test : ℕ → Bool) (place old new : ℕ)
     → firstFrom test place (old + new - place)
@@ -87,7 +75,7 @@ module _ (buckets : List ℕ) (from size : ℕ) where
 
   module _ (b : ℕ) (h : Searching b) where
     here : (left : ℕ) → size - b ≡ left → firstFrom (filledIn buckets) b left ≡ firstFilled buckets from size
-    unfolding firstFilled
+    unfolding firstFilled firstPlace endPlace
     here left e = ap (firstFrom (filledIn buckets) b) (sym e) ∙ h
 
     pub searching-end : size ≤ b → below size b ≡ firstFilled buckets from size
@@ -104,6 +92,6 @@ module _ (buckets : List ℕ) (from size : ℕ) where
           rw (lt-ltb b size l) (rw (ne-eqb (getD buckets b 0) 0 f) at (here (suc (size - (b + 1))) (sym next)))
 
       pub searching-next : getD buckets b 0 ≡ 0 → Searching (b + 1)
-      unfolding firstFilled firstFrom filledIn
+      unfolding firstFilled firstPlace endPlace firstFrom filledIn
       searching-next e =
           rw (add-one b) (rw (eq-eqb (getD buckets b 0) 0 e, add-one b) at (here (suc (size - (b + 1))) (sym next)))

@@ -1,5 +1,5 @@
 -- What the functions below the calls ask of a table, look for in it and hand out of it, over numbers.
-use Prim.Native.Nat.{ℕ, _+_, _-_, _≤_}
+use Prim.Native.Nat.{ℕ, _+_, _≤_}
 use mathlib.Core.Bool.{Bool, not, cond}
 use mathlib.Core.List.{List}
 use mathlib.Core.Option.{Option, none, some}
@@ -8,8 +8,8 @@ use lib.Dec.{ltb, eqb}
 use mir.Syntax.{w32}
 use mir.Val.{Fits}
 use Rattle.model.specs.declared.ScanAnswer.{ScanAnswer}
-use Rattle.model.specs.Walk.{AfterScan, scanned}
-use Rattle.model.specs.Iterators.{firstFrom}
+use Rattle.model.specs.Walk.{Tables, AfterScan, scanned}
+use Rattle.model.specs.Iterators.{firstPlace}
 use Rattle.memory.specs.Length.{bucketChain}
 use Rattle.scan_group.specs.Tables.{One}
 
@@ -19,7 +19,7 @@ filledIn buckets b = not (eqb (getD buckets b 0) 0)
 
 -- the first filled bucket of a table of that size, from one on
 unfoldable pub firstFilled : List ℕ → ℕ → ℕ → Option ℕ
-firstFilled buckets from size = firstFrom (filledIn buckets) from (size - from)
+firstFilled buckets from size = firstPlace (filledIn buckets) (Tables.one size) from
 
 -- a bucket of a table of that size, and none where the number is none of its buckets
 unfoldable pub below : ℕ → ℕ → Option ℕ

@@ -3,4 +3,5 @@
 // next bucket, to an iterator of either kind; each kind begins and ends in its own way.
 
 pub mod iterate;
+pub mod plain;
 pub mod safe;

@@ -2,13 +2,13 @@
 -- Assumes nothing.
 use borrow.Author.Needs.{needs}
 use Rattle.model.specs.Limits.{mostSafeIterators}
-use Rattle.iterator.proofs.Answering.{begin-refused, begun, too-many}
+use Rattle.iterator.proofs.Answering.{begin-safe-refused, one-begun, too-many}
 use Rattle.iterator.proofs.safe.begin_safe.Statement.{statement}
 use Rattle.iterator.proofs.safe.begin_safe.Tie as tie
 
 returns : tie.Need-returns
 unfolding mostSafeIterators
-returns c = search begun
+returns c = search one-begun
 
 returns-2 : tie.Need-returns-2
 unfolding mostSafeIterators
@@ -23,4 +23,4 @@ begin-safe-spec =
     (λ c κs. search needs)
     returns
     returns-2
-    (λ c. search begin-refused))
+    (λ c. search begin-safe-refused))

@@ -1,7 +1,7 @@
 -- `iterator::safe::end_safe` meets its contract: each way out is a case of the definition.
 -- Assumes nothing.
 use borrow.Author.Needs.{needs}
-use Rattle.iterator.proofs.Answering.{end-refused, ended, none-begun}
+use Rattle.iterator.proofs.Answering.{end-safe-refused, one-ended, none-begun}
 use Rattle.iterator.proofs.safe.end_safe.Statement.{statement}
 use Rattle.iterator.proofs.safe.end_safe.Tie as tie
 
@@ -12,6 +12,6 @@ end-safe-spec =
     (λ c κs. search needs)
     (λ c. search needs)
     (λ c κs. search needs)
-    (λ c. search ended)
+    (λ c. search one-ended)
     (λ c. search none-begun)
-    (λ c. search end-refused))
+    (λ c. search end-safe-refused))

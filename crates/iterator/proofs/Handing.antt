@@ -1,14 +1,13 @@
 -- What is handed out: of the last live table, from the search in it; and from the live tables to the call.
 -- Assumes nothing.
-use Prim.Native.Nat.{ℕ, suc, _+_, _-_, _≤_, _<_}
-use mathlib.Core.Path.{_≡_, refl, sym, ap, _∙_}
+use Prim.Native.Nat.{ℕ, _+_, _-_, _≤_, _<_}
+use mathlib.Core.Path.{_≡_, sym, ap, _∙_}
 use mathlib.Core.Bool.{Bool, true, false}
 use mathlib.Core.List.{List}
 use mathlib.Core.Option.{Option, none, some, Option·map}
 use native.Mathlib.Numerals.{add-one}
 use native.Mathlib.Omega.{arith}
-use lib.ListN.{length, getD}
-use lib.Dec.{ltb}
+use lib.ListN.{getD}
 use borrow.Author.Tests.{lt-ltb, le-ltb}
 use Rattle.model.specs.declared.State.{State}
 use Rattle.model.specs.declared.Table.{Table}
@@ -17,7 +16,7 @@ use Rattle.model.specs.Memory.{sizeOf, usedOf, bucketsOf, Place, headAt, budget
 use Rattle.model.specs.Walk.{Tables, tablesBy, tablesOf, AfterScan, scanned}
 use Rattle.model.specs.Iterators.{bucketAt, endPlace, firstFrom, firstPlace, filled, handed}
 use Rattle.model.proofs.FirstPlace.{first-agree}
-use Rattle.iterator.specs.Tables.{filledIn, firstFilled, below, handedLast, LastTable}
+use Rattle.iterator.specs.Tables.{filledIn, firstFilled, below, handedLast}
 use Rattle.iterator.proofs.Searching.{orElse, first-shifted, first-tables}
 
 -- what the search's number says
@@ -45,7 +44,7 @@ module _ (entries list : List ℕ) (capacity used size : ℕ) (buckets : List �
   unfolding handedLast
   last-end l = rw (not-found size b _ l e)
 
--- From the places on which a table begins, to the end of all.
+-- From the place where the last table begins, to the end.
 
 module _ (s : State) (current other entries list : List ℕ) (t : Table) (base : ℕ)
     (at : (b : ℕ) → bucketAt (tablesOf s) (base + b) ≡ Place.bucket t b) (end : endPlace (tablesOf s) ≡ base + sizeOf s t) where
@@ -67,7 +66,7 @@ module _ (s : State) (current other entries list : List ℕ) (t : Table) (base :
   unfolding firstFilled firstPlace endPlace
   last-table from =
       handed-last _
-      ∙ ap (handed s current other entries list) (sym (first-shifted _ _ base from _ (λ b l h. filled-last b)))
+      ∙ ap (handed s current other entries list) (sym (first-shifted _ _ base from _ filled-last))
 
 -- The call: with one live table it is the last, with two the new one is, once the old one has no filled bucket left.
 
@@ -77,18 +76,24 @@ module _ (s : State) (current other entries list : List ℕ) (place : ℕ) (a : 
     unfolding tablesOf tablesBy
     one-table = ap (λ (t : Bool). tablesBy t (s .«old_size») (s .«new_size»)) e
 
-    pub resting-handed :
-        a
+    only-at : (b : ℕ) → bucketAt (tablesOf s) (0 + b) ≡ Place.bucket Table.Old b
+    unfolding bucketAt
+    only-at b = rw one-table (ap (Place.bucket Table.Old) (omega arith))
+
+    only-end : endPlace (tablesOf s) ≡ s .«old_size»
+    unfolding endPlace
+    only-end = rw one-table
+
+    pub resting-handed : a
         ≡ handedLast entries list (s .capacity) (s .«old_used») (s .«old_size») current 0
         (firstFilled current place (s .«old_size»))
         → a ≡ handed s current other entries list (firstPlace (filled s current other) (tablesOf s) place)
-    unfolding firstPlace bucketAt endPlace sizeOf usedOf bucketsOf
+    unfolding firstPlace sizeOf usedOf bucketsOf
     resting-handed h =
-        let at : (b : ℕ) → bucketAt (tablesOf s) (0 + b) ≡ Place.bucket Table.Old b = λ b. rw one-table (ap (Place.bucket Table.Old) (omega arith)) in
-        let end : endPlace (tablesOf s) ≡ s .«old_size» = rw one-table in
         h
-        ∙ last-table s current other entries list Table.Old 0 at (omega arith) place
-        ∙ rw end (ap (λ n. handed s current other entries list (firstFrom (filled s current other) n (s .«old_size» - place))) (omega arith))
+        ∙ last-table s current other entries list Table.Old 0 only-at (omega (arith, only-end)) place
+        ∙ ap (handed s current other entries list)
+        (rw only-end (ap (λ n. firstFrom (filled s current other) n (s .«old_size» - place)) (omega arith)))
 
   module _ (e : s .rehashing ≡ true) where
     two-tables : tablesOf s ≡ Tables.two (s .«old_size») (s .«new_size»)
@@ -104,9 +109,9 @@ module _ (s : State) (current other entries list : List ℕ) (place : ℕ) (a : 
     new-at b =
         rw (two-tables, le-ltb (s .«old_size» + b) (s .«old_size») (omega arith)) (ap (Place.bucket Table.New) (omega arith))
 
-    end-at : endPlace (tablesOf s) ≡ s .«old_size» + s .«new_size»
+    both-end : endPlace (tablesOf s) ≡ s .«old_size» + s .«new_size»
     unfolding endPlace
-    end-at = rw two-tables
+    both-end = rw two-tables
 
     -- the places of the old table, then those of the new one
     in-old : firstFrom (filled s current other) place (s .«old_size» - place) ≡ firstFilled current place (s .«old_size»)
@@ -118,7 +123,7 @@ module _ (s : State) (current other entries list : List ℕ) (place : ℕ) (a : 
         ≡ orElse (firstFilled current place (s .«old_size»))
         (firstFrom (filled s current other) (s .«old_size» + (place - s .«old_size»)) (s .«new_size» - (place - s .«old_size»)))
     unfolding firstPlace
-    in-both = rw (end-at, ← in-old) (first-tables (filled s current other) place (s .«old_size») (s .«new_size»))
+    in-both = rw (both-end, ← in-old) (first-tables (filled s current other) place (s .«old_size») (s .«new_size»))
 
     module _ (b : ℕ) (search : below (s .«old_size») b ≡ firstFilled current place (s .«old_size»)) where
       pub old-handed : b < s .«old_size»
@@ -138,4 +143,4 @@ module _ (s : State) (current other entries list : List ℕ) (place : ℕ) (a : 
       unfolding orElse sizeOf usedOf bucketsOf
       new-handed l from f h =
           rw (in-both, not-found (s .«old_size») b _ l search, ← f)
-          (h ∙ last-table s current other entries list Table.New (s .«old_size») new-at end-at from)
+          (h ∙ last-table s current other entries list Table.New (s .«old_size») new-at both-end from)

@@ -3,7 +3,7 @@
 -- Assumes nothing.
 use Prim.Native.Nat.{ℕ, zero, suc, _+_, _-_, _≤_, _<_}
 use mathlib.Core.Path.{_≡_, refl, sym, ap, _∙_}
-use mathlib.Core.Bool.{Bool, true, false, not, cond}
+use mathlib.Core.Bool.{Bool, true, false, cond}
 use mathlib.Core.List.{List}
 use mathlib.Core.Option.{Option, none, some, Option·map}
 use native.Mathlib.Nat.{zero-add, add-zero, suc-add}
@@ -20,7 +20,7 @@ orElse none o = o
 orElse (some n) o = some n
 
 -- one search, and another from where it ends
-pub first-parts : (test : ℕ → Bool) (n left more : ℕ)
+first-parts : (test : ℕ → Bool) (n left more : ℕ)
     → firstFrom test n (left + more) ≡ orElse (firstFrom test n left) (firstFrom test (n + left) more)
 unfolding firstFrom orElse
 first-parts test n zero more = rw (zero-add, add-zero)
@@ -38,16 +38,13 @@ first-parts test n (suc left) more =
     pick false rest = rest
 
 -- the same numbers further on, by a test that says the same of them
-pub first-shifted : (test here : ℕ → Bool) (base n left : ℕ)
-    → ((b : ℕ) → n ≤ b → b < n + left → test (base + b) ≡ here b)
+pub first-shifted : (test here : ℕ → Bool) (base n left : ℕ) → ((b : ℕ) → test (base + b) ≡ here b)
     → firstFrom test (base + n) left ≡ Option·map (λ b. base + b) (firstFrom here n left)
 unfolding firstFrom
 first-shifted test here base n zero same = refl
 first-shifted test here base n (suc left) same =
-    rw (same n (omega arith) (omega arith))
-    (pick (here n)
-    (ap (λ m. firstFrom test m left) (omega arith)
-    ∙ first-shifted test here base (suc n) left (λ b l h. same b (omega arith) (omega arith))))
+    rw (same n)
+    (pick (here n) (ap (λ m. firstFrom test m left) (omega arith) ∙ first-shifted test here base (suc n) left same))
   where
     pick : (t : Bool) → firstFrom test (suc (base + n)) left ≡ Option·map (λ b. base + b) (firstFrom here (suc n) left)
         → cond t (some (base + n)) (firstFrom test (suc (base + n)) left)

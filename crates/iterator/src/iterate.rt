@@ -150,6 +150,7 @@ fn iterate_in(
     }
 }
 
+// A place is any number: from one that is no bucket's there is nothing left.
 pub fn iterate(
     first: &[u32],
     second: &[u32],

@@ -21,7 +21,7 @@ ones = 2 ^ 64 - 1
 
 -- No numbers at all; a zero, all of whose bits are one once it is turned over, so that a right shift with a sign would differ.
 -- Then six: zeros; a one at each place; the highest bit alone, and all bits; the numbers of a store of size 4 with no key, with
--- three and with four, of one during a rehash, and of one in which the second buffer is the current one. The last two are those
+-- two, three and four, of one during a rehash, and of one in which the second buffer is the current one. The last two are those
 -- of two stores that differ and have one fingerprint.
 unfoldable pub cases : List Row
 cases =
@@ -38,6 +38,7 @@ cases =
     ∷ Row.prints (0 ∷ 0 ∷ 0 ∷ 0 ∷ 0 ∷ highest ∷ []) 5297481189796492320
     ∷ Row.prints (ones ∷ ones ∷ ones ∷ ones ∷ ones ∷ ones ∷ []) 2911645009034555964
     ∷ Row.prints (0 ∷ 4 ∷ 0 ∷ 1 ∷ 0 ∷ 0 ∷ []) 13078267905649422074
+    ∷ Row.prints (0 ∷ 4 ∷ 2 ∷ 1 ∷ 0 ∷ 0 ∷ []) 8427530295853426936
     ∷ Row.prints (0 ∷ 4 ∷ 3 ∷ 1 ∷ 0 ∷ 0 ∷ []) 6592724455718159528
     ∷ Row.prints (0 ∷ 4 ∷ 4 ∷ 1 ∷ 0 ∷ 0 ∷ []) 10790537964210101343
     ∷ Row.prints (0 ∷ 4 ∷ 3 ∷ 1 ∷ 8 ∷ 2 ∷ []) 14474427534345541117

@@ -5,7 +5,7 @@
 use Prim.Native.Nat.{ℕ, _*_, _^_}
 use mathlib.Core.Path.{_≡_, refl, sym, ap, ap₂, subst, _∙_}
 use mathlib.Core.Bool.{Bool, true, false, _&&_}
-use mathlib.Core.List.{List, [], _∷_}
+use mathlib.Core.List.{List, [], _∷_, map}
 use mathlib.Core.Option.{Option, none, some}
 use native.Mathlib.Omega.{arith}
 use lib.Dec.{eqb, leb, lit≤}
@@ -16,8 +16,8 @@ use Rattle.model.specs.Limits.{largestExponent}
 use Rattle.model.specs.Answers.{Reply}
 use Rattle.model.specs.Memory.{chainAt}
 use Rattle.model.specs.Calls.{suggested}
-use Rattle.model.specs.Sequences.{World, KeyCall, Call, perform}
-use Rattle.model.specs.Cases.{Row, Gives, Walks, EachAnswers, StepsTo, AddsTo, Holds, AllHold, fresh, bucketZero, resting, moving, inBoth, sparse, rehashing, runningInto, linkedOn, counting, freeInBucket, steppers, after, adding, filled, readers, cases}
+use Rattle.model.specs.Sequences.{World, Call, Outcome, perform, carry, Event, event, events}
+use Rattle.model.specs.Cases.{Row, Gives, Walks, EachAnswers, StepsTo, EachLeaves, AddsTo, Holds, AllHold, fresh, bucketZero, resting, moving, inBoth, sparse, rehashing, runningInto, linkedOn, counting, freeInBucket, withSafe, add, delete, steppers, after, adding, filled, readers, seen, done, begun, ended, iterates, cases}
 use Rattle.model.proofs.Computing.{computing}
 use Rattle.model.proofs.Tests.{Tells, told, tells-true, tells-same, tells-and, tells-eq, tells-le}
 use Rattle.model.proofs.Suggested.{growing-capped}
@@ -77,6 +77,19 @@ tells-stepping r values next =
     tells-same (λ h. (h .0 .0, h .0 .1, h .1)) (λ h. ((h .0, h .1), h .2))
     (tells-and (tells-and (tells-eq (r .number) 0) (tells-list (r .values) values)) (tells-eq (r .state .«rehash_index») next))
 
+leaving : World → List Call → ℕ → Bool
+leaving w [] next = true
+leaving w (c ∷ cs) next =
+    eqb (perform w c .reply .number) 0 && eqb (perform w c .reply .state .«rehash_index») next && leaving w cs next
+
+tells-leaving : (w : World) (cs : List Call) (next : ℕ) → Tells (EachLeaves w cs next) (leaving w cs next)
+unfolding leaving EachLeaves
+tells-leaving w [] next = Tells.holds tt
+tells-leaving w (c ∷ cs) next =
+    tells-same (λ h. (h .0 .0, h .0 .1, h .1)) (λ h. ((h .0, h .1), h .2))
+    (tells-and (tells-and (tells-eq (perform w c .reply .number) 0) (tells-eq (perform w c .reply .state .«rehash_index») next))
+    (tells-leaving w cs next))
+
 adding-to : Reply State → ℕ → ℕ → Bool
 adding-to r old new = eqb (r .number) 0 && eqb (r .state .«old_size») old && eqb (r .state .«new_size») new
 
@@ -95,6 +108,33 @@ unfolding reading
 tells-reading none entries = Tells.fails (λ e. let z : _≡_ {A = ℕ} 0 1 = cc in omega arith)
 tells-reading (some ns) entries = tells-same (ap some) (λ e. cc) (tells-list ns entries)
 
+-- an outcome is what an event says of its call
+seen-as : Outcome → Event → Bool
+seen-as o e = eqb (o .reply .number) (e .number) && same (o .reply .values) (e .values) && same (o .lent) (e .lent)
+
+same-event : (c : Call) {n m : ℕ} {vs us ls ks : List ℕ} → n ≡ m → vs ≡ us → ls ≡ ks
+    → _≡_ {A = Event} (record { call = c; number = n; values = vs; lent = ls }) (record { call = c; number = m; values = us; lent = ks })
+same-event c en ev el = cc
+
+seen-event : (o : Outcome) (e : Event) → seen-as o e ≡ true → event (e .call) o ≡ e
+unfolding seen-as event
+seen-event o e h =
+    let each =
+    told (tells-and (tells-and (tells-eq (o .reply .number) (e .number)) (tells-list (o .reply .values) (e .values))) (tells-list (o .lent) (e .lent))) h in
+    same-event (e .call) (each .0 .0) (each .0 .1) (each .1)
+
+showing : World → List Event → Bool
+showing w [] = true
+showing w (e ∷ es) = seen-as (perform w (e .call)) e && showing (carry w (perform w (e .call))) es
+
+shown-events : (w : World) (es : List Event) → showing w es ≡ true → events perform w (map (λ (e : Event). e .call) es) ≡ es
+unfolding showing events
+shown-events w [] h = refl
+shown-events w (e ∷ es) h =
+    let o = perform w (e .call) in
+    let each = told (tells-and (tells-true (seen-as o e)) (tells-true (showing (carry w o) es))) h in
+    ap₂ _∷_ (seen-event o e (each .0)) (shown-events (carry w o) es (each .1))
+
 test : Row → Bool
 test (Row.at-one size cursor bucket next) = gives (oneTable size cursor) bucket [] next
 test (Row.at-two small large cursor bucket buckets next) = gives (twoTables small large cursor) bucket buckets next
@@ -105,8 +145,10 @@ test (Row.suggests-above growing keys size) =
     growing && leb (2 ^ largestExponent) (keys * 2) && eqb size (2 ^ largestExponent)
 test (Row.answers w cs number) = answering w cs number
 test (Row.steps w values next) = stepping (perform w Call.rehashStep .reply) values next
-test (Row.adds w key old new) = adding-to (perform w (Call.on key (KeyCall.add 30)) .reply) old new
+test (Row.leaves w cs next) = leaving w cs next
+test (Row.adds w key old new) = adding-to (perform w (add key) .reply) old new
 test (Row.reads w p entries) = reading (chainAt (w .state) (w .first) (w .second) (w .entries) p) entries
+test (Row.history w shown) = showing w shown
 
 -- one bucket: whatever the cursor, the walk ends
 one-bucket : (cursor : ℕ) → oneTable 1 cursor .answered ≡ 0
@@ -132,8 +174,10 @@ row-true (Row.suggests-above growing keys size) h =
     (growing-capped more (omega (arith, each .0 .1)) ∙ sym (each .1))
 row-true (Row.answers w cs number) h = told (tells-answering w cs number) h
 row-true (Row.steps w values next) h = told (tells-stepping (perform w Call.rehashStep .reply) values next) h
-row-true (Row.adds w key old new) h = told (tells-adding (perform w (Call.on key (KeyCall.add 30)) .reply) old new) h
+row-true (Row.leaves w cs next) h = told (tells-leaving w cs next) h
+row-true (Row.adds w key old new) h = told (tells-adding (perform w (add key) .reply) old new) h
 row-true (Row.reads w p entries) h = told (tells-reading (chainAt (w .state) (w .first) (w .second) (w .entries) p) entries) h
+row-true (Row.history w shown) h = shown-events w shown h
 
 testAll : List Row → Bool
 testAll [] = true
@@ -147,7 +191,7 @@ all-true (row ∷ rows) h =
     (row-true row (each .0), all-true rows (each .1))
 
 computed : testAll cases ≡ true
-unfolding computing testAll test gives walks answering stepping adding-to reading same cases fresh bucketZero resting moving inBoth sparse rehashing runningInto linkedOn counting freeInBucket steppers after adding filled readers
+unfolding computing testAll test gives walks answering stepping leaving adding-to reading seen-as showing same cases fresh bucketZero resting moving inBoth sparse rehashing runningInto linkedOn counting freeInBucket withSafe add delete steppers after adding filled readers seen done begun ended iterates
 computed = refl
 
 pub cases-hold : AllHold cases

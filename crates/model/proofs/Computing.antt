@@ -4,6 +4,7 @@ use Rattle.cursor.specs.Member as member
 use Rattle.cursor.specs.Reverse as reversal
 use Rattle.cursor.specs.Next as next
 use Rattle.cursor.specs.Group as groups
+use Rattle.fingerprint.specs.Mix as mix
 use Rattle.model.specs.Keys as keys
 use Rattle.model.specs.Limits as limits
 use Rattle.model.specs.Memory as memory
@@ -17,6 +18,11 @@ use Rattle.model.specs.Sequences as sequences
 unfoldable pub theCursor : Unit {0}
 unfolding member.any member.keep reversal.reverse reversal.rev next.setHigh next.addOne next.next groups.oneTable groups.betweenZero groups.sweep groups.twoTables
 theCursor = tt
+
+-- the fingerprint
+unfoldable pub theFingerprint : Unit {0}
+unfolding mix.cut mix.plus mix.inverse mix.left mix.right mix.mixed mix.folded mix.fingerprint
+theFingerprint = tt
 
 -- keys, limits, chains
 unfoldable pub theMemory : Unit {0}
@@ -34,5 +40,5 @@ unfolding sequences.world sequences.kept sequences.keptScan sequences.left seque
 theHistories = tt
 
 unfoldable pub computing : Unit {0}
-unfolding theCursor theMemory theCalls theHistories
+unfolding theCursor theFingerprint theMemory theCalls theHistories
 computing = tt

@@ -1,21 +1,22 @@
 -- SPECIFICATION, "Cases": those that are marked to be proved, as one table with one statement over it, `AllHold cases`.
-use Prim.Native.Nat.{ℕ, zero, suc, _<_}
+use Prim.Native.Nat.{ℕ, zero, suc, _-_, _/_, _<_}
 use mathlib.Core.Path.{_≡_}
 use mathlib.Core.Bool.{Bool, true, false}
-use mathlib.Core.List.{List, [], _∷_, _++_}
+use mathlib.Core.List.{List, [], _∷_, _++_, map}
 use mathlib.Core.Option.{some}
-use lib.ListN.{replicate, set}
+use lib.ListN.{length, replicate, set}
 use Rattle.cursor.specs.Group.{Group, oneTable, twoTables}
 use Rattle.model.specs.declared.State.{State}
 use Rattle.model.specs.Answers.{Reply}
 use Rattle.model.specs.Memory.{Place, chainAt}
-use Rattle.model.specs.Calls.{stateOf, oldNew, emptyState, freeEntries, noState, suggested}
-use Rattle.model.specs.Sequences.{World, world, KeyCall, StateCall, Call, perform, run}
+use Rattle.model.specs.Calls.{stateOf, oldNew, emptyState, noted, freeEntries, noState, suggested}
+use Rattle.model.specs.Sequences.{World, world, KeyCall, ReadCall, StateCall, Call, perform, run, Event, events}
 
 -- A walk's cursor at one live table, or at two; the cursors of a whole walk; any cursor; the suggested size for some keys,
 -- and for every number of keys above a given one; some calls in a world, each of which answers that number; the values of an
--- answered step, and the next bucket then; the sizes of the old and the new table after an add that is answered, the second 0
--- where there is none; the entries of a chain that is sound, where the first buffer is the current one.
+-- answered step, and the next bucket then; some calls in a world, each of which is answered 0, and the next bucket then; the
+-- sizes of the old and the new table after an add that is answered, the second 0 where there is none; the entries of a chain
+-- that is sound, where the first buffer is the current one; a history from a world on, call by call.
 pub data Row : Type 0 where
   at-one : (size cursor bucket next : ℕ) → Row
   at-two : (small large cursor bucket : ℕ) (buckets : List ℕ) (next : ℕ) → Row
@@ -25,8 +26,16 @@ pub data Row : Type 0 where
   suggests-above : (growing : Bool) (keys size : ℕ) → Row
   answers : (w : World) (calls : List Call) (number : ℕ) → Row
   steps : (w : World) (values : List ℕ) (next : ℕ) → Row
+  leaves : (w : World) (calls : List Call) (next : ℕ) → Row
   adds : (w : World) (key old new : ℕ) → Row
   reads : (w : World) (p : Place) (entries : List ℕ) → Row
+  history : (w : World) (shown : List Event) → Row
+
+unfoldable pub add : ℕ → Call
+add key = Call.on key (KeyCall.add 30)
+
+unfoldable pub delete : ℕ → Call
+delete key = Call.on key KeyCall.delete
 
 -- the group is that bucket of the smaller table and those of the larger, and that cursor is answered
 unfoldable pub Gives : Group → ℕ → List ℕ → ℕ → Type 0
@@ -45,6 +54,11 @@ EachAnswers w (c ∷ cs) number = (perform w c .reply .number ≡ number) × Eac
 unfoldable pub StepsTo : Reply State → List ℕ → ℕ → Type 0
 StepsTo r values next = (r .number ≡ 0) × (r .values ≡ values) × (r .state .«rehash_index» ≡ next)
 
+unfoldable pub EachLeaves : World → List Call → ℕ → Type 0
+EachLeaves w [] next = Unit {0}
+EachLeaves w (c ∷ cs) next =
+    (perform w c .reply .number ≡ 0) × (perform w c .reply .state .«rehash_index» ≡ next) × EachLeaves w cs next
+
 unfoldable pub AddsTo : Reply State → ℕ → ℕ → Type 0
 AddsTo r old new = (r .number ≡ 0) × (r .state .«old_size» ≡ old) × (r .state .«new_size» ≡ new)
 
@@ -57,8 +71,10 @@ Holds (Row.suggests growing keys size) = suggested growing keys ≡ size
 Holds (Row.suggests-above growing keys size) = (more : ℕ) → keys < more → suggested growing more ≡ size
 Holds (Row.answers w calls number) = EachAnswers w calls number
 Holds (Row.steps w values next) = StepsTo (perform w Call.rehashStep .reply) values next
-Holds (Row.adds w key old new) = AddsTo (perform w (Call.on key (KeyCall.add 30)) .reply) old new
+Holds (Row.leaves w calls next) = EachLeaves w calls next
+Holds (Row.adds w key old new) = AddsTo (perform w (add key) .reply) old new
 Holds (Row.reads w p entries) = chainAt (w .state) (w .first) (w .second) (w .entries) p ≡ some entries
+Holds (Row.history w shown) = events perform w (map (λ (e : Event). e .call) shown) ≡ shown
 
 unfoldable pub AllHold : List Row → Type 0
 AllHold [] = Unit {0}
@@ -116,9 +132,14 @@ counting keys = rehashing keys 0 4 (1 ∷ 2 ∷ []) (replicate 4 0) (0 ∷ 0 ∷
 unfoldable pub freeInBucket : ℕ → World
 freeInBucket head = rehashing 1 0 1 (1 ∷ 0 ∷ []) (head ∷ 0 ∷ 0 ∷ 0 ∷ []) (0 ∷ 0 ∷ 10 ∷ [])
 
+-- any of these worlds, with so many safe iterators
+unfoldable pub withSafe : ℕ → World → World
+withSafe iterators w =
+    world (noted (w .state) (w .state .«resize_allowed») iterators) (w .first) (w .second) (w .entries)
+
 -- the calls that take a step first: a key deleted, and another one added
 unfoldable pub steppers : ℕ → ℕ → List Call
-steppers key new = Call.on key KeyCall.delete ∷ Call.on new (KeyCall.add 30) ∷ []
+steppers key new = delete key ∷ add new ∷ []
 
 -- A store of twelve entries after a start of that size and some calls, with so many numbers in the second bucket buffer.
 unfoldable pub after : (size others : ℕ) → List Call → World
@@ -128,7 +149,7 @@ after size others calls =
 -- keys 1 to n added
 unfoldable pub adding : ℕ → List Call
 adding zero = []
-adding (suc n) = adding n ++ Call.on (suc n) (KeyCall.add 30) ∷ []
+adding (suc n) = adding n ++ add (suc n) ∷ []
 
 -- so many keys in one table of that size, added while growth is not allowed; then it is, or not
 unfoldable pub filled : (size others keys : ℕ) → Bool → World
@@ -140,10 +161,35 @@ unfoldable pub readers : ℕ → ℕ → List Call
 readers key new =
     Call.on key KeyCall.find
     ∷ Call.on key (KeyCall.update 30)
-    ∷ Call.on new (KeyCall.add 30)
-    ∷ Call.on key KeyCall.delete
+    ∷ add new
+    ∷ delete key
     ∷ Call.scan 0 (replicate 4 0)
     ∷ []
+
+-- What is seen of a call that is lent no list: its number and its values; of one that is answered 0 with none; of an
+-- iterator's begin, which answers that fingerprint, and of its end, which is given it.
+
+unfoldable pub seen : Call → ℕ → List ℕ → Event
+seen c number values = record { call = c; number = number; values = values; lent = [] }
+
+unfoldable pub done : Call → Event
+done c = seen c 0 []
+
+unfoldable pub begun : ℕ → Event
+begun fingerprint = seen (Call.read ReadCall.beginIterator) 0 (fingerprint ∷ [])
+
+unfoldable pub ended : (fingerprint number : ℕ) → Event
+ended fingerprint number = seen (Call.read (ReadCall.endIterator fingerprint)) number []
+
+-- .. and of a call that iterates, lent four zeros: it hands out those pairs, and answers that place
+unfoldable pub iterates : (place : ℕ) (pairs : List ℕ) (next : ℕ) → Event
+iterates place pairs next =
+    record {
+      call = Call.iterate place (replicate 4 0);
+      number = 0;
+      values = next ∷ length pairs / 2 ∷ [];
+      lent = pairs ++ replicate (4 - length pairs) 0;
+    }
 
 unfoldable pub cases : List Row
 cases =
@@ -174,13 +220,13 @@ cases =
     ∷ Row.adds (filled 2 32 9 false) 0 2 0
     ∷ Row.adds (filled 2 32 10 false) 0 2 32
     ∷ Row.adds (after 8 2 (adding 3 ++ Call.resize 2 ∷ [])) 0 8 2
-    ∷ Row.adds (after 8 2 (Call.on 8 (KeyCall.add 30) ∷ Call.resize 2 ∷ [])) 0 2 4
+    ∷ Row.adds (after 8 2 (add 8 ∷ Call.resize 2 ∷ [])) 0 2 4
     ∷ Row.answers (after 4 4 (Call.note (StateCall.allowResize false) ∷ [])) (Call.note (StateCall.allowResize true) ∷ []) 0
     ∷ Row.answers (world noState [] [] []) (Call.note (StateCall.allowResize true) ∷ []) 1
     ∷ Row.answers (resting 2 4) (readers 2 6) 0
     ∷ Row.answers (resting 2 5) (readers 2 6) 2
     ∷ Row.answers (resting 5 2) (readers 2 6) 2
-    ∷ Row.answers (resting 2 5) (Call.on 2 (KeyCall.add 30) ∷ Call.scan 0 [] ∷ []) 2
+    ∷ Row.answers (resting 2 5) (add 2 ∷ Call.scan 0 [] ∷ []) 2
     ∷ Row.answers (resting 2 5) (Call.on 5 KeyCall.find ∷ []) 3
     ∷ Row.answers (resting 2 5) (Call.scan 1 [] ∷ []) 0
     ∷ Row.answers (moving 2 4) (Call.rehashStep ∷ readers 2 6) 0
@@ -197,8 +243,8 @@ cases =
     ∷ Row.answers (counting 3) (steppers 1 5) 0
     ∷ Row.answers (counting 2) (steppers 1 5) 2
     ∷ Row.answers (counting 2) (Call.rehashStep ∷ Call.on 1 KeyCall.find ∷ []) 0
-    ∷ Row.answers (freeInBucket 0) (Call.on 1 (KeyCall.add 30) ∷ []) 0
-    ∷ Row.answers (freeInBucket 9) (Call.on 1 (KeyCall.add 30) ∷ []) 2
+    ∷ Row.answers (freeInBucket 0) (add 1 ∷ []) 0
+    ∷ Row.answers (freeInBucket 9) (add 1 ∷ []) 2
     ∷ Row.answers (freeInBucket 9) (Call.rehashStep ∷ []) 0
     ∷ Row.steps (moving 2 4) (2 ∷ 0 ∷ []) 0
     ∷ Row.steps (sparse 9 0) (1 ∷ 0 ∷ []) 0
@@ -209,4 +255,66 @@ cases =
     ∷ Row.answers (sparse 0 16) (Call.rehashStep ∷ []) 2
     ∷ Row.reads fresh Place.free (1 ∷ 2 ∷ 3 ∷ [])
     ∷ Row.reads (resting 2 4) Place.free (3 ∷ [])
+    ∷ Row.history (inBoth 4)
+    (iterates 0 (2 ∷ 10 ∷ []) 1
+    ∷ iterates 1 (4 ∷ 20 ∷ []) 3
+    ∷ iterates 2 (4 ∷ 20 ∷ []) 3
+    ∷ iterates 3 [] 6
+    ∷ iterates 6 [] 6
+    ∷ iterates 4294967295 [] 6
+    ∷ [])
+    ∷ Row.history (inBoth 4) (seen (Call.iterate 0 []) 9 (0 ∷ 1 ∷ []) ∷ seen (Call.iterate 3 []) 0 (6 ∷ 0 ∷ []) ∷ [])
+    ∷ Row.answers (inBoth 6) (Call.iterate 1 (replicate 4 0) ∷ Call.iterate 1 [] ∷ []) 2
+    ∷ Row.answers (inBoth 6) (Call.iterate 0 (replicate 4 0) ∷ []) 0
+    ∷ Row.history (resting 2 4) (iterates 0 (2 ∷ 10 ∷ 4 ∷ 20 ∷ []) 1 ∷ iterates 1 [] 2 ∷ [])
+    ∷ Row.leaves (counting 3) (Call.rehashStep ∷ steppers 1 5) 1
+    ∷ Row.leaves (withSafe 1 (counting 3)) (steppers 1 5) 0
+    ∷ Row.answers (withSafe 1 (counting 3)) (Call.rehashStep ∷ []) 18
+    ∷ Row.answers (withSafe 1 (resting 2 4)) (Call.rehashStep ∷ []) 8
+    ∷ Row.answers (withSafe 1 (moving 2 5)) (Call.rehashStep ∷ []) 18
+    ∷ Row.answers (resting 2 4) (Call.note StateCall.endSafe ∷ []) 16
+    ∷ Row.answers (withSafe 254 (resting 2 4)) (Call.note StateCall.beginSafe ∷ Call.note StateCall.endSafe ∷ []) 0
+    ∷ Row.answers (withSafe 255 (resting 2 4)) (Call.note StateCall.beginSafe ∷ []) 17
+    ∷ Row.answers (withSafe 256 (moving 2 4)) (Call.note StateCall.beginSafe ∷ Call.rehashStep ∷ readers 2 6) 1
+    ∷ Row.answers (world noState [] [] []) (Call.note StateCall.endSafe ∷ Call.read (ReadCall.endIterator 0) ∷ []) 1
+    ∷ Row.history (after 4 0 []) (begun 13078267905649422074 ∷ ended 13078267905649422074 0 ∷ ended 0 15 ∷ [])
+    ∷ Row.history (after 4 0 (adding 2)) (begun 8427530295853426936 ∷ done (add 5) ∷ ended 8427530295853426936 15 ∷ [])
+    ∷ Row.history (after 4 0 (adding 2))
+    (begun 8427530295853426936
+    ∷ iterates 0 (1 ∷ 30 ∷ []) 2
+    ∷ done (delete 2)
+    ∷ done (add 5)
+    ∷ iterates 2 [] 4
+    ∷ ended 8427530295853426936 0
+    ∷ [])
+    ∷ Row.history (after 4 2 (adding 2 ++ add 7 ∷ []))
+    (begun 6592724455718159528
+    ∷ iterates 0 (1 ∷ 30 ∷ []) 2
+    ∷ done (Call.resize 2)
+    ∷ ended 6592724455718159528 15
+    ∷ seen Call.rehashStep 0 (1 ∷ 1 ∷ [])
+    ∷ seen Call.rehashStep 0 (1 ∷ 1 ∷ [])
+    ∷ seen Call.rehashStep 0 (1 ∷ 0 ∷ [])
+    ∷ iterates 2 [] 2
+    ∷ done (Call.resize 4)
+    ∷ seen Call.rehashStep 0 (1 ∷ 1 ∷ [])
+    ∷ seen Call.rehashStep 0 (2 ∷ 0 ∷ [])
+    ∷ ended 6592724455718159528 0
+    ∷ [])
+    ∷ Row.history (after 4 8 (map add (1 ∷ 3 ∷ 6 ∷ [])))
+    (done (Call.note StateCall.beginSafe)
+    ∷ iterates 0 (1 ∷ 30 ∷ []) 2
+    ∷ done (add 9)
+    ∷ seen Call.rehashStep 18 (0 ∷ 0 ∷ [])
+    ∷ iterates 2 (6 ∷ 30 ∷ []) 3
+    ∷ done (delete 3)
+    ∷ done (add 3)
+    ∷ done (delete 1)
+    ∷ done (add 1)
+    ∷ iterates 3 (1 ∷ 30 ∷ []) 6
+    ∷ iterates 6 (3 ∷ 30 ∷ []) 8
+    ∷ iterates 8 [] 12
+    ∷ done (Call.note StateCall.endSafe)
+    ∷ seen Call.rehashStep 0 (1 ∷ 1 ∷ [])
+    ∷ [])
     ∷ []

@@ -17,7 +17,7 @@ use Rattle.model.specs.Answers.{Reply}
 use Rattle.model.specs.Memory.{chainAt}
 use Rattle.model.specs.Calls.{suggested}
 use Rattle.model.specs.Sequences.{World, Call, Outcome, perform, carry, Event, event, events}
-use Rattle.model.specs.Cases.{Row, Gives, Walks, EachAnswers, StepsTo, EachLeaves, AddsTo, Holds, AllHold, fresh, bucketZero, resting, moving, inBoth, sparse, rehashing, runningInto, linkedOn, counting, freeInBucket, withSafe, add, delete, steppers, after, adding, filled, readers, seen, done, begun, ended, iterates, cases}
+use Rattle.model.specs.Cases.{Row, Gives, Walks, EachAnswers, StepsTo, EachLeaves, AddsTo, Holds, AllHold, fresh, bucketZero, resting, moving, inBoth, sparse, rehashing, runningInto, linkedOn, counting, freeInBucket, withSafe, add, delete, steppers, after, adding, filled, readers, seen, done, begun, ended, iterates, eachPlace, oneForAnother, thereAndBack, callByCall, cases}
 use Rattle.model.proofs.Computing.{computing}
 use Rattle.model.proofs.Tests.{Tells, told, tells-true, tells-same, tells-and, tells-eq, tells-le}
 use Rattle.model.proofs.Suggested.{growing-capped}
@@ -191,7 +191,7 @@ all-true (row ∷ rows) h =
     (row-true row (each .0), all-true rows (each .1))
 
 computed : testAll cases ≡ true
-unfolding computing testAll test gives walks answering stepping leaving adding-to reading seen-as showing same cases fresh bucketZero resting moving inBoth sparse rehashing runningInto linkedOn counting freeInBucket withSafe add delete steppers after adding filled readers seen done begun ended iterates
+unfolding computing testAll test gives walks answering stepping leaving adding-to reading seen-as showing same cases fresh bucketZero resting moving inBoth sparse rehashing runningInto linkedOn counting freeInBucket withSafe add delete steppers after adding filled readers seen done begun ended iterates eachPlace oneForAnother thereAndBack callByCall
 computed = refl
 
 pub cases-hold : AllHold cases

@@ -191,6 +191,65 @@ iterates place pairs next =
       lent = pairs ++ replicate (4 - length pairs) 0;
     }
 
+-- calls that iterate at some places of `inBoth 4`: the last two are the end, and a forged one
+unfoldable pub eachPlace : List Event
+eachPlace =
+    iterates 0 (2 ∷ 10 ∷ []) 1
+    ∷ iterates 1 (4 ∷ 20 ∷ []) 3
+    ∷ iterates 2 (4 ∷ 20 ∷ []) 3
+    ∷ iterates 3 [] 6
+    ∷ iterates 6 [] 6
+    ∷ iterates 4294967295 [] 6
+    ∷ []
+
+-- The histories of docs/PASSES.md. During an iterator one key is deleted and another one added, ..
+unfoldable pub oneForAnother : List Event
+oneForAnother =
+    begun 8427530295853426936
+    ∷ iterates 0 (1 ∷ 30 ∷ []) 2
+    ∷ done (delete 2)
+    ∷ done (add 5)
+    ∷ iterates 2 [] 4
+    ∷ ended 8427530295853426936 0
+    ∷ []
+
+-- .. or there is a rehash, and one back; ..
+unfoldable pub thereAndBack : List Event
+thereAndBack =
+    begun 6592724455718159528
+    ∷ iterates 0 (1 ∷ 30 ∷ []) 2
+    ∷ done (Call.resize 2)
+    ∷ ended 6592724455718159528 15
+    ∷ seen Call.rehashStep 0 (1 ∷ 1 ∷ [])
+    ∷ seen Call.rehashStep 0 (1 ∷ 1 ∷ [])
+    ∷ seen Call.rehashStep 0 (1 ∷ 0 ∷ [])
+    ∷ begun 14461817279582670776
+    ∷ iterates 2 [] 2
+    ∷ done (Call.resize 4)
+    ∷ seen Call.rehashStep 0 (1 ∷ 1 ∷ [])
+    ∷ seen Call.rehashStep 0 (2 ∷ 0 ∷ [])
+    ∷ ended 6592724455718159528 0
+    ∷ []
+
+-- .. and during a safe iterator a rehash begins, and keys come and go.
+unfoldable pub callByCall : List Event
+callByCall =
+    done (Call.note StateCall.beginSafe)
+    ∷ iterates 0 (1 ∷ 30 ∷ []) 2
+    ∷ done (add 9)
+    ∷ seen Call.rehashStep 18 (0 ∷ 0 ∷ [])
+    ∷ iterates 2 (6 ∷ 30 ∷ []) 3
+    ∷ done (delete 3)
+    ∷ done (add 3)
+    ∷ done (delete 1)
+    ∷ done (add 1)
+    ∷ iterates 3 (1 ∷ 30 ∷ []) 6
+    ∷ iterates 6 (3 ∷ 30 ∷ []) 8
+    ∷ iterates 8 [] 12
+    ∷ done (Call.note StateCall.endSafe)
+    ∷ seen Call.rehashStep 0 (1 ∷ 1 ∷ [])
+    ∷ []
+
 unfoldable pub cases : List Row
 cases =
     Row.walk 4 (0 ∷ 2 ∷ 1 ∷ 3 ∷ 0 ∷ [])
@@ -255,14 +314,7 @@ cases =
     ∷ Row.answers (sparse 0 16) (Call.rehashStep ∷ []) 2
     ∷ Row.reads fresh Place.free (1 ∷ 2 ∷ 3 ∷ [])
     ∷ Row.reads (resting 2 4) Place.free (3 ∷ [])
-    ∷ Row.history (inBoth 4)
-    (iterates 0 (2 ∷ 10 ∷ []) 1
-    ∷ iterates 1 (4 ∷ 20 ∷ []) 3
-    ∷ iterates 2 (4 ∷ 20 ∷ []) 3
-    ∷ iterates 3 [] 6
-    ∷ iterates 6 [] 6
-    ∷ iterates 4294967295 [] 6
-    ∷ [])
+    ∷ Row.history (inBoth 4) eachPlace
     ∷ Row.history (inBoth 4) (seen (Call.iterate 0 []) 9 (0 ∷ 1 ∷ []) ∷ seen (Call.iterate 3 []) 0 (6 ∷ 0 ∷ []) ∷ [])
     ∷ Row.answers (inBoth 6) (Call.iterate 1 (replicate 4 0) ∷ Call.iterate 1 [] ∷ []) 2
     ∷ Row.answers (inBoth 6) (Call.iterate 0 (replicate 4 0) ∷ []) 0
@@ -278,43 +330,9 @@ cases =
     ∷ Row.answers (withSafe 256 (moving 2 4)) (Call.note StateCall.beginSafe ∷ Call.rehashStep ∷ readers 2 6) 1
     ∷ Row.answers (world noState [] [] []) (Call.note StateCall.endSafe ∷ Call.read (ReadCall.endIterator 0) ∷ []) 1
     ∷ Row.history (after 4 0 []) (begun 13078267905649422074 ∷ ended 13078267905649422074 0 ∷ ended 0 15 ∷ [])
+    ∷ Row.history (inBoth 4) (begun 2448095614669022528 ∷ [])
     ∷ Row.history (after 4 0 (adding 2)) (begun 8427530295853426936 ∷ done (add 5) ∷ ended 8427530295853426936 15 ∷ [])
-    ∷ Row.history (after 4 0 (adding 2))
-    (begun 8427530295853426936
-    ∷ iterates 0 (1 ∷ 30 ∷ []) 2
-    ∷ done (delete 2)
-    ∷ done (add 5)
-    ∷ iterates 2 [] 4
-    ∷ ended 8427530295853426936 0
-    ∷ [])
-    ∷ Row.history (after 4 2 (adding 2 ++ add 7 ∷ []))
-    (begun 6592724455718159528
-    ∷ iterates 0 (1 ∷ 30 ∷ []) 2
-    ∷ done (Call.resize 2)
-    ∷ ended 6592724455718159528 15
-    ∷ seen Call.rehashStep 0 (1 ∷ 1 ∷ [])
-    ∷ seen Call.rehashStep 0 (1 ∷ 1 ∷ [])
-    ∷ seen Call.rehashStep 0 (1 ∷ 0 ∷ [])
-    ∷ iterates 2 [] 2
-    ∷ done (Call.resize 4)
-    ∷ seen Call.rehashStep 0 (1 ∷ 1 ∷ [])
-    ∷ seen Call.rehashStep 0 (2 ∷ 0 ∷ [])
-    ∷ ended 6592724455718159528 0
-    ∷ [])
-    ∷ Row.history (after 4 8 (map add (1 ∷ 3 ∷ 6 ∷ [])))
-    (done (Call.note StateCall.beginSafe)
-    ∷ iterates 0 (1 ∷ 30 ∷ []) 2
-    ∷ done (add 9)
-    ∷ seen Call.rehashStep 18 (0 ∷ 0 ∷ [])
-    ∷ iterates 2 (6 ∷ 30 ∷ []) 3
-    ∷ done (delete 3)
-    ∷ done (add 3)
-    ∷ done (delete 1)
-    ∷ done (add 1)
-    ∷ iterates 3 (1 ∷ 30 ∷ []) 6
-    ∷ iterates 6 (3 ∷ 30 ∷ []) 8
-    ∷ iterates 8 [] 12
-    ∷ done (Call.note StateCall.endSafe)
-    ∷ seen Call.rehashStep 0 (1 ∷ 1 ∷ [])
-    ∷ [])
+    ∷ Row.history (after 4 0 (adding 2)) oneForAnother
+    ∷ Row.history (after 4 2 (adding 2 ++ add 7 ∷ [])) thereAndBack
+    ∷ Row.history (after 4 8 (map add (1 ∷ 3 ∷ 6 ∷ []))) callByCall
     ∷ []

@@ -17,7 +17,7 @@ use Rattle.refinement.specs.Demand1.{Demand1}
 use Rattle.refinement.specs.Demand3.{Demand3}
 use Rattle.wrong_stores.specs.Iterators as wrong
 use Rattle.wrong_stores.specs.Iterators.{printsZero, neverChanged, alwaysChanged, countsNone, keepsCounted, beginsBeyond, endsNone, startsAsBefore, startsWithOne, stepsPaused, damagedFirst, pausedAtRest, addsPaused, deletesPaused, refusesPaused}
-use Rattle.wrong_stores.proofs.Start.{computing, started, find, add, delete, beginSafe, endSafe, at, differ, neither, no-look}
+use Rattle.wrong_stores.proofs.Start.{computing, started, room, find, add, delete, beginSafe, endSafe, at, differ, neither, no-look}
 
 -- what a store of specs/Iterators computes with
 unfoldable pub counting : Unit {0}
@@ -138,3 +138,23 @@ unfolding counting pausedAtRest counted
 pausedAtRest-excluded d =
     neither (λ h. eqb-false 18 1 refl (h .1)) (λ h. neither (λ i. eqb-false 18 8 refl (i .1)) (λ i. i .0 refl) (h .1))
     (d .numbers (counted fresh 1) Call.rehashStep)
+
+-- Ours: between the begin and the end of an iterator key 0 is deleted and key 2 added. As many keys are held in a table of the
+-- same size, and so the fingerprint is the same, and the end is answered 0. The iterator has handed out key 0, which is not
+-- held at its end, and it passes over key 2, which is.
+
+abbrev atBegin : World
+atBegin = run perform (started perform 2) (add 0 10 ∷ add 1 11 ∷ [])
+
+abbrev atEnd : World
+atEnd = run perform atBegin (Call.iterate 0 room ∷ delete 0 ∷ add 2 12 ∷ Call.iterate 1 room ∷ [])
+
+pub equal-print : (fingerprintOf (atBegin .state) ≡ fingerprintOf (atEnd .state))
+    × (perform atEnd (Call.read (ReadCall.endIterator (fingerprintOf (atBegin .state)))) .reply .number ≡ 0)
+unfolding printing
+equal-print = (refl, refl)
+
+pub other-keys : (perform atBegin (find 0) .reply .number ≡ 0) × (perform atBegin (find 2) .reply .number ≡ 3)
+    × (perform atEnd (find 0) .reply .number ≡ 3) × (perform atEnd (find 2) .reply .number ≡ 0)
+unfolding computing
+other-keys = (refl, refl, refl, refl)

@@ -13,6 +13,7 @@ pub mod Refusals
 pub mod Strays
 pub mod Passes
 pub mod Iterators
+pub mod SafeIterators
 pub mod OneMoment
 pub mod Reordered
 pub mod SameNumbers

@@ -1,8 +1,8 @@
 -- No statement fixes the order of a chain: by Reordered it is nothing to `undamaged` and `matches`; `answers` and `walks` do
--- not look at the memory, and `exact`, `exact-pass` and `look` say what lies in it. So an add at the end of the chain and a find that
--- reorders it are excluded by what the call itself promises alone, its equation with its definition; besides, a find is
--- lent its buffers for reading only. Here: demand 1 holds of both stores as of ours, demand 3 too at a history at which they
--- differ from ours; and that they differ.
+-- not look at the memory, and `exact`, `exact-pass` and `look` say what lies in it. So an add at the end of the chain and a
+-- find that reorders it are excluded by what the call itself promises alone, its equation with its definition; besides, a
+-- find is lent its buffers for reading only. Here: demand 1 holds of both stores as of ours, demand 3 too at a history at
+-- which they differ from ours; and that they differ.
 -- Assumes nothing.
 use Prim.Native.Nat.{ℕ, zero, suc, _+_, _*_}
 use mathlib.Core.Path.{_≡_, refl, _∙_}
@@ -89,8 +89,8 @@ turned-reordered =
       lengths = refl;
     }
 
--- Say that a store leaves them so, after calls that to an onlooker are as with ours, and that its walk calls, calls that iterate
--- and looks are ours. Then demand 3 holds of it at that history.
+-- Say that a store leaves them so, after calls that to an onlooker are as with ours, and that its walk calls, calls that
+-- iterate and looks are ours. Then demand 3 holds of it at that history.
 
 turned-look : perform turned (Call.read ReadCall.currentTable) .reply .values ≡ take (turned .state .«old_size») (current turned)
 unfolding computing ours turned

@@ -2,14 +2,14 @@
 -- Assumes nothing.
 use Prim.Native.Nat.{ℕ, zero, suc, _<_}
 use mathlib.Core.Path.{_≡_, refl, ap}
-use mathlib.Core.List.{List, [], _∷_}
+use mathlib.Core.List.{[], _∷_}
 use lib.ListN.{getD}
 use lib.Dec.{lit<, lit≤}
 use borrow.Author.Tests.{eqb-false}
 use native.Mathlib.Omega.{arith}
 use Rattle.model.specs.Memory.{inBucket}
 use Rattle.model.specs.Sequences.{World, Call, Outcome, perform, run}
-use Rattle.refinement.specs.Demand1.{Demand1, SoundChain, placeAt, BucketDamaged, KeysFrom}
+use Rattle.refinement.specs.Demand1.{Demand1, BucketDamaged, KeysFrom}
 use Rattle.refinement.specs.Demand3.{Demand3}
 use Rattle.wrong_stores.specs.Walks.{overwriting}
 use Rattle.wrong_stores.specs.Refusals.{asDamaged, asShort, miscounting, scribbling}

@@ -1,8 +1,8 @@
 -- The stores of specs/Refusals are excluded, by demand 3 or by demand 1. Demand 1 is about any world: those here are made by
 -- ours from a start of one bucket, and two of them then damaged.
 -- Assumes nothing.
-use Prim.Native.Nat.{ℕ, zero, suc, _<_, _≤_}
-use mathlib.Core.Path.{_≡_, refl, ap, subst}
+use Prim.Native.Nat.{zero, suc, _<_}
+use mathlib.Core.Path.{_≡_, refl, ap}
 use mathlib.Core.Bool.{true, false}
 use mathlib.Core.Logic.{inl, inr}
 use mathlib.Core.List.{List, [], _∷_}
@@ -12,10 +12,10 @@ use borrow.Author.Tests.{eqb-false}
 use native.Mathlib.Omega.{arith}
 use Rattle.model.specs.declared.Table.{Table}
 use Rattle.model.specs.Limits.{largestCapacity}
-use Rattle.model.specs.Memory.{Place, linkOf, keyOf, inBucket}
+use Rattle.model.specs.Memory.{Place, inBucket}
 use Rattle.model.specs.Calls.{stateOf, oldNew}
 use Rattle.model.specs.Sequences.{World, world, Call, Outcome, perform, run}
-use Rattle.refinement.specs.Demand1.{Demand1, nth, Chain, SoundChain, places, TooMany, GroupDamaged}
+use Rattle.refinement.specs.Demand1.{Demand1, Chain, SoundChain, places, TooMany, GroupDamaged}
 use Rattle.refinement.specs.Demand3.{Demand3}
 use Rattle.wrong_stores.specs.Refusals.{refusesAll, refusesLarge, takesLarger, refusesResizes, refusesSteps, overlooksDamage, losesState, writesFirst, asDamaged, refusesWalks, asShort, alwaysShort, readAgain, sumAfterShort, sumByCapacity, sumBelowKeys, roomForAll, miscounting, shortMiscounts, countsRefused, scribbling, writesRefused}
 use Rattle.wrong_stores.proofs.Start.{computing, zeros, started, room, find, update, add, at, apart, differ, must-be-damaged, no-look, single}

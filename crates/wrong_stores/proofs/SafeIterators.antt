@@ -20,7 +20,7 @@ use Rattle.wrong_stores.specs.Passes as passes
 use Rattle.wrong_stores.specs.Passes.{skipsNew, handsAgain}
 use Rattle.wrong_stores.specs.Iterators.{stepsPaused}
 use Rattle.wrong_stores.proofs.Start.{computing, alike, zeros, started, startedIdeal, room, add, delete, beginSafe, visited, pass-at, neither}
-use Rattle.wrong_stores.proofs.Iterators.{counting}
+use Rattle.wrong_stores.proofs.Iterators.{iterating}
 
 -- keys 0 and 1, and a rehash from size 2 to 4, begun before the safe iterator
 abbrev bothKeys : List Call
@@ -95,7 +95,7 @@ handsAgain-excluded-from-later-on d =
 
 -- `exactly-once`, twice
 pub stepsPaused-excluded-by-exactly-once : SafeIterators stepsPaused → ⊥
-unfolding counting stepsPaused
+unfolding iterating stepsPaused
 stepsPaused-excluded-by-exactly-once d =
     let h : PassHolds (bothAt 0 (0 ∷ []) ∷ bothAt 1 [] ∷ bothAt 1 (1 ∷ []) ∷ bothAt 2 (0 ∷ []) ∷ bothAt 3 [] ∷ []) true =
     pass-at d 2 refl bothKeys refl
@@ -121,7 +121,7 @@ doubled =
     ∷ []
 
 pub stepsPaused-excluded-by-no-doubles : SafeIterators stepsPaused → ⊥
-unfolding counting stepsPaused
+unfolding iterating stepsPaused
 stepsPaused-excluded-by-no-doubles d =
     let h : PassHolds doubled true =
     pass-at d 2 refl (add 1 11 ∷ []) refl

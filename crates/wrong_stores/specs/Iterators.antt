@@ -2,35 +2,46 @@
 use Prim.Native.Nat.{ℕ, suc}
 use mathlib.Core.Bool.{_&&_, cond}
 use mathlib.Core.List.{[], _∷_}
-use lib.Dec.{eqb}
+use lib.Dec.{ltb, eqb}
 use Rattle.model.specs.declared.State.{State}
+use Rattle.model.specs.Limits.{mostSafeIterators}
 use Rattle.model.specs.Answers.{reply}
 use Rattle.model.specs.Calls.{noted, paused}
+use Rattle.model.specs.Iterators.{fingerprintOf}
 use Rattle.model.specs.Sequences.{World, world, KeyCall, Call, Outcome, kept, perform}
-use Rattle.wrong_stores.specs.OneCall.{Change, butInit, butAdd, butDelete, butResize, butStep, butBegin, butEnd, butBeginSafe, butEndSafe, ifDone, answering, handingBack}
+use Rattle.wrong_stores.specs.OneCall.{Change, butInit, butAdd, butDelete, butResize, butStep, butBegin, butEnd, butBeginSafe, butEndSafe, ifDone, ifRefused, answering, handingBack}
 
 -- An iterator.
 
--- another number, with no values, and nothing changed
-unfoldable pub saying : ℕ → World → Outcome
-saying number w = kept w (reply number [] (w .state)) []
+-- that number, with no values, and nothing changed
+unfoldable pub onlyNumber : ℕ → World → Outcome
+onlyNumber number w = kept w (reply number [] (w .state)) []
 
 -- begins with a made-up fingerprint
 unfoldable pub printsZero : World → Call → Outcome
 printsZero = butBegin (λ w o. ifDone (answering (0 ∷ []) o) o)
 
+-- a refused begin says the fingerprint too
+unfoldable pub printsRefused : World → Call → Outcome
+printsRefused = butBegin (λ w o. ifRefused (answering (fingerprintOf (w .state) ∷ []) o) o)
+
 -- says of no store that it changed, or of every one
 unfoldable pub neverChanged : World → Call → Outcome
-neverChanged = butEnd (λ fingerprint w o. cond (eqb (o .reply .number) 15) (saying 0 w) o)
+neverChanged = butEnd (λ fingerprint w o. cond (eqb (o .reply .number) 15) (onlyNumber 0 w) o)
 
 unfoldable pub alwaysChanged : World → Call → Outcome
-alwaysChanged = butEnd (λ fingerprint w o. ifDone (saying 15 w) o)
+alwaysChanged = butEnd (λ fingerprint w o. ifDone (onlyNumber 15 w) o)
+
+-- .. or, before it is known to be sound, of one that did
+unfoldable pub changedFirst : World → Call → Outcome
+changedFirst =
+    butEnd (λ fingerprint w o. cond (eqb fingerprint (fingerprintOf (w .state))) o (ifRefused (onlyNumber 15 w) o))
 
 -- A safe iterator.
 
 -- the state with another number of them
-unfoldable pub counting : ℕ → State → State
-counting iterators s = noted s (s .«resize_allowed») iterators
+unfoldable pub withIterators : ℕ → State → State
+withIterators iterators s = noted s (s .«resize_allowed») iterators
 
 -- its begin, or its end, changes nothing
 unfoldable pub countsNone : World → Call → Outcome
@@ -39,22 +50,27 @@ countsNone = butBeginSafe (λ w o. ifDone (handingBack (w .state) o) o)
 unfoldable pub keepsCounted : World → Call → Outcome
 keepsCounted = butEndSafe (λ w o. ifDone (handingBack (w .state) o) o)
 
--- begins one more than there can be
+-- begins one fewer than there can be, or one more
+unfoldable pub beginsFewer : World → Call → Outcome
+beginsFewer =
+    butBeginSafe
+    (λ w o. cond (ltb (suc (w .state .«safe_iterators»)) mostSafeIterators) o (ifDone (onlyNumber 17 w) o))
+
 unfoldable pub beginsBeyond : World → Call → Outcome
 beginsBeyond =
     butBeginSafe
     (λ w o.
     let s = w .state in
-    cond (eqb (o .reply .number) 17) (kept w (reply 0 [] (counting (suc (s .«safe_iterators»)) s)) []) o)
+    cond (eqb (o .reply .number) 17) (kept w (reply 0 [] (withIterators (suc (s .«safe_iterators»)) s)) []) o)
 
 -- ends one where none has begun
 unfoldable pub endsNone : World → Call → Outcome
-endsNone = butEndSafe (λ w o. cond (eqb (o .reply .number) 16) (saying 0 w) o)
+endsNone = butEndSafe (λ w o. cond (eqb (o .reply .number) 16) (onlyNumber 0 w) o)
 
 -- a start with as many as there were, or with one
 unfoldable pub startsCounting : (World → ℕ) → World → Call → Outcome
 startsCounting iterators =
-    butInit (λ capacity size w o. ifDone (handingBack (counting (iterators w) (o .reply .state)) o) o)
+    butInit (λ capacity size w o. ifDone (handingBack (withIterators (iterators w) (o .reply .state)) o) o)
 
 unfoldable pub startsAsBefore : World → Call → Outcome
 startsAsBefore = startsCounting (λ w. w .state .«safe_iterators»)
@@ -68,8 +84,8 @@ startsWithOne = startsCounting (λ w. 1)
 unfoldable pub unpaused : Call → Change
 unpaused c w o =
     let s = w .state in
-    let p = perform (world (counting 0 s) (w .first) (w .second) (w .entries)) c in
-    cond (eqb (o .reply .number) 1) o (handingBack (counting (s .«safe_iterators») (p .reply .state)) p)
+    let p = perform (world (withIterators 0 s) (w .first) (w .second) (w .entries)) c in
+    cond (eqb (o .reply .number) 1) o (handingBack (withIterators (s .«safe_iterators») (p .reply .state)) p)
 
 -- a step moves, ..
 unfoldable pub stepsPaused : World → Call → Outcome
@@ -97,4 +113,4 @@ deletesPaused = butDelete (λ key. unpaused (Call.on key KeyCall.delete))
 
 -- .. and a resize is refused
 unfoldable pub refusesPaused : World → Call → Outcome
-refusesPaused = butResize (λ size w o. cond (paused (w .state)) (ifDone (saying 18 w) o) o)
+refusesPaused = butResize (λ size w o. cond (paused (w .state)) (ifDone (onlyNumber 18 w) o) o)

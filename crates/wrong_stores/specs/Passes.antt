@@ -1,7 +1,7 @@
 -- Wrong stores by a call that iterates.
 use Prim.Native.Nat.{ℕ}
 use mathlib.Core.Bool.{cond}
-use mathlib.Core.List.{List, [], _∷_, reverse}
+use mathlib.Core.List.{[], _∷_, reverse}
 use mathlib.Core.Option.{Option, none, some}
 use lib.ListN.{getD}
 use lib.Dec.{ltb}

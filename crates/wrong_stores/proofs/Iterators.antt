@@ -10,11 +10,10 @@ use lib.ListN.{getD}
 use lib.Dec.{lit<, lit≤, eqb}
 use borrow.Author.Tests.{eqb-false}
 use native.Mathlib.Omega.{arith}
-use Rattle.fingerprint.specs.Mix as mix
 use Rattle.model.specs.Limits.{mostSafeIterators}
 use Rattle.model.specs.Iterators.{fingerprintOf}
-use Rattle.model.specs.Cases.{bucketZero, moving}
-use Rattle.model.specs.Sequences.{World, world, ReadCall, Call, Outcome, perform, run, Event, events, keysOf}
+use Rattle.model.specs.Cases.{bucketZero, moving, withSafe}
+use Rattle.model.specs.Sequences.{World, ReadCall, Call, Outcome, perform, run, Event, events, keysOf}
 use Rattle.model.proofs.Tests.{true-not-false}
 use Rattle.refinement.specs.Demand1.{Demand1}
 use Rattle.refinement.specs.Demand3.{handedOut, Demand3}
@@ -24,17 +23,12 @@ use Rattle.wrong_stores.proofs.Start.{computing, zeros, started, room, 
 
 -- what a store of specs/Iterators computes with
 unfoldable pub iterating : Unit {0}
-unfolding computing wrong.onlyNumber wrong.withIterators wrong.startsCounting wrong.unpaused
+unfolding computing wrong.onlyNumber wrong.withIterators wrong.startsCounting wrong.unpaused withSafe
 iterating = tt
-
--- .. and a fingerprint
-unfoldable printing : Unit {0}
-unfolding iterating mix.cut mix.plus mix.inverse mix.left mix.right mix.mixed mix.folded mix.fingerprint
-printing = tt
 
 -- Demand 3, `answers`, `values`: a begin answers the fingerprint.
 pub printsZero-excluded : Demand3 printsZero → ⊥
-unfolding printing printsZero
+unfolding iterating printsZero
 printsZero-excluded d =
     differ 0 (0 ∷ []) _ refl (at d 1 refl (Call.read ReadCall.beginIterator ∷ []) .answers .0 .values (no-look refl))
 
@@ -83,30 +77,26 @@ abbrev fresh : World
 fresh = started perform 1
 
 pub neverChanged-excluded : Demand1 neverChanged → ⊥
-unfolding printing neverChanged
+unfolding iterating neverChanged
 neverChanged-excluded d =
     neither (λ h. eqb-false 0 1 refl (h .1))
     (λ h. neither (λ i. eqb-false 0 15 refl (i .1)) (λ i. i .0 (eqb-false 0 _ refl)) (h .1))
     (d .numbers fresh (Call.read (ReadCall.endIterator 0)))
 
 pub alwaysChanged-excluded : Demand1 alwaysChanged → ⊥
-unfolding printing alwaysChanged
+unfolding iterating alwaysChanged
 alwaysChanged-excluded d =
     neither (λ h. eqb-false 15 1 refl (h .1)) (λ h. neither (λ i. i .0 refl) (λ i. eqb-false 15 0 refl (i .1)) (h .1))
     (d .numbers fresh (Call.read (ReadCall.endIterator (fingerprintOf (fresh .state)))))
 
 -- (the world of zeros has no sound state)
 pub changedFirst-excluded : Demand1 changedFirst → ⊥
-unfolding printing changedFirst
+unfolding iterating changedFirst
 changedFirst-excluded d =
     neither (λ h. eqb-false 15 1 refl (h .1)) (λ h. h .0 (λ s. true-not-false (sym s)))
     (d .numbers zeros (Call.read (ReadCall.endIterator 0)))
 
 -- .. or a safe iterator's 16 or 17, ..
-
--- that world with so many safe iterators
-counted : World → ℕ → World
-counted w iterators = world (wrong.withIterators iterators (w .state)) (w .first) (w .second) (w .entries)
 
 pub endsNone-excluded : Demand1 endsNone → ⊥
 unfolding iterating endsNone
@@ -115,16 +105,16 @@ endsNone-excluded d =
     (d .numbers fresh endSafe)
 
 pub beginsBeyond-excluded : Demand1 beginsBeyond → ⊥
-unfolding iterating beginsBeyond counted
+unfolding iterating beginsBeyond
 beginsBeyond-excluded d =
     neither (λ h. eqb-false 0 1 refl (h .1)) (λ h. neither (λ i. eqb-false 0 17 refl (i .1)) (λ i. i .0 (lit≤ tt)) (h .1))
-    (d .numbers (counted fresh mostSafeIterators) beginSafe)
+    (d .numbers (withSafe mostSafeIterators fresh) beginSafe)
 
 pub beginsFewer-excluded : Demand1 beginsFewer → ⊥
-unfolding iterating beginsFewer counted
+unfolding iterating beginsFewer
 beginsFewer-excluded d =
     neither (λ h. eqb-false 17 1 refl (h .1)) (λ h. neither (λ i. omega (arith, i .0)) (λ i. eqb-false 17 0 refl (i .1)) (h .1))
-    (d .numbers (counted fresh (mostSafeIterators - 1)) beginSafe)
+    (d .numbers (withSafe (mostSafeIterators - 1) fresh) beginSafe)
 
 -- .. and that of 18 is behind that of 8, and before that of 2.
 
@@ -145,19 +135,19 @@ stepsPaused-excluded d =
     (d .numbers (run perform (started perform 2) (heldUp [])) Call.rehashStep)
 
 pub damagedFirst-excluded : Demand1 damagedFirst → ⊥
-unfolding iterating damagedFirst counted moving bucketZero
+unfolding iterating damagedFirst moving bucketZero
 damagedFirst-excluded d =
-    must-be-paused 2 refl refl refl (lit< tt) (d .numbers (counted (moving 2 5) 1) Call.rehashStep)
+    must-be-paused 2 refl refl refl (lit< tt) (d .numbers (withSafe 1 (moving 2 5)) Call.rehashStep)
 
 pub pausedAtRest-excluded : Demand1 pausedAtRest → ⊥
-unfolding iterating pausedAtRest counted
+unfolding iterating pausedAtRest
 pausedAtRest-excluded d =
     neither (λ h. eqb-false 18 1 refl (h .1)) (λ h. neither (λ i. eqb-false 18 8 refl (i .1)) (λ i. i .0 refl) (h .1))
-    (d .numbers (counted fresh 1) Call.rehashStep)
+    (d .numbers (withSafe 1 fresh) Call.rehashStep)
 
 -- `refusals`: a refused begin says 0
 pub printsRefused-excluded : Demand1 printsRefused → ⊥
-unfolding printing printsRefused
+unfolding iterating printsRefused
 printsRefused-excluded d =
     apart (λ (o : Outcome). getD (o .reply .values) 0 0) _ _ refl
     (d .refusals zeros (Call.read ReadCall.beginIterator) (eqb-false 1 0 refl))
@@ -188,5 +178,5 @@ pub equal-print : (perform atEnd (Call.read (ReadCall.endIterator print)) .reply
     × (allHanded (events perform atBegin replacing) ≡ 0 ∷ 1 ∷ [])
     × (perform atEnd (find 0) .reply .number ≡ 3)
     × (perform atEnd (find 2) .reply .number ≡ 0)
-unfolding printing allHanded
+unfolding iterating allHanded
 equal-print = (refl, refl, refl, refl)

@@ -8,7 +8,8 @@ use Rattle.model.specs.Limits.{mostSafeIterators}
 use Rattle.model.specs.Answers.{reply}
 use Rattle.model.specs.Calls.{noted, paused}
 use Rattle.model.specs.Iterators.{fingerprintOf}
-use Rattle.model.specs.Sequences.{World, world, KeyCall, Call, Outcome, kept, perform}
+use Rattle.model.specs.Cases.{withSafe}
+use Rattle.model.specs.Sequences.{World, KeyCall, Call, Outcome, kept, perform}
 use Rattle.wrong_stores.specs.OneCall.{Change, butInit, butAdd, butDelete, butResize, butStep, butBegin, butEnd, butBeginSafe, butEndSafe, ifDone, ifRefused, answering, handingBack}
 
 -- An iterator.
@@ -84,7 +85,7 @@ startsWithOne = startsCounting (λ w. 1)
 unfoldable pub unpaused : Call → Change
 unpaused c w o =
     let s = w .state in
-    let p = perform (world (withIterators 0 s) (w .first) (w .second) (w .entries)) c in
+    let p = perform (withSafe 0 w) c in
     cond (eqb (o .reply .number) 1) o (handingBack (withIterators (s .«safe_iterators») (p .reply .state)) p)
 
 -- a step moves, ..

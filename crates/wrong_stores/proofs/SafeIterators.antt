@@ -79,9 +79,9 @@ handsAgain-excluded-by-no-doubles d =
 
 -- from a moment on: key 1 was deleted and added again before it was handed out, and so the two are not too many for the whole
 -- pass, but too many from there on
-pub handsAgain-excluded-from-later-on : SafeIterators handsAgain → ⊥
+pub handsAgain-excluded-by-later-doubles : SafeIterators handsAgain → ⊥
 unfolding computing passes.again handsAgain
-handsAgain-excluded-from-later-on d =
+handsAgain-excluded-by-later-doubles d =
     let one = visited 0 1 (1 ∷ []) (1 ∷ []) in
     let before = visited 0 1 (1 ∷ []) [] ∷ visited 0 1 [] [] ∷ [] in
     let h : PassHolds (before ++ one ∷ one ∷ []) false =

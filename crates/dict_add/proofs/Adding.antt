@@ -6,15 +6,14 @@ use mathlib.Core.Path.{_≡_, refl, sym, ap, _∙_}
 use mathlib.Core.Bool.{Bool, true, false, cond}
 use mathlib.Core.List.{List}
 use native.Mathlib.Omega.{arith}
-use lib.ListN.{length, getD, set}
+use lib.ListN.{length}
 use Rattle.model.specs.declared.State.{State}
 use Rattle.model.specs.declared.Table.{Table}
 use Rattle.model.specs.declared.Error.{Error}
 use Rattle.model.specs.declared.Lookup.{Lookup}
 use Rattle.model.specs.declared.AddAnswer.{AddAnswer}
-use Rattle.model.specs.Keys.{bucketOf}
-use Rattle.model.specs.Memory.{linkOf, setEntry, sizeOf, bucketsOf, keysHeld}
-use Rattle.model.specs.Calls.{After, changed, both, lookup, push, pushed, takeable, target, added, addAlone, isAdded, addAfterStep}
+use Rattle.model.specs.Memory.{sizeOf, bucketsOf, keysHeld}
+use Rattle.model.specs.Calls.{After, changed, both, lookup, takeable, target, added, addAlone, isAdded, addAfterStep}
 use Rattle.model.proofs.Soundness.{Sound, Counted, tells-sound, tested-counts}
 use Rattle.model.proofs.Tests.{told}
 use Rattle.memory.specs.Lent.{soundLent}
@@ -25,8 +24,10 @@ use Rattle.search.specs.Tables.{searchedIn}
 use Rattle.search.proofs.Lookups.{lookup-resting, lookup-rehashing}
 use Rattle.dict_rehash.proofs.Due.{none-due-resting}
 use Rattle.after_step.proofs.StepFirst.{first-alone, first-unsound}
+use Rattle.add_stepping.specs.Counts.{oneMore}
+use Rattle.add_stepping.proofs.Taking.{taken}
 use Rattle.dict_add.specs.declared.add.Push.{Push}
-use Rattle.dict_add.specs.Push.{Left, pushFree, pushFound, oneMore, pushAnswer}
+use Rattle.dict_add.specs.Push.{Left, pushFree, pushFound, pushAnswer}
 
 -- On the current and the other buffer.
 
@@ -41,13 +42,6 @@ module _ (s : State) (current other entries : List ℕ) (key value : ℕ) (t : T
   kept Table.Old a = refl
   kept Table.New a = refl
 
-  pub taken : changed t (AddAnswer.Added (oneMore s (target (s .rehashing)) (linkOf entries (s .«free_head»)))) current other
-      (set (bucketsOf current other t) (bucketOf key (sizeOf s t)) (s .«free_head»))
-      (setEntry entries (s .«free_head») (getD (bucketsOf current other t) (bucketOf key (sizeOf s t)) 0) key value)
-      ≡ pushed s current other entries key value (target (s .rehashing))
-  unfolding pushed push setEntry oneMore
-  taken = rw e
-
   after-cond : (f : Bool) (x y : Left)
       → afterLeft s current other t (cond f x y) ≡ cond f (afterLeft s current other t x) (afterLeft s current other t y)
   after-cond true x y = refl
@@ -61,7 +55,7 @@ module _ (s : State) (current other entries : List ℕ) (key value : ℕ) (t : T
   unfolding afterLeft pushFree pushFound foundOf pushAnswer added takeable
   added-by held h Lookup.Damaged = kept t _
   added-by held h (Lookup.At u before n) = kept t _
-  added-by held h Lookup.Absent = simp (h, after-cond, kept, taken)
+  added-by held h Lookup.Absent = simp (h, after-cond, kept, taken s current other entries key value t e)
 
 -- What a sound state gives, whichever buffer is current.
 
@@ -161,14 +155,3 @@ module _ (s : State) (r : Push) where
   pub answered-by : (x y e : List ℕ) (meant : After AddAnswer) (a : AddAnswer) → After.after (pushAnswer s r) x y e ≡ meant
       → a ≡ pushAnswer s r → After.after a x y e ≡ meant
   answered-by x y e meant a h p = ap (λ (b : AddAnswer). After.after b x y e) p ∙ h
-
--- One key more.
-
-module _ (s : State) (free : ℕ) where
-  pub more-old : s .rehashing ≡ false → oneMore s Table.Old free ≡ oneMore s (target (s .rehashing)) free
-  unfolding target
-  more-old e = ap (λ (f : Bool). oneMore s (target f) free) (sym e)
-
-  pub more-new : s .rehashing ≡ true → oneMore s Table.New free ≡ oneMore s (target (s .rehashing)) free
-  unfolding target
-  more-new e = ap (λ (f : Bool). oneMore s (target f) free) (sym e)

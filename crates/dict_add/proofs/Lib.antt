@@ -1,5 +1,4 @@
--- What the steps of add come to in numbers, and from there to the definition: with no rehash, and after a step.
+-- What the steps of add come to in numbers, and from there to the definition: with no rehash, and during one.
 mod Pushing
 mod Adding
-mod Answering
-mod AddingAfter
+mod During

@@ -1,4 +1,2 @@
--- What the functions below the public call hand up and leave, of which it makes its answer; and what is known where a step
--- comes first.
+-- What the functions below the public call hand up and leave, of which it makes its answer.
 pub mod Push
-pub mod Moving

@@ -1,18 +1,18 @@
 -- What the functions below add hand up with no rehash, and what they promise, in numbers: they know one table and no state.
 -- Add makes its answer of it.
-use Prim.Native.Nat.{ℕ, _+_}
+use Prim.Native.Nat.{ℕ}
 use mathlib.Core.Bool.{_&&_, not, cond}
 use mathlib.Core.List.{List}
 use lib.ListN.{getD, set}
 use lib.Dec.{leb, eqb}
 use Rattle.model.specs.declared.State.{State}
-use Rattle.model.specs.declared.Table.{Table}
 use Rattle.model.specs.declared.Error.{Error}
 use Rattle.model.specs.declared.AddAnswer.{AddAnswer}
 use Rattle.model.specs.Keys.{bucketOf}
-use Rattle.model.specs.Memory.{linkOf, setEntry, usedOf}
-use Rattle.model.specs.Calls.{recounted, withCount, target}
+use Rattle.model.specs.Memory.{linkOf, setEntry}
+use Rattle.model.specs.Calls.{target}
 use Rattle.search.specs.declared.found.Found.{Found}
+use Rattle.add_stepping.specs.Counts.{oneMore}
 use Rattle.dict_add.specs.declared.add.Push.{Push}
 
 -- what is handed up, and the table's buckets and the entries as they are left
@@ -34,10 +34,6 @@ unfoldable pub pushFound : List ℕ → List ℕ → Left → Found → Left
 pushFound buckets entries absent Found.Damaged = Left.left (Push.Refused Error.Damaged) buckets entries
 pushFound buckets entries absent Found.Absent = absent
 pushFound buckets entries absent (Found.At n) = Left.left (Push.Refused Error.Present) buckets entries
-
--- one key more in a table, and another free head
-unfoldable pub oneMore : State → Table → ℕ → State
-oneMore s t free = recounted s free (withCount s t (usedOf s t + 1))
 
 unfoldable pub pushAnswer : State → Push → AddAnswer
 pushAnswer s (Push.Refused e) = AddAnswer.Refused e

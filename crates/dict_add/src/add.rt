@@ -2,15 +2,10 @@
 // lengths, then whether a rehash is under way, then which buffer is current. With no rehash there are functions of numbers below
 // that. During one a step comes first ("The step that comes first"), unless safe iterators hold it up, and all that can refuse
 // is asked before it; `add_during` has two callers, and so stays a call of its own, off the quick path.
-use after_step::link::link_after_step;
-use after_step::presence::Presence;
-use after_step::presence::presence_in;
-use dict_rehash::rehash::Progress;
-use dict_rehash::rehash::state_after;
-use dict_rehash::rehash::take_step;
+use add_stepping::entry::one_more;
+use add_stepping::entry::push_entry;
+use add_stepping::moving::add_moving;
 use memory::entry::link_of;
-use memory::entry::set_entry;
-use memory::state::bucket_index;
 use memory::state::is_sound_lent;
 use model::AddAnswer;
 use model::Error;
@@ -20,19 +15,17 @@ use search::found::entry_in;
 use search::found::entry_in_both;
 ghost use mathlib.Core.Path.{_≡_};
 ghost use mathlib.Core.Bool.{true, false};
-ghost use Prim.Native.Nat.{_≤_, _<_};
-ghost use lib.ListN.{length, getD, set};
+ghost use Prim.Native.Nat.{_≤_};
+ghost use lib.ListN.{length};
 ghost use Rattle.model.specs.declared.Table.{Table};
-ghost use Rattle.model.specs.Keys.{bucketOf};
-ghost use Rattle.model.specs.Memory.{setEntry};
 ghost use Rattle.model.specs.Calls as calls;
 ghost use Rattle.model.specs.Calls.After.{after};
 ghost use Rattle.model.proofs.Soundness.{Sound, Counted};
 ghost use Rattle.memory.specs.Lent.{soundLent};
 ghost use Rattle.search.specs.Tables.{searchedIn, Readable};
 ghost use Rattle.search.specs.Found.{foundOf};
-ghost use Rattle.dict_add.specs.Moving.{addMoving, movedState, Plan, Room, Takes};
-ghost use Rattle.dict_add.specs.Push.{pushFree, pushFound, oneMore, pushAnswer};
+ghost use Rattle.add_stepping.specs.Moving.{addMoving};
+ghost use Rattle.dict_add.specs.Push.{pushFree, pushFound, pushAnswer};
 ghost use Rattle.dict_add.specs.Push.Left.{left};
 
 // What happened to the buffers, in numbers: the public call makes the answer of it.
@@ -40,19 +33,6 @@ enum Push {
     Refused(Error),
     // The first free entry is taken, and this is the free list's next one.
     Done(u32),
-}
-
-// Entry n, with the key and the value, at the head of the key's bucket.
-fn push_entry(buckets: &mut [u32], entries: &mut [u32], size: u32, n: u32, key: u32, value: u32)
-    requires { ⌜ 0 < n ⌝ }
-    requires { ⌜ Readable size (length (now buckets)) n (length (now entries)) ⌝ }
-    ensures { λ _. ⌜ now (buckets .exit) ≡ set (now (buckets .entry)) (bucketOf key size) n ⌝ }
-    ensures { λ _. ⌜ now (entries .exit)
-        ≡ setEntry (now (entries .entry)) n (getD (now (buckets .entry)) (bucketOf key size) 0) key value ⌝ }
-{
-    let b = bucket_index(key, size);
-    set_entry(entries, n, buckets[b], key, value);
-    buckets[b] = n;
 }
 
 // The key is on no chain: take the first free entry. Only it and its link are read of the free list, and nothing is
@@ -173,22 +153,6 @@ fn push_resting(
     }
 }
 
-// One key more in the table that keys are added to, and another free head.
-fn one_more(s: State, free: u32) -> State
-    requires { ⌜ Counted s ⌝ }
-    ensures { λ r. ⌜ r ≡ oneMore s (calls.target (s .rehashing)) free ⌝ }
-{
-    let mut n = s;
-    n.free_head = free;
-    if s.rehashing {
-        n.new_used = s.new_used + 1;
-        n
-    } else {
-        n.old_used = s.old_used + 1;
-        n
-    }
-}
-
 // The answer, of what happened to the buffers.
 fn answer_of(s: State, pushed: Push) -> AddAnswer
     requires { ⌜ Counted s ⌝ }
@@ -197,118 +161,6 @@ fn answer_of(s: State, pushed: Push) -> AddAnswer
     match pushed {
         Push::Refused(e) => AddAnswer::Refused(e),
         Push::Done(free) => AddAnswer::Added(one_more(s, free)),
-    }
-}
-
-// The first free entry into what a step leaves that moved so many keys: into the new table, which lies in the other buffer
-// whether the rehash goes on or is over.
-fn push_moved(
-    other: &mut [u32],
-    entries: &mut [u32],
-    s: State,
-    count: u32,
-    next: u32,
-    key: u32,
-    value: u32,
-    link: u32,
-) -> State
-    requires { ⌜ Readable (s .«new_size») (length (now other)) (s .«free_head») (length (now entries)) ⌝ }
-    requires { ⌜ (0 < s .«free_head») × (count ≤ s .«old_used») ⌝ }
-    requires { ⌜ Counted s ⌝ }
-    ensures { λ r. ⌜ r ≡ movedState s count next link ⌝ }
-    ensures { λ _. ⌜ now (other .exit) ≡ set (now (other .entry)) (bucketOf key (s .«new_size»)) (s .«free_head») ⌝ }
-    ensures { λ _. ⌜ now (entries .exit) ≡ setEntry (now (entries .entry)) (s .«free_head»)
-        (getD (now (other .entry)) (bucketOf key (s .«new_size»)) 0) key value ⌝ }
-{
-    push_entry(other, entries, s.new_size, s.free_head, key, value);
-    one_more(state_after(s, count, next), link)
-}
-
-// The step for real, and the entry. What was told says that no test of either fails.
-fn step_and_push(
-    current: &mut [u32],
-    other: &mut [u32],
-    entries: &mut [u32],
-    s: State,
-    key: u32,
-    value: u32,
-    link: u32,
-) -> AddAnswer
-    requires { ⌜ Takes s (now current) (now other) (now entries) key link ⌝ }
-    ensures { λ r. ⌜ after r (now (current .exit)) (now (other .exit)) (now (entries .exit))
-        ≡ addMoving s (now (current .entry)) (now (other .entry)) (now (entries .entry)) key value ⌝ }
-{
-    let progress = take_step(current, other, entries, s);
-    match progress {
-        Progress::Refused(e) => AddAnswer::Refused(e),
-        Progress::Moved(count, next) => {
-            AddAnswer::Added(push_moved(other, entries, s, count, next, key, value, link))
-        }
-    }
-}
-
-// There is room: the link of the first free entry decides. In damaged memory the step may change it.
-fn take_free(
-    current: &mut [u32],
-    other: &mut [u32],
-    entries: &mut [u32],
-    s: State,
-    key: u32,
-    value: u32,
-) -> AddAnswer
-    requires { ⌜ Room s (now current) (now other) (now entries) key ⌝ }
-    ensures { λ r. ⌜ after r (now (current .exit)) (now (other .exit)) (now (entries .exit))
-        ≡ addMoving s (now (current .entry)) (now (other .entry)) (now (entries .entry)) key value ⌝ }
-{
-    let link = link_after_step(current, other, entries, s, s.free_head);
-    if link <= s.capacity {
-        step_and_push(current, other, entries, s, key, value, link)
-    } else {
-        AddAnswer::Refused(Error::Damaged)
-    }
-}
-
-// The key is on no chain once the step is taken. The step keeps the keys held, the capacity and the free head.
-fn add_absent(
-    current: &mut [u32],
-    other: &mut [u32],
-    entries: &mut [u32],
-    s: State,
-    key: u32,
-    value: u32,
-) -> AddAnswer
-    requires { ⌜ Plan s (now current) (now other) (now entries) key ⌝ }
-    ensures { λ r. ⌜ after r (now (current .exit)) (now (other .exit)) (now (entries .exit))
-        ≡ addMoving s (now (current .entry)) (now (other .entry)) (now (entries .entry)) key value ⌝ }
-{
-    if s.old_used + s.new_used == s.capacity {
-        return AddAnswer::Refused(Error::Full);
-    }
-    if s.free_head == 0 {
-        return AddAnswer::Refused(Error::Damaged);
-    }
-    take_free(current, other, entries, s, key, value)
-}
-
-// A step comes first, and a refusal leaves all as it was: what is told of the memory after the step decides.
-fn add_moving(
-    current: &mut [u32],
-    other: &mut [u32],
-    entries: &mut [u32],
-    s: State,
-    key: u32,
-    value: u32,
-) -> AddAnswer
-    requires { ⌜ Sound s (length (now current)) (length (now other)) (length (now entries)) ⌝ }
-    requires { ⌜ calls.stepDue s ≡ true ⌝ }
-    ensures { λ r. ⌜ after r (now (current .exit)) (now (other .exit)) (now (entries .exit))
-        ≡ addMoving s (now (current .entry)) (now (other .entry)) (now (entries .entry)) key value ⌝ }
-{
-    let presence = presence_in(current, other, entries, s, key);
-    match presence {
-        Presence::Damaged => AddAnswer::Refused(Error::Damaged),
-        Presence::Held => AddAnswer::Refused(Error::Present),
-        Presence::Absent => add_absent(current, other, entries, s, key, value),
     }
 }
 

@@ -2,7 +2,8 @@
 -- Assumes nothing.
 use borrow.Author.Needs.{needs}
 use Rattle.dict_rehash.proofs.Due.{due-of}
-use Rattle.dict_add.proofs.AddingAfter.{counts-sound, moving-alone}
+use Rattle.add_stepping.proofs.AddingAfter.{counts-sound}
+use Rattle.dict_add.proofs.During.{moving-alone}
 use Rattle.dict_add.proofs.add.add_during.Statement.{statement}
 use Rattle.dict_add.proofs.add.add_during.Tie as tie
 

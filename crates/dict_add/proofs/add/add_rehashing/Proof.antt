@@ -2,7 +2,7 @@
 -- Assumes nothing.
 use borrow.Author.Needs.{needs}
 use Rattle.memory.proofs.Tested.{lent-first, lent-second}
-use Rattle.dict_add.proofs.AddingAfter.{moving-first, moving-second}
+use Rattle.dict_add.proofs.During.{moving-first, moving-second}
 use Rattle.dict_add.proofs.add.add_rehashing.Statement.{statement}
 use Rattle.dict_add.proofs.add.add_rehashing.Tie as tie
 

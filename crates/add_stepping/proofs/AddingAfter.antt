@@ -15,7 +15,7 @@ use Rattle.model.specs.declared.AddAnswer.{AddAnswer}
 use Rattle.model.specs.declared.StepAnswer.{StepAnswer}
 use Rattle.model.specs.Keys.{bucketOf}
 use Rattle.model.specs.Memory.{linkOf, setEntry, sizeOf, bucketsOf, keysHeld, soundState}
-use Rattle.model.specs.Calls.{After, sound, oriented, back, writing, changed, stateOf, oldNew, retabled, lookup, pushed, target, takeable, added, addAlone, advanced, finished, settled, stepDone, stepTaken, stepped, rehashStep, stepDue, isAdded, addAfterStep}
+use Rattle.model.specs.Calls.{After, sound, oriented, back, writing, changed, stateOf, oldNew, retabled, pushed, target, takeable, addAlone, advanced, finished, settled, stepDone, stepTaken, stepped, rehashStep, stepDue, isAdded, addAfterStep}
 use Rattle.model.proofs.Soundness.{Sound, Counted, sound-test}
 use Rattle.model.proofs.StepLeaves.{Follows, StepLeaves, step-leaves}
 use Rattle.memory.specs.Lent.{soundLent}
@@ -23,16 +23,15 @@ use Rattle.memory.proofs.Orientation.{writing-sound}
 use Rattle.search.specs.Tables.{lookupLent, Readable}
 use Rattle.dict_rehash.specs.declared.rehash.Progress.{Progress}
 use Rattle.dict_rehash.specs.Progress.{stepAnswer}
-use Rattle.dict_rehash.proofs.Due.{none-due-paused, due-rehashing, due-unpaused, due-stepped}
+use Rattle.dict_rehash.proofs.Due.{due-rehashing, due-unpaused, due-stepped}
 use Rattle.after_step.specs.declared.presence.Presence.{Presence}
 use Rattle.after_step.specs.Presence.{presence, presenceAfter, presenceThen, entriesAfter}
 use Rattle.after_step.specs.Planned.{Planned}
-use Rattle.after_step.proofs.StepFirst.{is-absent, StepTaken, then-damaged, step-taken, first-alone, first-done, first-refused}
-use Rattle.dict_add.specs.declared.add.Push.{Push}
-use Rattle.dict_add.specs.Push.{oneMore, pushAnswer}
-use Rattle.dict_add.specs.Moving.{firstOf, secondOf, addMoving, movedState, Plan, Room, Takes}
-use Rattle.dict_add.proofs.Adding.{taken, answered-by}
-use Rattle.dict_add.proofs.Answering.{addAnswer, alone-answer, told-damaged, told-held, absent-full, absent-bad, none-free, bad-link, good-link, pushedLent, alone-pushes}
+use Rattle.after_step.proofs.StepFirst.{is-absent, StepTaken, then-damaged, step-taken, first-done, first-refused}
+use Rattle.add_stepping.specs.Counts.{oneMore}
+use Rattle.add_stepping.specs.Moving.{firstOf, secondOf, addMoving, movedState, Plan, Room, Takes}
+use Rattle.add_stepping.proofs.Taking.{taken}
+use Rattle.add_stepping.proofs.Answering.{addAnswer, alone-answer, told-damaged, told-held, absent-full, absent-bad, none-free, bad-link, good-link, pushedLent, alone-pushes}
 
 -- ---- the current and the other buffer, and the lent ones
 
@@ -47,7 +46,7 @@ module _ {A : Type 0} where
   lent-back false a c o z = refl
   lent-back true a c o z = refl
 
-  twice-back : (f : Bool) (m : After A) → back f (back f m) ≡ m
+  pub twice-back : (f : Bool) (m : After A) → back f (back f m) ≡ m
   unfolding back
   twice-back false m = refl
   twice-back true (After.after a x y z) = refl
@@ -72,7 +71,7 @@ module _ (s : State) (current other entries : List ℕ) where
         pick true = sound-test s current other entries h
 
     -- a call on the lent buffers is the call on the current and the other one
-    lent-writing : {A : Type 0} (refusal : A) (call : List ℕ → List ℕ → After A)
+    pub lent-writing : {A : Type 0} (refusal : A) (call : List ℕ → List ℕ → After A)
         → back (s .«second_is_current») (call current other) ≡ writing s first second entries refusal call
     unfolding oriented
     lent-writing refusal call =
@@ -358,42 +357,3 @@ module _ (s : State) (current other entries : List ℕ) (key value link : ℕ) (
         (first-done AddAnswer.Refused isAdded (λ t x y z. addAlone t x y z key value) s (first s current other entries)
         (second s current other entries) entries (plan .due) count t x y z (AddAnswer.Added u) (firstOf f c b) (secondOf f c b) w
         (world .step) (there ∙ alone) refl)
-
--- ---- safe iterators hold up the step
-
-module _ (s : State) (current other entries : List ℕ) (key value : ℕ) where
-  alone-there : Sound s (length current) (length other) (length entries) → (s .«safe_iterators» ≡ 0 → ⊥)
-      → added s current other entries key value (lookup s current other entries key)
-      ≡ addMoving s current other entries key value
-  unfolding addMoving addAfterStep addAlone
-  alone-there h i =
-      let f = s .«second_is_current» in
-      let m = added s current other entries key value (lookup s current other entries key) in
-      sym (twice-back f m)
-      ∙ ap (back f)
-      (first-alone AddAnswer.Refused isAdded (λ t x y z. addAlone t x y z key value) s (first s current other entries)
-      (second s current other entries) entries (back f m) (none-due-paused s i)
-      (lent-writing s current other entries h (AddAnswer.Refused Error.BadState)
-      (λ c o. added s c o entries key value (lookup s c o entries key))))
-
-  pub moving-alone : Sound s (length current) (length other) (length entries) → (s .«safe_iterators» ≡ 0 → ⊥)
-      → (r : Push) (a : AddAnswer) (o z : List ℕ)
-      → After.after (pushAnswer s r) current o z ≡ added s current other entries key value (lookup s current other entries key)
-      → a ≡ pushAnswer s r → After.after a current o z ≡ addMoving s current other entries key value
-  moving-alone h i r a o z e p = answered-by s r current o z _ a e p ∙ alone-there h i
-
--- ---- on the lent buffers
-
-module _ (s : State) (first second entries : List ℕ) (key value : ℕ) (a : AddAnswer) (x y z : List ℕ) where
-  pub moving-first : s .«second_is_current» ≡ false → After.after a x y z ≡ addMoving s first second entries key value
-      → After.after a x y z ≡ addAfterStep s first second entries key value
-  unfolding addMoving oriented back
-  moving-first f h =
-      h ∙ ap (λ (g : Bool). back g (addAfterStep s (firstOf g first second) (secondOf g first second) entries key value)) f
-
-  pub moving-second : s .«second_is_current» ≡ true → After.after a x y z ≡ addMoving s second first entries key value
-      → After.after a y x z ≡ addAfterStep s first second entries key value
-  unfolding addMoving oriented back
-  moving-second f h =
-      ap (back true) (h ∙ ap (λ (g : Bool). back g (addAfterStep s (firstOf g second first) (secondOf g second first) entries key value)) f)
-      ∙ twice-back true (addAfterStep s first second entries key value)

@@ -1,9 +1,9 @@
--- `dict_add::add::add_absent` meets its contract: what the step keeps is tested in the order of the answers.
+-- `add_stepping::moving::add_absent` meets its contract: what the step keeps is tested in the order of the answers.
 -- Assumes nothing.
 use borrow.Author.Needs.{needs}
-use Rattle.dict_add.proofs.AddingAfter.{add-full, add-none-free}
-use Rattle.dict_add.proofs.add.add_absent.Statement.{statement}
-use Rattle.dict_add.proofs.add.add_absent.Tie as tie
+use Rattle.add_stepping.proofs.AddingAfter.{add-full, add-none-free}
+use Rattle.add_stepping.proofs.moving.add_absent.Statement.{statement}
+use Rattle.add_stepping.proofs.moving.add_absent.Tie as tie
 
 -- refused as full, and no step is taken
 returns : tie.Need-returns

@@ -1,11 +1,11 @@
--- `dict_add::add::step_and_push` meets its contract: the step is answered, and the first free entry goes into what it leaves.
+-- `add_stepping::moving::step_and_push` meets its contract: the step is answered, and the first free entry goes into what it leaves.
 -- Assumes nothing.
 use borrow.Author.Needs.{needs}
 use Rattle.dict_rehash.proofs.Due.{due-rehashing}
 use Rattle.dict_rehash.proofs.Stepping.{moved-old}
-use Rattle.dict_add.proofs.AddingAfter.{other-readable, counts-before, add-stopped, add-taken}
-use Rattle.dict_add.proofs.add.step_and_push.Statement.{statement}
-use Rattle.dict_add.proofs.add.step_and_push.Tie as tie
+use Rattle.add_stepping.proofs.AddingAfter.{other-readable, counts-before, add-stopped, add-taken}
+use Rattle.add_stepping.proofs.moving.step_and_push.Statement.{statement}
+use Rattle.add_stepping.proofs.moving.step_and_push.Tie as tie
 
 -- the entry goes by what the step leaves
 returns-2 : tie.Need-returns-2

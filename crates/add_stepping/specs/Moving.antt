@@ -12,7 +12,7 @@ use Rattle.model.specs.Calls.{After, oriented, back, target, advanced, settled,
 use Rattle.model.proofs.Soundness.{Sound}
 use Rattle.after_step.specs.declared.presence.Presence.{Presence}
 use Rattle.after_step.specs.Presence.{presenceThen, entriesAfter}
-use Rattle.dict_add.specs.Push.{oneMore}
+use Rattle.add_stepping.specs.Counts.{oneMore}
 
 -- the lent buffers, from the current and the other one
 abbrev pub firstOf : Bool → List ℕ → List ℕ → List ℕ

@@ -1,13 +1,13 @@
--- `dict_add::add::one_more` meets its contract: one count has gone up, and within the limit of the capacity it fits.
+-- `add_stepping::entry::one_more` meets its contract: one count has gone up, and within the limit of the capacity it fits.
 -- Assumes nothing.
 use native.Mathlib.Omega.{arith}
 use Rattle.model.specs.Limits.{largestCapacity}
 use Rattle.model.specs.Memory.{sizeOf, usedOf}
 use Rattle.model.specs.Calls.{stateOf, oldNew, recounted, withCount}
-use Rattle.dict_add.specs.Push.{oneMore}
-use Rattle.dict_add.proofs.Adding.{more-old, more-new}
-use Rattle.dict_add.proofs.add.one_more.Statement.{statement}
-use Rattle.dict_add.proofs.add.one_more.Tie as tie
+use Rattle.add_stepping.specs.Counts.{oneMore}
+use Rattle.add_stepping.proofs.Taking.{more-old, more-new}
+use Rattle.add_stepping.proofs.entry.one_more.Statement.{statement}
+use Rattle.add_stepping.proofs.entry.one_more.Tie as tie
 
 pub one-more-spec : {M : Type 1} → statement M
 unfolding largestCapacity oneMore recounted stateOf withCount oldNew sizeOf usedOf

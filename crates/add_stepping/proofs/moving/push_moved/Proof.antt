@@ -1,9 +1,9 @@
--- `dict_add::add::push_moved` meets its contract: the entry stands in the other buffer, and is counted in the state then.
+-- `add_stepping::moving::push_moved` meets its contract: the entry stands in the other buffer, and is counted in the state then.
 -- Assumes nothing.
 use borrow.Author.Needs.{needs}
-use Rattle.dict_add.proofs.AddingAfter.{state-then, counts-then}
-use Rattle.dict_add.proofs.add.push_moved.Statement.{statement}
-use Rattle.dict_add.proofs.add.push_moved.Tie as tie
+use Rattle.add_stepping.proofs.AddingAfter.{state-then, counts-then}
+use Rattle.add_stepping.proofs.moving.push_moved.Statement.{statement}
+use Rattle.add_stepping.proofs.moving.push_moved.Tie as tie
 
 -- the state counts the entry and the keys that moved, and the entry heads its bucket
 returns : tie.Need-returns

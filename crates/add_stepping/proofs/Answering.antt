@@ -21,7 +21,7 @@ use Rattle.search.specs.Tables.{lookupLent}
 use Rattle.after_step.specs.declared.presence.Presence.{Presence}
 use Rattle.after_step.specs.Presence.{presence}
 use Rattle.after_step.proofs.StepFirst.{answerOf, answer-by, is-damaged, is-held}
-use Rattle.dict_add.specs.Push.{oneMore}
+use Rattle.add_stepping.specs.Counts.{oneMore}
 
 -- What an add alone answers, by what the lookup finds.
 

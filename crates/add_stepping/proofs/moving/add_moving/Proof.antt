@@ -1,10 +1,10 @@
--- `dict_add::add::add_moving` meets its contract: what is told of the memory after the step decides.
+-- `add_stepping::moving::add_moving` meets its contract: what is told of the memory after the step decides.
 -- Assumes nothing.
 use borrow.Author.Needs.{needs}
 use Rattle.dict_rehash.proofs.Due.{due-rehashing}
-use Rattle.dict_add.proofs.AddingAfter.{plan-of, add-damaged, add-present}
-use Rattle.dict_add.proofs.add.add_moving.Statement.{statement}
-use Rattle.dict_add.proofs.add.add_moving.Tie as tie
+use Rattle.add_stepping.proofs.AddingAfter.{plan-of, add-damaged, add-present}
+use Rattle.add_stepping.proofs.moving.add_moving.Statement.{statement}
+use Rattle.add_stepping.proofs.moving.add_moving.Tie as tie
 
 -- refused as present, and no step is taken
 returns-2 : tie.Need-returns-2

@@ -1,9 +1,9 @@
--- `dict_add::add::push_entry` meets its contract: the bucket's index is below the size, so the entry and the bucket are
+-- `add_stepping::entry::push_entry` meets its contract: the bucket's index is below the size, so the entry and the bucket are
 -- written within their buffers.
 -- Assumes nothing.
 use borrow.Author.Needs.{needs}
-use Rattle.dict_add.proofs.add.push_entry.Statement.{statement}
-use Rattle.dict_add.proofs.add.push_entry.Tie as tie
+use Rattle.add_stepping.proofs.entry.push_entry.Statement.{statement}
+use Rattle.add_stepping.proofs.entry.push_entry.Tie as tie
 
 pub push-entry-spec : {M : Type 1} → statement M
 push-entry-spec =

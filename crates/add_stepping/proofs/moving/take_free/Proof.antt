@@ -1,10 +1,10 @@
--- `dict_add::add::take_free` meets its contract: the link of the first free entry, as the step leaves it, decides.
+-- `add_stepping::moving::take_free` meets its contract: the link of the first free entry, as the step leaves it, decides.
 -- Assumes nothing.
 use borrow.Author.Needs.{needs}
 use Rattle.dict_rehash.proofs.Due.{due-rehashing}
-use Rattle.dict_add.proofs.AddingAfter.{add-bad-link}
-use Rattle.dict_add.proofs.add.take_free.Statement.{statement}
-use Rattle.dict_add.proofs.add.take_free.Tie as tie
+use Rattle.add_stepping.proofs.AddingAfter.{add-bad-link}
+use Rattle.add_stepping.proofs.moving.take_free.Statement.{statement}
+use Rattle.add_stepping.proofs.moving.take_free.Tie as tie
 
 -- the step and the add are the answer
 returns : tie.Need-returns

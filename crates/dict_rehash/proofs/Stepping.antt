@@ -1,7 +1,7 @@
 -- What a rehash step comes to, from its tests and the functions that it calls.
 -- Assumes nothing.
 use Prim.Native.Nat.{ℕ, _+_, _*_, _-_, _≤_, _<_}
-use mathlib.Core.Path.{_≡_, sym, ap, _∙_}
+use mathlib.Core.Path.{_≡_, sym, _∙_}
 use mathlib.Core.Bool.{Bool, true, false}
 use mathlib.Core.List.{List}
 use mathlib.Core.Option.{Option, some}
@@ -16,9 +16,9 @@ use Rattle.model.specs.declared.Error.{Error}
 use Rattle.model.specs.declared.Ahead.{Ahead}
 use Rattle.model.specs.declared.StepAnswer.{StepAnswer}
 use Rattle.model.specs.Limits.{legalSize}
-use Rattle.model.specs.Memory.{sizeOf, usedOf, bucketsOf, chain, headAt, budgetAt, belongs, chainAt, listed, soundState}
+use Rattle.model.specs.Memory.{sizeOf, usedOf, bucketsOf, chain, headAt, budgetAt, belongs, chainAt, listed}
 use Rattle.model.specs.Calls.{After, Chains, stateOf, oldNew, retabled, moved, advanced, finished, settled, stepDone, movedChain, movedFrom, ahead, aheadOf, stepTaken, stepped}
-use Rattle.model.proofs.Soundness.{Sound, tested-sound}
+use Rattle.model.proofs.Soundness.{Sound}
 use Rattle.model.proofs.StepAhead.{filled-below}
 use Rattle.model.proofs.Linked.{Linked, room, read-sound, linked-wider}
 use Rattle.memory.specs.declared.chain.ChainLength.{ChainLength}

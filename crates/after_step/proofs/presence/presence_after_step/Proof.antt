@@ -1,6 +1,5 @@
 -- `after_step::presence::presence_after_step` meets its contract: the state's flag says which buffer is the current one.
 -- Assumes nothing.
-use borrow.Author.Needs.{needs}
 use Rattle.memory.proofs.Tested.{lent-first, lent-second}
 use Rattle.dict_rehash.proofs.Due.{due-rehashing}
 use Rattle.after_step.proofs.Deciding.{lent-first-step, lent-second-step}

@@ -37,7 +37,7 @@ loop-less : tie.Need-loop-less Inv-loop μ-loop
 loop-less c = search turn-less
 
 loop-again : tie.Need-loop-again Inv-loop μ-loop
-loop-again c = search gathering-next
+loop-again c = search (gathering-next, c .before .before .before .before .before .before .before .before .before .before .before .before .before .before .before .before .before .before .before .loop .inv)
 
 returns-2 : tie.Need-returns-2 Inv-loop μ-loop
 unfolding programLimit

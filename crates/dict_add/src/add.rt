@@ -204,7 +204,7 @@ fn push_paused(
     )
 }
 
-// On the current and the other bucket buffer.
+// On the current and the other bucket buffer: with a step first, unless safe iterators hold it up.
 fn add_during(
     current: &mut [u32],
     other: &mut [u32],

@@ -1,21 +1,20 @@
 -- What a block has, and what is still to be written, as lines run.
 -- Assumes nothing.
-use Prim.Native.Nat.{ℕ, suc, _+_, _-_, _*_, _^_, _≤_, _<_}
+use Prim.Native.Nat.{ℕ, suc, _+_, _-_, _≤_, _<_}
 use mathlib.Core.Path.{_≡_, refl, sym, ap, _∙_, subst}
-use mathlib.Core.Bool.{Bool, true, false}
-use mathlib.Core.Logic.{_⊎_, inl, inr}
+use mathlib.Core.Bool.{Bool, true, false, _&&_}
 use mathlib.Core.List.{List, [], _∷_, _++_, append-nil, append-assoc}
 use native.Mathlib.Nat.{add-zero, add-suc, suc-add}
 use native.Mathlib.Numerals.{add-one}
 use native.Mathlib.Omega.{arith}
+use native.Mathlib.Decide.{ℕ-discrete}
 use lib.ListN.{length, take, drop, set, length-set, length-append, length-drop}
 use lib.Seq.{length-take-le, take-append-le, take-append-add, take-suc-set, append-snoc}
-use lib.Dec.{ltb}
-use borrow.Author.Tests.{ltb-true, ltb-false}
-use mir.Syntax.{w64}
-use mir.Val.{Fits}
+use lib.Dec.{ltb, leb}
+use borrow.Author.Tests.{ltb-true, lt-ltb, ltb-false, leb-false}
 use Rattle.model.specs.declared.State.{State}
 use Rattle.model.specs.Sequences.{World, world}
+use Rattle.model.proofs.Tests.{told, tells, tells-and, tells-le}
 use Rattle.script.specs.declared.line.NextLine.{NextLine}
 use Rattle.script.specs.Lines.{linesOf}
 use Rattle.script.specs.Answers.{put}
@@ -23,7 +22,7 @@ use Rattle.script.specs.Places.{linesFrom, Reaches}
 use Rattle.script.specs.Program.{Ran, andThen, runLine, runLines, programLimit}
 use Rattle.script_run.specs.Runs.{pairRoom, lineRoom, Runs}
 use Rattle.script_block.specs.Blocks.{RunsBlock}
-use Rattle.script_block.specs.Turns.{blockRoom, Room, RunsInto}
+use Rattle.script_block.specs.Turns.{blockRoom, Room, RunsInto, RunsOne}
 use Rattle.script.proofs.Writing.{wrote-length}
 use Rattle.script_block.proofs.Lines.{one-more}
 
@@ -67,7 +66,8 @@ module _ (block : List ℕ) (filled : ℕ) (lent : List ℕ) (room : Room block 
         ∙ ap (take (0 + length (runLine w lent line .written))) (ran .line .wrote .buffer)
         ∙ put-front part 0 (runLine w lent line .written) (omega (arith, ran .line .short, part-room, ran .line .wrote .behind))
 
-    pub ran-into : (post : List ℕ) → RunsInto (runLine w lent line) w′ lent′ block filled (take filled block ++ (out ++ post)) n
+    pub ran-into : (post : List ℕ) → RunsInto (runLine w lent line) w′ lent′ block filled (take filled block ++ (out ++ post))
+        (filled + n)
     unfolding part
     ran-into post =
         let r = room .answer in
@@ -87,9 +87,49 @@ module _ (block : List ℕ) (filled : ℕ) (lent : List ℕ) (room : Room block 
                 length-append (take filled block) (out ++ post),
                 length-append out post,
               );
-          short = ran .line .short;
           world = ran .world;
           lent = ran .list;
+        }
+
+    pub ran-fits : filled + n ≤ blockRoom
+    ran-fits = omega (arith, room .whole, room .answer, ran .line .short)
+
+-- The next line, where there is one
+
+module _ (script : List ℕ) (from : ℕ) (found : NextLine) (reaches : Reaches (length script) from found) where
+  -- there is one
+  pub line-there : (w : World) (lent : List ℕ) (before : List ℕ) (filled : ℕ) (w′ : World) (lent′ : List ℕ) (next : ℕ)
+      (block : List ℕ) (filled′ : ℕ) → found ≡ NextLine.None → from < length script
+      → RunsOne script w lent from before filled w′ lent′ next block filled′
+  unfolding Reaches
+  line-there w lent before filled w′ lent′ next block filled′ e more =
+      let none = subst (Reaches (length script) from) e reaches in absurd (omega arith)
+
+  module _ (end : ℕ) (e : found ≡ NextLine.Until end) where
+    both : (from ≤ end) × (end ≤ length script)
+    unfolding Reaches
+    both = subst (Reaches (length script) from) e reaches
+
+    pub starts : from ≤ end
+    starts = both .0
+
+    pub ends : end ≤ length script
+    ends = both .1
+
+    pub ran-one : linesOf (drop from script) ≡ linesFrom script from found → (w : World) (lent before : List ℕ) (filled : ℕ)
+        (w′ : World) (lent′ : List ℕ) (next : ℕ) (block : List ℕ) (filled′ : ℕ)
+        → RunsInto (runLine w lent (take (end - from) (drop from script))) w′ lent′ before filled block filled′
+        → next ≡ end + 1 → RunsOne script w lent from before filled w′ lent′ next block filled′
+    unfolding linesFrom
+    ran-one at w lent before filled w′ lent′ next block filled′ ran behind =
+        let line = take (end - from) (drop from script) in
+        record {
+          line = line;
+          rest =
+              at ∙ ap (linesFrom script from) e
+              ∙ ap (λ (k : ℕ). line ∷ linesOf (drop k script)) (sym (behind ∙ add-one end));
+          further = omega (arith, starts);
+          ran = ran;
         }
 
 -- Lines, one a turn
@@ -105,38 +145,37 @@ pub record Gathering (script : List ℕ) (s : State) (first second entries lent 
   pub first-kept : length first′ ≡ length first
   pub second-kept : length second′ ≡ length second
   pub entries-kept : length entries′ ≡ length entries
-  pub bounded : length script * 1 < 2 ^ 63
   pub reached : from ≤ next
   pub idle : next ≡ from → filled ≡ 0
 
-pub room-left : (block : List ℕ) (filled : ℕ) (lent : List ℕ) → filled ≤ blockRoom - lineRoom → length block ≡ blockRoom
-    → length lent ≡ pairRoom → Room block filled lent
-unfolding programLimit
-room-left block filled lent r b p = record { answer = omega arith; pairs = omega arith }
+-- what the loop's test tells of the next turn
+module _ (next script filled : ℕ) (goes-on : (ltb next script && leb filled (blockRoom - lineRoom)) ≡ true) where
+  tests : (next < script) × (filled ≤ blockRoom - lineRoom)
+  tests = told (tells-and (tells (ltb next script) (ltb-true next script) (lt-ltb next script)) (tells-le filled (blockRoom - lineRoom))) goes-on
 
-module _ (script : List ℕ) (next : ℕ) (found : NextLine) (end : ℕ) (reaches : Reaches (length script) next found)
-    (e : found ≡ NextLine.Until end) where
-  both : (next ≤ end) × (end ≤ length script)
-  unfolding Reaches
-  both = subst (Reaches (length script) next) e reaches
+  pub more-left : next < script
+  more-left = tests .0
 
-  pub starts : next ≤ end
-  starts = both .0
+  pub room-left : (block lent : List ℕ) → length block ≡ blockRoom → length lent ≡ pairRoom → Room block filled lent
+  unfolding programLimit
+  room-left block lent b p = record { whole = b; answer = omega (arith, tests); pairs = omega arith }
 
-  pub ends : end ≤ length script
-  ends = both .1
-
-  pub turn-less : suc (length script) - (end + 1) < suc (length script) - next
-  turn-less = omega (arith, starts, ends)
+-- the measure
+pub turn-less : (script : List ℕ) (next next′ filled : ℕ) (w : World) (lent before : List ℕ) (w′ : World)
+    (lent′ block : List ℕ) (filled′ : ℕ)
+    → RunsOne script w lent next before filled w′ lent′ next′ block filled′
+    → (ltb next (length script) && leb filled (blockRoom - lineRoom)) ≡ true
+    → length script - next′ < length script - next
+turn-less script next next′ filled w lent before w′ lent′ block filled′ one goes-on =
+    omega (arith, one .further, more-left next (length script) filled goes-on)
 
 module _ (script : List ℕ) (s : State) (first second entries lent : List ℕ) (from : ℕ) where
   abbrev w : World
   w = world s first second entries
 
-  pub gathering-start : (block : List ℕ) → length script * 1 < 2 ^ 63
-      → Gathering script s first second entries lent from s first second entries lent block from 0
+  pub gathering-start : (block : List ℕ) → Gathering script s first second entries lent from s first second entries lent block from 0
   unfolding runLines
-  gathering-start block b =
+  gathering-start block =
       record {
         lines = [];
         rest = refl;
@@ -147,7 +186,6 @@ module _ (script : List ℕ) (s : State) (first second entries lent : List ℕ) 
         first-kept = refl;
         second-kept = refl;
         entries-kept = refl;
-        bounded = b;
         reached = omega arith;
         idle = λ h. refl;
       }
@@ -157,13 +195,18 @@ module _ (script : List ℕ) (s : State) (first second entries lent : List ℕ) 
     abbrev w′ : World
     w′ = world s′ first′ second′ entries′
 
-    further : (length script ≤ next) ⊎ (0 < filled) → from < length script → (b : Bool) → ltb from next ≡ b → from < next
-    further e more true t = ltb-true from next t
-    further (inl e) more false t = omega (arith, h .reached, ltb-false from next t)
-    further (inr e) more false t = absurd (omega (arith, h .idle (omega (arith, h .reached, ltb-false from next t))))
+    further : from < length script → (b : Bool) → ltb next (length script) ≡ b
+        → (b && leb filled (blockRoom - lineRoom)) ≡ false → from < next
+    further more false t ended = omega (arith, ltb-false next (length script) t)
+    further more true t ended =
+        elim (ℕ-discrete next from) [
+          | yes e ↦ absurd (omega (arith, h .idle e, leb-false filled (blockRoom - lineRoom) ended))
+          | no d ↦ omega (arith, h .reached)
+        ]
 
-    ended : (length script ≤ next) ⊎ (0 < filled) → RunsBlock script w lent from w′ lent′ next block filled
-    ended e =
+    pub block-done : (ltb next (length script) && leb filled (blockRoom - lineRoom)) ≡ false
+        → RunsBlock script w lent from w′ lent′ next block filled
+    block-done ended =
         record {
           lines = h .lines;
           rest = h .rest;
@@ -171,57 +214,37 @@ module _ (script : List ℕ) (s : State) (first second entries lent : List ℕ) 
           world = h .leaves;
           list = h .list;
           within = h .within;
-          further = λ more. further e more (ltb from next) refl;
+          further = λ more. further more (ltb next (length script)) refl ended;
         }
 
-    pub block-full : blockRoom - lineRoom < filled → RunsBlock script w lent from w′ lent′ next block filled
-    block-full f = ended (inr (omega arith))
-
-    pub block-last : (found : NextLine) → Reaches (length script) next found → found ≡ NextLine.None
-        → RunsBlock script w lent from w′ lent′ next block filled
-    unfolding Reaches
-    block-last found reaches e = ended (inl (subst (Reaches (length script) next) e reaches))
-
-    module _ (found : NextLine) (end : ℕ) (reaches : Reaches (length script) next found) (e : found ≡ NextLine.Until end) where
-      pub next-fits : Fits w64 (end + 1)
-      next-fits = omega (arith, ends script next found end reaches e, h .bounded)
-
-      pub gathering-next : linesOf (drop next script) ≡ linesFrom script next found
-          → (s″ : State) (first″ second″ entries″ lent″ block″ : List ℕ) (n : ℕ)
-          → RunsInto (runLine w′ lent′ (take (end - next) (drop next script))) (world s″ first″ second″ entries″) lent″
-          block filled block″ n
-          → length first″ ≡ length first′ → length second″ ≡ length second′ → length entries″ ≡ length entries′
-          → Gathering script s first second entries lent from s″ first″ second″ entries″ lent″ block″ (end + 1) (filled + n)
-      unfolding andThen linesFrom
-      gathering-next at s″ first″ second″ entries″ lent″ block″ n one first-kept second-kept entries-kept =
-          let w″ = world s″ first″ second″ entries″ in
-          let line = take (end - next) (drop next script) in
-          let r = runLines w lent (h .lines) in
-          let q = runLine (r .world) (r .lent) line in
-          let behind = linesOf (drop (end + 1) script) in
-          let ran : RunsInto q w″ lent″ block filled block″ n =
-          subst (λ (l : List ℕ). RunsInto (runLine (r .world) l line) w″ lent″ block filled block″ n) (h .list)
-          (subst (λ (v : World). RunsInto (runLine v lent′ line) w″ lent″ block filled block″ n) (h .leaves) one)
-          in
-          let all : andThen r q ≡ runLines w lent (h .lines ++ line ∷ []) = one-more w lent (h .lines) line in
-          record {
-            lines = h .lines ++ line ∷ [];
-            rest =
-                h .rest
-                ∙ ap (λ (ls : List (List ℕ)). h .lines ++ ls)
-                (at ∙ ap (linesFrom script next) e
-                ∙ ap (λ (k : ℕ). line ∷ linesOf (drop k script)) (sym (add-one end)))
-                ∙ sym (append-assoc (h .lines) (line ∷ []) behind);
-            answers =
-                ran .answer ∙ ap (λ (l : List ℕ). l ++ q .written) (h .answers)
-                ∙ ap (λ (a : Ran). a .written) all;
-            leaves = ran .world ∙ ap (λ (a : Ran). a .world) all;
-            list = ran .lent ∙ ap (λ (a : Ran). a .lent) all;
-            within = one .within;
-            first-kept = first-kept ∙ h .first-kept;
-            second-kept = second-kept ∙ h .second-kept;
-            entries-kept = entries-kept ∙ h .entries-kept;
-            bounded = h .bounded;
-            reached = omega (arith, h .reached, starts script next found end reaches e);
-            idle = λ k. absurd (omega (arith, h .reached, starts script next found end reaches e));
-          }
+    pub gathering-next : (s″ : State) (first″ second″ entries″ lent″ block″ : List ℕ) (next″ filled″ : ℕ)
+        → RunsOne script w′ lent′ next block filled (world s″ first″ second″ entries″) lent″ next″ block″ filled″
+        → length first″ ≡ length first′ → length second″ ≡ length second′ → length entries″ ≡ length entries′
+        → Gathering script s first second entries lent from s″ first″ second″ entries″ lent″ block″ next″ filled″
+    unfolding andThen
+    gathering-next s″ first″ second″ entries″ lent″ block″ next″ filled″ one first-kept second-kept entries-kept =
+        let line = one .line in
+        let r = runLines w lent (h .lines) in
+        let q = runLine (r .world) (r .lent) line in
+        let same : runLine w′ lent′ line ≡ q =
+        ap (λ (v : World). runLine v lent′ line) (h .leaves) ∙ ap (λ (l : List ℕ). runLine (r .world) l line) (h .list) in
+        let all : andThen r q ≡ runLines w lent (h .lines ++ line ∷ []) = one-more w lent (h .lines) line in
+        record {
+          lines = h .lines ++ line ∷ [];
+          rest =
+              h .rest ∙ ap (λ (ls : List (List ℕ)). h .lines ++ ls) (one .rest)
+              ∙ sym (append-assoc (h .lines) (line ∷ []) (linesOf (drop next″ script)));
+          answers =
+              one .ran .answer
+              ∙ ap (λ (a : Ran). take filled block ++ a .written) same
+              ∙ ap (λ (l : List ℕ). l ++ q .written) (h .answers)
+              ∙ ap (λ (a : Ran). a .written) all;
+          leaves = one .ran .world ∙ ap (λ (a : Ran). a .world) same ∙ ap (λ (a : Ran). a .world) all;
+          list = one .ran .lent ∙ ap (λ (a : Ran). a .lent) same ∙ ap (λ (a : Ran). a .lent) all;
+          within = one .ran .within;
+          first-kept = first-kept ∙ h .first-kept;
+          second-kept = second-kept ∙ h .second-kept;
+          entries-kept = entries-kept ∙ h .entries-kept;
+          reached = omega (arith, h .reached, one .further);
+          idle = λ k. absurd (omega (arith, h .reached, one .further));
+        }

@@ -11,12 +11,7 @@ use Rattle.model.specs.declared.State.{State}
 use Rattle.model.specs.declared.Error.{Error}
 use Rattle.model.specs.declared.StepAnswer.{StepAnswer}
 use Rattle.model.specs.Calls.{After, stepTaken, paused, stepped, stepDue}
-
--- only the first of the two
-only-first : (a b : Bool) → (a && not b) ≡ true → (a ≡ true) × (b ≡ false)
-only-first true false e = (refl, refl)
-only-first true true e = let z : _≡_ {A = ℕ} 0 1 = cc in absurd (omega arith)
-only-first false b e = let z : _≡_ {A = ℕ} 0 1 = cc in absurd (omega arith)
+use Rattle.model.proofs.StepFirst.{due-facts}
 
 not-first : (a : Bool) → (a && not true) ≡ false
 not-first true = refl
@@ -62,12 +57,10 @@ module _ (s : State) where
 
   module _ (d : stepDue s ≡ true) where
     pub due-rehashing : s .rehashing ≡ true
-    unfolding stepDue
-    due-rehashing = only-first (s .rehashing) (paused s) d .0
+    due-rehashing = due-facts s d .0
 
     pub due-unpaused : paused s ≡ false
-    unfolding stepDue
-    due-unpaused = only-first (s .rehashing) (paused s) d .1
+    due-unpaused = due-facts s d .1
 
     pub due-stepped : (current other entries : List ℕ)
         → stepTaken s current other entries ≡ stepped s current other entries (s .rehashing)

@@ -1,12 +1,23 @@
--- A call that takes a step first, by whether one is due.
+-- A call that takes a step first, by whether one is due; and when one is.
 -- Assumes nothing.
-use mathlib.Core.Path.{_≡_, sym, ap}
-use mathlib.Core.Bool.{Bool, true, false, cond}
+use mathlib.Core.Path.{_≡_, refl, sym, ap}
+use mathlib.Core.Bool.{Bool, true, false, _&&_, not, cond}
 use mathlib.Core.List.{List}
 use Prim.Native.Nat.{ℕ}
 use Rattle.model.specs.declared.State.{State}
 use Rattle.model.specs.declared.Error.{Error}
-use Rattle.model.specs.Calls.{After, rehashStep, callAfter, stepDue, stepFirst}
+use Rattle.model.specs.Calls.{After, paused, rehashStep, callAfter, stepDue, stepFirst}
+use Rattle.model.proofs.Tests.{true-not-false}
+
+-- during a rehash that no safe iterator holds up
+pub due-facts : (s : State) → stepDue s ≡ true → (s .rehashing ≡ true) × (paused s ≡ false)
+unfolding stepDue
+due-facts s = by (s .rehashing) (paused s)
+  where
+    by : (a b : Bool) → (a && not b) ≡ true → (a ≡ true) × (b ≡ false)
+    by true false e = (refl, refl)
+    by true true e = absurd (true-not-false (sym e))
+    by false b e = absurd (true-not-false (sym e))
 
 module _ {A : Type 0} (refused : Error → A) (done : A → Bool) (call : State → List ℕ → List ℕ → List ℕ → After A) (s : State)
     (first second entries : List ℕ) where

@@ -14,11 +14,12 @@ use Rattle.model.specs.Calls as calls
 use Rattle.model.specs.Sequences.{World, world, KeyCall, Call, Outcome, kept, left, given, perform, carriedState, carry}
 use Rattle.model.proofs.Tests.{Tells, true-not-false, told-not, tells-true, tells-le}
 use Rattle.model.proofs.StepLeaves.{RehashLeaves, rehash-leaves}
+use Rattle.model.proofs.StepFirst.{due-facts}
 use Rattle.refinement.specs.Worlds.{takesStep}
 use Rattle.refinement.specs.Demand1.{BadState, StepDamaged, Row, row, keyRows, aloneRows, stepWorld, onRows, rows, Decides, Leaves, keyZeros, LeavesAll}
 use Rattle.refinement.specs.Demand3.{lengthsOf}
 use Rattle.refinement.proofs.Orientation.{soundAt, oriented-read}
-use Rattle.refinement.proofs.HiddenSteps.{alone, before-growth, Rides, some-number, due-facts, on-rides, on-alone}
+use Rattle.refinement.proofs.HiddenSteps.{alone, before-growth, Rides, some-number, on-rides, on-alone}
 use Rattle.refinement.proofs.Demand1Calls.{Refuses, Good, decides, alone-good, resized-good, step-good, init-good, read-good, note-good}
 use Rattle.refinement.proofs.Demand1Lists.{scan-good, iterate-good}
 use Rattle.refinement.proofs.Growth.{Follows, grown-lengths, follows}

@@ -2,7 +2,7 @@
 -- Assumes nothing.
 use Prim.Native.Nat.{ℕ, suc}
 use mathlib.Core.Path.{_≡_, refl, sym, ap, subst, _∙_}
-use mathlib.Core.Bool.{Bool, true, false, _&&_, not, cond}
+use mathlib.Core.Bool.{Bool, true, false, _&&_, cond}
 use mathlib.Core.List.{List, []}
 use native.Mathlib.Omega.{arith}
 use Rattle.model.specs.declared.State.{State}
@@ -11,7 +11,7 @@ use Rattle.model.specs.declared.AddAnswer.{AddAnswer}
 use Rattle.model.specs.declared.DeleteAnswer.{DeleteAnswer}
 use Rattle.model.specs.declared.StepAnswer.{StepAnswer}
 use Rattle.model.specs.Answers.{Reply, reply, errorNumber, addReply, deleteReply, stepReply}
-use Rattle.model.specs.Calls.{After, paused, unlessRefused, stepDue, stepFirst, isAdded, isDeleted}
+use Rattle.model.specs.Calls.{After, unlessRefused, stepDue, stepFirst, isAdded, isDeleted}
 use Rattle.model.specs.Calls as calls
 use Rattle.model.specs.Sequences.{World, world, KeyCall, Call, Outcome, kept, left, given, perform, carriedState, carry}
 use Rattle.model.proofs.StepFirst.{resting-first, stepping-first}
@@ -54,16 +54,6 @@ some-number Error.Changed = (14, refl)
 some-number Error.NoSafeIterator = (15, refl)
 some-number Error.TooManyIterators = (16, refl)
 some-number Error.Paused = (17, refl)
-
--- a step is due during a rehash that no safe iterator holds up
-pub due-facts : (s : State) → stepDue s ≡ true → (s .rehashing ≡ true) × (paused s ≡ false)
-unfolding stepDue
-due-facts s due = by (s .rehashing) (paused s) due
-  where
-    by : (t held-up : Bool) → (t && not held-up) ≡ true → (t ≡ true) × (held-up ≡ false)
-    by true false e = (refl, refl)
-    by true true e = let z : _≡_ {A = ℕ} 0 1 = cc in absurd (omega arith)
-    by false held-up e = let z : _≡_ {A = ℕ} 0 1 = cc in absurd (omega arith)
 
 -- an answer that refuses gives back the state that it was given, and one that does not gives its own
 data Kind {A : Type 0} (done : A → Bool) (replies : State → A → Reply State) (a : A) : Type 0 where

@@ -15,9 +15,10 @@ use Rattle.model.specs.Answers.{Reply, reply}
 use Rattle.model.specs.Calls.{paused, stepDue}
 use Rattle.model.specs.Walk.{tablesBy, tablesOf}
 use Rattle.model.specs.Sequences.{Outcome, World, world, KeyCall, Call, kept, perform, carriedState, carry, PlainMap, valueFor, withPairs, mapAnswer, mapDoes}
+use Rattle.model.proofs.StepFirst.{due-facts}
 use Rattle.refinement.specs.Worlds.{takesStep}
 use Rattle.refinement.specs.Demand3.{lengthsOf, Ideal, keyAnswer, stepAnswer, stepsFirst, onAnswer, predict}
-use Rattle.refinement.proofs.HiddenSteps.{alone, before-growth, due-facts, Rides, on-rides, on-alone}
+use Rattle.refinement.proofs.HiddenSteps.{alone, before-growth, Rides, on-rides, on-alone}
 use Rattle.refinement.proofs.Refusals.{before-keeps}
 use Rattle.refinement.proofs.IdealSteps.{any-first, two-answered, same-pairs, one-stays, paused-stays}
 use Rattle.refinement.proofs.Agreement.{Agrees, Comes, Steps}

@@ -66,14 +66,6 @@ module _ (test : ℕ → Bool) where
   unfolding firstPlace
   first-found tables place = from-found place (endPlace tables - place) (endPlace tables) refl
 
-  pub first-some : (tables : Tables) (place n : ℕ) → firstPlace test tables place ≡ some n → FirstPass place (endPlace tables) n
-  unfolding Found
-  first-some tables place n e = subst (Found place (endPlace tables)) e (first-found tables place)
-
-  pub first-none : (tables : Tables) (place : ℕ) → firstPlace test tables place ≡ none → NonePass place (endPlace tables)
-  unfolding Found
-  first-none tables place e = subst (Found place (endPlace tables)) e (first-found tables place)
-
 -- two tests that agree before the end find the same
 module _ (f g : ℕ → Bool) where
   from-agree : (place left end : ℕ) → end - place ≡ left → ((m : ℕ) → place ≤ m → m < end → f m ≡ g m)

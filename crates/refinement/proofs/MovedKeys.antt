@@ -15,15 +15,15 @@ use Rattle.cursor.specs.Member.{In, keep}
 use Rattle.model.specs.declared.State.{State}
 use Rattle.model.specs.Keys.{bucketOf}
 use Rattle.model.specs.declared.Table.{Table}
-use Rattle.model.specs.Memory.{Place, Live, sizeOf, usedOf, keyOf, valueOf}
+use Rattle.model.specs.Memory.{Place, Live, sizeOf, keyOf, valueOf}
 use Rattle.refinement.specs.Demand3.{Ideal, lowest}
 use Rattle.invariant.proofs.Lists.{no-member, first-member, in-map, of-map, distinct-map, same-length, in-keep, of-keep, distinct-keep}
-use Rattle.invariant.proofs.Sums.{sum-zero}
 use Rattle.invariant.proofs.Shape.{Home, IsBucket}
 use Rattle.invariant.proofs.LinkedChains.{shape-distinct}
 use Rattle.invariant.proofs.FirstEntries.{EmptyBefore, old-empty}
 use Rattle.invariant.proofs.StoreAfter.{HeldIn}
 use Rattle.refinement.proofs.Agreement.{AgreesOn}
+use Rattle.refinement.proofs.Fingerprints.{unmoved-count}
 
 -- ---- the lowest bucket that some keys call for
 
@@ -94,22 +94,7 @@ module _ {s : State} {current other entries : List ℕ} {i : Ideal} (a : AgreesO
 
   -- and only there
   pub none-left : s .rehashing ≡ true → i .unmoved ≡ [] → s .«old_used» ≡ 0
-  unfolding sizeOf usedOf
-  none-left rehashing e =
-      a .shape .counts Table.Old
-      ∙ sum-zero (λ b. length (at (Place.bucket Table.Old b))) (s .«old_size»)
-      (λ b l.
-      ap length
-      (no-member (at (Place.bucket Table.Old b))
-      (λ n j.
-      subst (λ (ks : List ℕ). In (keyOf entries n) ks) e
-      (a .in-unmoved rehashing (keyOf entries n)
-      (record {
-        value = valueOf entries n;
-        index = b;
-        live = l;
-        held = record { entry = n; there = j; its-key = refl; its-value = refl };
-      })))))
+  none-left rehashing e = sym (unmoved-count a rehashing) ∙ ap length e
 
   -- no key calls for a bucket before which every other is empty
   pub not-lower : (b : ℕ) → EmptyBefore (a .shape) b → (key : ℕ) → In key (i .unmoved) → b ≤ bucketOf key (s .«old_size»)

@@ -1,4 +1,4 @@
--- What is answered and written, from the two passes over some chains: the count, the test of the room, the pairs written.
+-- What is answered and written, from the two readings of some chains: the count, the test of the room, the pairs written.
 -- Assumes nothing.
 use Prim.Native.Nat.{ℕ, suc, _+_, _*_, _≤_, _<_}
 use mathlib.Core.Path.{_≡_, refl, sym, ap, _∙_}

@@ -1,4 +1,4 @@
--- What the two passes read: the chains of some buckets of one table, one after the other. Once they are known to be sound,
+-- What the two readings see: the chains of some buckets of one table, one after the other. Once they are known to be sound,
 -- neither the keys nor the capacity nor a budget are asked for: the entry buffer alone says what a chain is.
 use Prim.Native.Nat.{ℕ}
 use mathlib.Core.Bool.{Bool}

@@ -1,4 +1,4 @@
--- What the two passes ask of the tables and read, and what the second one writes.
+-- What the two readings ask of the tables and see, and what the second one writes.
 pub mod Tables
 pub mod Chains
 pub mod Written

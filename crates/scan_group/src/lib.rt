@@ -1,5 +1,5 @@
-// The two passes of a walk call over the chains of its group: one counts their entries and tests them, the other writes
-// their pairs. And both passes over one chain, for a group of one bucket and for the iterators. They are public only for
+// The two readings of the chains of a walk call's group: one counts their entries and tests them, the other writes their
+// pairs. And both of one chain, for a group of one bucket and for the iterators. They are public only for
 // these calls, which write only what they have counted.
 
 pub mod bucket;

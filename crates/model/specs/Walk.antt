@@ -73,7 +73,7 @@ unfoldable pub pairs : List ℕ → List ℕ → List ℕ
 pairs entries [] = []
 pairs entries (n ∷ ns) = keyOf entries n ∷ valueOf entries n ∷ pairs entries ns
 
--- the pairs at the front of the lent list, if it has two places for each
+-- the pairs at the front of the lent list, if it has two numbers for each
 unfoldable pub scanned : List ℕ → List ℕ → ℕ → Option (List ℕ) → AfterScan
 scanned entries lent next none = AfterScan.after (ScanAnswer.Refused Error.Damaged) lent
 scanned entries lent next (some ns) =

@@ -39,7 +39,7 @@ module _ (w : World) where
     unfolding LeavesList Leaves keptScan kept scanReply reply
     list-refuses e f = (refl, all _ (0, record { short = λ n. absurd (f n); else = λ n. refl }, refl))
 
-    -- two places of the list for each entry
+    -- two numbers of the list for each entry
     handed-good : (short : Type 0) (ns : List ℕ) (next : ℕ) → due (length ns) → Passes short (leb (length ns * 2) (length lent))
         → Good w c (row 9 short ∷ []) (keptScan w (scanned (w .entries) lent next (some ns)))
     unfolding row LeavesList Leaves scanned keptScan kept scanReply reply carry lengthsOf world
@@ -57,7 +57,7 @@ module _ (w : World) where
     unfolding LeavesAll
     walk-leaves o l = l
 
-    -- two places of the list for each key
+    -- two numbers of the list for each key
     passes-short : (ns : List ℕ) → 0 < keysHeld (w .state) → KeysOn w (places w cursor) (length ns)
         → Passes (Short w cursor lent) (leb (length ns * 2) (length lent))
     unfolding Short

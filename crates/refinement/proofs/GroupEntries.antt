@@ -1,6 +1,6 @@
 -- A call that hands out some entries, or is short of places for them (`hands-read`, `answered-hands`); and the walk call on an
 -- undamaged store. It gives the entries of its group: those held in the group's buckets, no key twice (`group-distinct`); and
--- the call: answered just if the list has two places for each (`walk-call`), and then it hands them out (`hands-out`).
+-- the call: answered just if the list has two numbers for each (`walk-call`), and then it hands them out (`hands-out`).
 -- Assumes nothing.
 use Prim.Native.Nat.{ℕ, zero, suc, _*_, _≤_}
 use mathlib.Core.Path.{_≡_, refl, ap, _∙_}
@@ -31,7 +31,7 @@ use Rattle.refinement.proofs.BucketEntries.{entriesOf, read-some, entri
 -- ---- a call that hands out some entries, or is short of places for them
 
 module _ (w : World) (lent : List ℕ) (next : ℕ) (ns : List ℕ) where
-  -- answered just if the list has two places for each
+  -- answered just if the list has two numbers for each
   abbrev pub enough : Bool
   enough = leb (length ns * 2) (length lent)
 
@@ -127,7 +127,7 @@ module _ (w : World) (u : UndamagedAt w) where
         rw (read-some w u (places w cursor) group-buckets, ← group-entries)
         (at-most-few (keysHeld (w .state)) (some (groupEntries w cursor)) group-fits)
 
-  -- the call: with two places for each entry of its group it hands them out
+  -- the call: with two numbers for each entry of its group it hands them out
   module _ (cursor : ℕ) (lent : List ℕ) where
     pub walk-call : perform w (Call.scan cursor lent) ≡ handsOrShort w lent (nextOf w cursor) (groupEntries w cursor)
     unfolding perform given scan UndamagedAt

@@ -1,5 +1,5 @@
 -- A call that iterates, on an undamaged store: it hands out the first filled bucket from its place on, just if the list has
--- two places for each of its entries (`pass-call`, `iterates-out`). Beside an ideal that the store matches, that is the first
+-- two numbers for each of its entries (`pass-call`, `iterates-out`). Beside an ideal that the store matches, that is the first
 -- bucket that a key of the ideal is in, so that the call answers as predicted (`iterate-predicted`).
 -- Assumes nothing.
 use Prim.Native.Nat.{ℕ, suc, _+_, _-_, _<_}

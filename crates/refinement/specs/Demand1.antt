@@ -119,7 +119,7 @@ TooMany w places = (n : ℕ) × KeysOn w places n × (keysHeld (w .state) < n)
 unfoldable pub GroupDamaged : World → ℕ → Type 0
 GroupDamaged w cursor = (0 < keysHeld (w .state)) × (Damaged w (places w cursor) ⊎ TooMany w (places w cursor))
 
--- fewer than two places for each key to be handed out
+-- fewer than two numbers of the list for each key to be handed out
 unfoldable pub Short : World → ℕ → List ℕ → Type 0
 Short w cursor lent = (0 < keysHeld (w .state)) × (n : ℕ) × KeysOn w (places w cursor) n × (length lent < n * 2)
 
@@ -142,7 +142,7 @@ BucketDamaged w place = (n : ℕ) × FirstFrom w place n × (¬ SoundChain w (pl
 unfoldable pub KeysFrom : World → ℕ → ℕ → Type 0
 KeysFrom w place count = (n : ℕ) × FirstFrom w place n × ChainAt w (placeAt w n) count
 
--- the list has fewer than two places for each
+-- the list has fewer than two numbers for each
 unfoldable pub ShortFrom : World → ℕ → List ℕ → Type 0
 ShortFrom w place lent = (count : ℕ) × KeysFrom w place count × (length lent < count * 2)
 

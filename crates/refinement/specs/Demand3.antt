@@ -168,7 +168,8 @@ groupPairs i cursor = keep (λ p. inGroup i cursor (p .key)) (i .plain .pairs)
 
 -- A call that iterates has those of the first bucket, from its place on, that a key is in.
 
--- the place of a key's bucket, in the table that has the key
+-- the place of a bucket, and of the bucket that a key is in
+
 unfoldable pub placeNumber : Tables → Table → ℕ → ℕ
 placeNumber (Tables.one size) t b = b
 placeNumber (Tables.two old new) t b = oldNew 0 old t + b
@@ -178,11 +179,15 @@ placeOf i key =
     let t = tableOf (i .tables) (i .unmoved) key in
     placeNumber (i .tables) t (bucketOf key (sizeIn (i .tables) t))
 
+-- whether a pair's key is there, and the first place from one on where a key is
+
 unfoldable pub isAt : Ideal → ℕ → Pair → Bool
 isAt i n p = eqb (placeOf i (p .key)) n
 
 unfoldable pub firstHeld : Ideal → ℕ → Option ℕ
 firstHeld i place = firstPlace (λ n. any (isAt i n) (i .plain .pairs)) (i .tables) place
+
+-- the pairs there
 
 unfoldable pub bucketPairs : Ideal → Option ℕ → List Pair
 bucketPairs i none = []
@@ -191,10 +196,10 @@ bucketPairs i (some n) = keep (isAt i n) (i .plain .pairs)
 unfoldable pub placePairs : Ideal → ℕ → List Pair
 placePairs i place = bucketPairs i (firstHeld i place)
 
--- what either answers: the next cursor or place and the number of pairs, if the list has two places for each
+-- what either answers: the next cursor or place and the number of pairs, if the list has two numbers for each
 unfoldable pub handAnswer : Ideal → ℕ → ℕ → ℕ → Reply Ideal
-handAnswer i next count places =
-    cond (leb (count * 2) places) (reply 0 (next ∷ count ∷ []) i) (reply 9 (0 ∷ count ∷ []) i)
+handAnswer i next count room =
+    cond (leb (count * 2) room) (reply 0 (next ∷ count ∷ []) i) (reply 9 (0 ∷ count ∷ []) i)
 
 -- The fingerprint, of the current buffer, the live sizes, and the keys held in each table.
 

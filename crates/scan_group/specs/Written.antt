@@ -12,7 +12,7 @@ written entries list to [] = list
 written entries list to (n ∷ ns) =
     written entries (set (set list to (keyOf entries n)) (to + 1) (valueOf entries n)) (to + 2) ns
 
--- they end, and there are two places for each
+-- they end, and there are two numbers for each
 pub record Writable (list : List ℕ) (to : ℕ) (read : Option (List ℕ)) : Type 0 where
   pub sound : read ≡ some (listed read)
   pub fits : to + length (listed read) * 2 ≤ length list

@@ -95,7 +95,7 @@ iteratesDamaged-excluded d =
     (h .1))
     (d .numbers oneKey (Call.iterate 0 room))
 
--- .. and not short with two places for the key
+-- .. and not short with two numbers for the key
 pub iteratesShort-excluded : Demand1 iteratesShort → ⊥
 unfolding computing asShort iteratesShort oneKey
 iteratesShort-excluded d =

@@ -57,7 +57,7 @@ pub refusesWalks-excluded : Demand3 refusesWalks → ⊥
 unfolding computing asDamaged refusesWalks twoKeys
 refusesWalks-excluded d = eqb-false 2 0 refl (at d 2 refl (twoKeys (Call.scan 0 room)) .answers .1 .1 .0 .number)
 
--- two places for each key to be handed out are enough
+-- two numbers for each key to be handed out are enough
 pub alwaysShort-excluded : Demand3 alwaysShort → ⊥
 unfolding computing asShort alwaysShort twoKeys
 alwaysShort-excluded d = eqb-false 9 0 refl (at d 2 refl (twoKeys (Call.scan 0 room)) .answers .1 .1 .0 .number)

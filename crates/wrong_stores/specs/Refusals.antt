@@ -97,7 +97,7 @@ unfoldable pub sumByCapacity : World → Call → Outcome
 sumByCapacity =
     butScan (λ cursor lent w o. ifDamaged (readAgain (λ w ns. atMost (w .state .capacity) ns) w cursor lent) o)
 
--- short unless the list has two places for every key held
+-- short unless the list has two numbers for every key held
 unfoldable pub roomForAll : World → Call → Outcome
 roomForAll =
     butScan

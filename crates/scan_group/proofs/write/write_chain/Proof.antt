@@ -1,5 +1,5 @@
 -- `scan_group::write::write_chain` meets its contract: the pairs written, and those of the entries from here on, are those of the
--- whole chain. Each turn takes two places of the list.
+-- whole chain. Each turn takes two numbers of the list.
 -- Assumes nothing.
 use Prim.Native.Nat.{_-_}
 use borrow.Author.Needs.{needs}

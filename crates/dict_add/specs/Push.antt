@@ -1,5 +1,5 @@
--- What the functions below add hand up with no rehash, and what they promise, in numbers: they know one table and no state.
--- Add makes its answer of it.
+-- What the functions below add hand up where no step comes first, and what they promise, in numbers: those that push know
+-- one table and no state. Add makes its answer of it.
 use Prim.Native.Nat.{ℕ}
 use mathlib.Core.Bool.{_&&_, not, cond}
 use mathlib.Core.List.{List}

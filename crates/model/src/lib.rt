@@ -41,7 +41,8 @@ pub struct State {
     pub safe_iterators: u32,
 }
 
-// Why a call refused (SPECIFICATION, "Answers"). A walk that is short of room says so in its own answer.
+// Why a call refused (SPECIFICATION, "Answers"). A walk call, or one that iterates, that is short of room says so in its own
+// answer.
 pub enum Error {
     BadState,
     Damaged,

@@ -166,11 +166,11 @@ fn noted(name: &[u8], answer: StateAnswer, s: State) -> State {
     }
 }
 
-fn begin_careful(first: &[u32], second: &[u32], entries: &[u32], s: State) -> State {
+fn begin_safe_iterator(first: &[u32], second: &[u32], entries: &[u32], s: State) -> State {
     noted(b"begin_safe", begin_safe(first, second, entries, s), s)
 }
 
-fn end_careful(first: &[u32], second: &[u32], entries: &[u32], s: State) -> State {
+fn end_safe_iterator(first: &[u32], second: &[u32], entries: &[u32], s: State) -> State {
     noted(b"end_safe", end_safe(first, second, entries, s), s)
 }
 
@@ -256,8 +256,8 @@ fn call(
         ADD => k.state = add_key(first, second, entries, s, key),
         DELETE => k.state = delete_key(first, second, entries, s, key),
         STEP => k.state = step(first, second, entries, s),
-        BEGIN_SAFE => k.state = begin_careful(first, second, entries, s),
-        END_SAFE => k.state = end_careful(first, second, entries, s),
+        BEGIN_SAFE => k.state = begin_safe_iterator(first, second, entries, s),
+        END_SAFE => k.state = end_safe_iterator(first, second, entries, s),
         BEGIN_PLAIN => k.fingerprint = begin_plain(first, second, entries, s),
         END_PLAIN => end_plain(first, second, entries, s, k.fingerprint),
         _ => k.place = next_bucket(first, second, entries, list, s, k.place),

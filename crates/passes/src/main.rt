@@ -13,8 +13,9 @@ use calls::STEP;
 use calls::run;
 use libc::STDOUT_FILENO;
 
-// "A pass, call by call": a rehash begins in the middle of a careful pass, and keys come and go.
-const CAREFUL: [u32; 17] = [
+// "A pass, call by call": a rehash begins in the middle of a safe iterator (the specification's careful pass), and keys come
+// and go; and a step once it has ended.
+const SAFE: [u32; 17] = [
     ADD + 1,
     ADD + 3,
     ADD + 6,
@@ -34,7 +35,7 @@ const CAREFUL: [u32; 17] = [
     STEP,
 ];
 
-// "One key for another": a plain pass whose end notices nothing.
+// "One key for another": asked in between, the end of a plain pass notices the delete; once another key has come, nothing.
 const PLAIN: [u32; 9] = [
     ADD + 1,
     ADD + 2,
@@ -49,7 +50,7 @@ const PLAIN: [u32; 9] = [
 
 fn main() {
     io::write_all(STDOUT_FILENO, b"a careful pass\n");
-    run(&CAREFUL);
+    run(&SAFE);
     io::write_all(STDOUT_FILENO, b"a plain pass\n");
     run(&PLAIN);
 }

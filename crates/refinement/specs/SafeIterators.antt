@@ -17,8 +17,9 @@ onlooker place i =
     record { cursor = place; size = smallerOf (i .tables); held = keysOf (i .plain .pairs); handed = [] }
 
 -- A pass from a place on is some of the calls that iterate: the first is given that place, each further one the place that its
--- last answered call answered. It has come to its end with a call that answers the end place. Its moments are all calls of
--- the sequence up to its last one, and at each the number of safe iterators is above zero.
+-- last answered call answered. It has come to its end with a call that answers the end place. It has a moment
+-- before each call of the sequence, up to its last one if it has come to its end, else up to any call; and at each the number
+-- of safe iterators is above zero.
 pub data Pass (l : Lengths) : ℕ → Ideal → List Event → List Visit → Bool → Type 0 where
   over : {due : ℕ} {i : Ideal} {es : List Event} → Pass l due i es [] false
   other : {due : ℕ} {i : Ideal} {e : Event} {es : List Event} {moments : List Visit} {ended : Bool}

@@ -13,7 +13,7 @@ use Rattle.refinement.specs.Demand1.{Demand1, BucketDamaged, KeysFrom}
 use Rattle.refinement.specs.Demand3.{Demand3}
 use Rattle.wrong_stores.specs.Walks.{overwriting}
 use Rattle.wrong_stores.specs.Refusals.{asDamaged, asShort, miscounting, scribbling}
-use Rattle.wrong_stores.specs.Passes.{handingAt, skipsNew, stopsAtEmpty, again, handsAgain, keepsForged, iteratesBackwards, iteratesBeyond, iteratesRefused, iteratesDamaged, iteratesShort, iteratesMiscounting}
+use Rattle.wrong_stores.specs.Passes.{handingAt, skipsNew, stopsAtEmpty, again, handsAgain, handsPart, keepsForged, iteratesBackwards, iteratesBeyond, iteratesRefused, iteratesDamaged, iteratesShort, iteratesMiscounting}
 use Rattle.wrong_stores.proofs.Start.{computing, started, room, add, at, apart, differ, neither, no-look, single}
 
 -- Demand 3, `answers`, `values`: the place behind the first filled bucket from the place given on, and its keys.
@@ -38,6 +38,13 @@ handsAgain-excluded d =
     differ 0 (0 ∷ 1 ∷ []) (1 ∷ 1 ∷ []) refl
     (at d 1 refl (add 1 10 ∷ Call.iterate 0 room ∷ []) .answers .1 .0 .values (no-look refl))
 
+-- keys 0 and 1, both in the only bucket
+pub handsPart-excluded : Demand3 handsPart → ⊥
+unfolding computing handsPart
+handsPart-excluded d =
+    differ 1 (1 ∷ 1 ∷ []) (1 ∷ 2 ∷ []) refl
+    (at d 1 refl (add 0 10 ∷ add 1 11 ∷ Call.iterate 0 room ∷ []) .answers .1 .1 .0 .values (no-look refl))
+
 -- from a forged place there is none, and the end is answered
 pub keepsForged-excluded : Demand3 keepsForged → ⊥
 unfolding computing keepsForged
@@ -45,7 +52,7 @@ keepsForged-excluded d =
     differ 0 (7 ∷ 0 ∷ []) (1 ∷ 0 ∷ []) refl
     (at d 1 refl (add 1 10 ∷ Call.iterate 7 room ∷ []) .answers .1 .0 .values (no-look refl))
 
--- `answered-pass`, `beyond`: the places behind the pairs stay
+-- `answered-pass`, `beyond`: what lies behind the pairs stays
 pub iteratesBeyond-excluded : Demand3 iteratesBeyond → ⊥
 unfolding computing overwriting iteratesBeyond
 iteratesBeyond-excluded d =

@@ -3,7 +3,7 @@ use Prim.Native.Nat.{ℕ}
 use mathlib.Core.Bool.{cond}
 use mathlib.Core.List.{[], _∷_, reverse}
 use mathlib.Core.Option.{Option, none, some}
-use lib.ListN.{getD}
+use lib.ListN.{getD, take}
 use lib.Dec.{ltb}
 use Rattle.model.specs.Walk.{Tables, tablesOf}
 use Rattle.model.specs.Iterators.{endPlace, firstPlace, filled, handed}
@@ -32,7 +32,7 @@ skipsNew =
 unfoldable pub stopsAtEmpty : World → Call → Outcome
 stopsAtEmpty = handingAt (λ w place. cond (ltb place (endPlace (tablesOf (w .state)))) (some place) none)
 
--- Another place answered, or the chain in another order.
+-- Another place answered, a part of the chain, or the chain in another order.
 
 -- the place of the bucket that it hands out, and not the one behind it: the next call hands it out again
 unfoldable pub again : Outcome → Option ℕ → Outcome
@@ -41,6 +41,13 @@ again o (some n) = answering (n ∷ getD (o .reply .values) 1 0 ∷ []) o
 
 unfoldable pub handsAgain : World → Call → Outcome
 handsAgain = butIterate (λ place lent w o. ifDone (again o (firstFilled w place)) o)
+
+-- the first entry of the bucket, and no other
+unfoldable pub handsPart : World → Call → Outcome
+handsPart =
+    butIterate
+    (λ place lent w o.
+    ifDone (handing w lent (getD (o .reply .values) 0 0) (take 1 (bucketEntries w (firstFilled w place)))) o)
 
 -- a forged place, that is one past the end, as it was given
 unfoldable pub keepsForged : World → Call → Outcome
@@ -54,7 +61,7 @@ iteratesBackwards =
     (λ place lent w o.
     ifDone (handing w lent (getD (o .reply .values) 0 0) (reverse (bucketEntries w (firstFilled w place)))) o)
 
--- Another list: the places behind the pairs written too; written and refused.
+-- Another list: what lies behind the pairs written too; written and refused.
 
 unfoldable pub iteratesBeyond : World → Call → Outcome
 iteratesBeyond = butIterate (λ place lent. overwriting)

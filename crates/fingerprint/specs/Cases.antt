@@ -20,7 +20,7 @@ unfoldable pub ones : ℕ
 ones = 2 ^ 64 - 1
 
 -- No numbers at all; a zero, all of whose bits are one once it is turned over, so that a right shift with a sign would differ.
--- Then six: zeros; a one at each place; the highest bit alone, and all bits; the numbers of a store of size 4 with no key, with
+-- Then six: zeros; a one in each position; the highest bit alone, and all bits; the numbers of a store of size 4 with no key, with
 -- two, three and four, of one during a rehash, and of one in which the second buffer is the current one. The last two are those
 -- of two stores that differ and have one fingerprint.
 unfoldable pub cases : List Row

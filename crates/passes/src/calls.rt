@@ -21,22 +21,22 @@ use model::StepAnswer;
 use script::answer::error_number;
 
 // A call is one of these numbers, plus the key that it is given, if it takes one, which is below 256.
-pub const ADD: u32 = 0x100;
+pub(crate) const ADD: u32 = 0x100;
 
-pub const DELETE: u32 = 0x200;
+pub(crate) const DELETE: u32 = 0x200;
 
-pub const STEP: u32 = 0x300;
+pub(crate) const STEP: u32 = 0x300;
 
-pub const BEGIN_SAFE: u32 = 0x400;
+pub(crate) const BEGIN_SAFE: u32 = 0x400;
 
-pub const END_SAFE: u32 = 0x500;
+pub(crate) const END_SAFE: u32 = 0x500;
 
-pub const BEGIN_PLAIN: u32 = 0x600;
+pub(crate) const BEGIN_PLAIN: u32 = 0x600;
 
-pub const END_PLAIN: u32 = 0x700;
+pub(crate) const END_PLAIN: u32 = 0x700;
 
 // From the place that the last such call answered, or 0.
-pub const ITERATE: u32 = 0x800;
+pub(crate) const ITERATE: u32 = 0x800;
 
 const BUCKETS: usize = 8;
 
@@ -266,7 +266,7 @@ fn call(
 }
 
 // On a new store with room for 12 keys and a table of 4.
-pub fn run(calls: &[u32]) {
+pub(crate) fn run(calls: &[u32]) {
     let mut first = [0u32; BUCKETS];
     let mut second = [0u32; BUCKETS];
     let mut entries = [0u32; ENTRIES];

@@ -5,7 +5,8 @@ use model::State;
 ghost use mathlib.Core.Path.{_≡_};
 ghost use lib.ListN.{length};
 ghost use Rattle.little_endian.specs.Words.{decode, encode};
-ghost use Rattle.lent_bytes.specs.Exports.{flag, stateNumbers, stateFrom, stateBytes, flagsFit};
+ghost use Rattle.lent_bytes.specs.Exports.{flag, stateNumbers, stateBytes, flagsFit};
+ghost use Rattle.lent_bytes.specs.Checked.{StateFits, StateRead};
 
 const STATE_NUMBERS: usize = 11;
 
@@ -20,8 +21,8 @@ pub fn do_flags_fit(state: &[u8]) -> bool
 }
 
 pub fn read_state(state: &[u8]) -> State
-    requires { ⌜ length (now state) ≡ stateBytes ⌝ }
-    ensures { λ r. ⌜ r ≡ stateFrom (decode (now (state .entry))) ⌝ }
+    requires { ⌜ StateFits (now state) ⌝ }
+    ensures { λ r. ⌜ StateRead (now (state .entry)) r ⌝ }
 {
     let mut n = [0u32; STATE_NUMBERS];
     read_numbers(state, &mut n);

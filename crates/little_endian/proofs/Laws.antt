@@ -6,9 +6,11 @@ use native.Mathlib.Numerals.{add-one}
 use native.Mathlib.Omega.{arith}
 use mathlib.Core.Path.{_≡_, refl, sym, ap, _∙_}
 use mathlib.Core.List.{List, [], _∷_, _++_, append-assoc, append-nil}
+use mir.Syntax.{w8}
+use mir.Val.{Fits}
 use lib.ListN.{length, getD, set, take, drop, length-set, drop-of-length-le}
-use lib.Seq.{drop-cons, take-suc-set, take-set-le, take-all, append-snoc, drop-length, take-length}
-use Rattle.little_endian.specs.Words.{word, decode, encode, wordAt, putWord}
+use lib.Seq.{drop-cons, take-suc-set, take-set-le, take-all, append-snoc, drop-length, take-length, length-take-le}
+use Rattle.little_endian.specs.Words.{word, decode, encode, wordAt, putWord, Decoded, Fitting}
 
 -- The lengths
 
@@ -97,9 +99,19 @@ all : (n : ℕ) (xs ys : List ℕ) (f : List ℕ → List ℕ) (m : ℕ) → f [
 all n xs ys f m e h k = rw (take-all n xs h, drop-of-length-le ys k, e, append-nil)
 
 pub read-end : (bs into₀ into : List ℕ) (i : ℕ) → length into₀ * 4 ≡ length bs → length into ≡ length into₀ → length into ≤ i
-    → take i into ++ decode (drop (i * 4) bs) ≡ decode bs → into ≡ decode bs
+    → take i into ++ decode (drop (i * 4) bs) ≡ decode bs → ((j : ℕ) → Fits w8 (getD bs j 0)) → Decoded bs into
 unfolding decode
-read-end bs into₀ into i e l h inv = sym (all i into bs decode (i * 4) refl h (omega arith)) ∙ inv
+read-end bs into₀ into i e l h inv b =
+    let r : into ≡ decode bs = sym (all i into bs decode (i * 4) refl h (omega arith)) ∙ inv in
+    record { read = r; back = sym (ap encode r ∙ encode-decode (length into₀) bs e (λ j. b j .fits)) }
+
+-- The front of a room, where the numbers go
+
+pub part-count : (bs room : List ℕ) → Fitting bs room → length bs / 4 ≡ length (take (length bs / 4) room)
+part-count bs room f = sym (length-take-le (length bs / 4) room (f .few))
+
+pub part-room : (bs room : List ℕ) → Fitting bs room → length (take (length bs / 4) room) * 4 ≡ length bs
+part-room bs room f = rw (sym (part-count bs room f)) (f .whole)
 
 -- One turn of the writing loop: the bytes so far, and the rest of the numbers
 

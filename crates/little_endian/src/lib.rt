@@ -2,7 +2,7 @@
 ghost use mathlib.Core.Path.{_≡_};
 ghost use Prim.Native.Nat.{_+_, _*_, _≤_};
 ghost use lib.ListN.{length};
-ghost use Rattle.little_endian.specs.Words.{decode, encode, word, wordAt, putWord};
+ghost use Rattle.little_endian.specs.Words.{encode, word, wordAt, putWord, Decoded, Fitting};
 
 // The number of four bytes.
 fn word_of(a: u8, b: u8, c: u8, d: u8) -> u32
@@ -33,7 +33,7 @@ fn put_word(bytes: &mut [u8], at: usize, number: u32)
 // All of the bytes, as numbers.
 pub fn read_numbers(bytes: &[u8], into: &mut [u32])
     requires { ⌜ length (now into) * 4 ≡ length (now bytes) ⌝ }
-    ensures { λ _. ⌜ now (into .exit) ≡ decode (now (bytes .entry)) ⌝ }
+    ensures { λ _. ⌜ Decoded (now (bytes .entry)) (now (into .exit)) ⌝ }
 {
     let mut i = 0;
     while i < into.len() {
@@ -52,4 +52,15 @@ pub fn write_numbers(from: &[u32], bytes: &mut [u8])
         put_word(bytes, i * 4, from[i]);
         i += 1;
     }
+}
+
+// The bytes' numbers, at the front of a room that may be longer.
+pub fn numbers_of<'a, 'b>(bytes: &'b [u8], room: &'a mut [u32]) -> &'a mut [u32]
+    requires { ⌜ Fitting (now bytes) (now room) ⌝ }
+    ensures { λ r. ⌜ Decoded (now (bytes .entry)) (now r) ⌝ }
+{
+    let n = bytes.len() / 4;
+    let part = &mut room[..n];
+    read_numbers(bytes, part);
+    part
 }

@@ -6,8 +6,10 @@ use mathlib.Core.List.{List, []}
 use Rattle.model.specs.declared.State.{State}
 use Rattle.model.specs.declared.FindAnswer.{FindAnswer}
 use Rattle.model.specs.declared.SizeAnswer.{SizeAnswer}
+use Rattle.model.specs.declared.BeginAnswer.{BeginAnswer}
+use Rattle.model.specs.declared.EndAnswer.{EndAnswer}
 use Rattle.model.specs.declared.ScanAnswer.{ScanAnswer}
-use Rattle.model.specs.Answers.{Reply, reply, findReply, sizeReply, scanReply}
+use Rattle.model.specs.Answers.{Reply, reply, findReply, sizeReply, beginReply, endReply, scanReply}
 use Rattle.model.specs.Walk.{AfterScan}
 use Rattle.model.specs.Walk as walk
 use Rattle.model.specs.Iterators as iterators
@@ -38,6 +40,16 @@ module _ (w : World) where
   size-state (SizeAnswer.Suggested size) = refl
   size-state (SizeAnswer.Refused e) = refl
 
+  begin-state : (a : BeginAnswer) → beginReply (w .state) a .state ≡ w .state
+  unfolding beginReply reply
+  begin-state (BeginAnswer.Begun fingerprint) = refl
+  begin-state (BeginAnswer.Refused e) = refl
+
+  end-state : (a : EndAnswer) → endReply (w .state) a .state ≡ w .state
+  unfolding endReply reply
+  end-state EndAnswer.Ended = refl
+  end-state (EndAnswer.Refused e) = refl
+
   scan-state : (a : ScanAnswer) → scanReply (w .state) a .state ≡ w .state
   unfolding scanReply reply
   scan-state (ScanAnswer.Scanned cursor count) = refl
@@ -52,6 +64,8 @@ module _ (w : World) where
   unfolding readCall perform
   read-keeps (Read.Find key) = kept-keeps _ [] (find-state (given w calls.find key))
   read-keeps (Read.SuggestedSize growing) = kept-keeps _ [] (size-state (given w calls.suggestedSize growing))
+  read-keeps Read.BeginIterator = kept-keeps _ [] (begin-state (given w iterators.beginIterator))
+  read-keeps (Read.EndIterator fingerprint) = kept-keeps _ [] (end-state (given w iterators.endIterator fingerprint))
 
   pub list-keeps : (call : Listing) (list : List ℕ) → Keeps w (perform w (listCall call list))
   unfolding listCall perform

@@ -6,7 +6,7 @@ use mathlib.Core.List.{List}
 use lib.ListN.{getD}
 use Rattle.model.specs.declared.State.{State}
 use Rattle.model.specs.Answers.{Reply}
-use Rattle.model.specs.Sequences.{Call, KeyCall, ReadCall, Outcome}
+use Rattle.model.specs.Sequences.{Call, KeyCall, ReadCall, StateCall, Outcome}
 use Rattle.lent_bytes.specs.Exports.{results}
 use Rattle.export_calls.specs.declared.answers.Answer.{Answer}
 use Rattle.export_calls.specs.declared.calls.Read.{Read}
@@ -22,9 +22,9 @@ answerOf r =
       state = r .state;
     }
 
--- an answer is that of a call's, by the definition of its reply
-pub record Answers {A : Type 0} (r : Answer) (f : A → Reply State) (a : A) : Type 0 where
-  pub told : r ≡ answerOf (f a)
+-- what a call answers, in numbers, by the definition of its reply
+pub record InNumbers {A : Type 0} (r : Answer) (f : A → Reply State) (a : A) : Type 0 where
+  pub numbers : r ≡ answerOf (f a)
 
 -- an answer, and the buffers and the list after it
 pub data Told : Type 0 where
@@ -38,10 +38,18 @@ told o = Told.tells (answerOf (o .reply)) (o .first) (o .second) (o .entries) (o
 unfoldable pub readCall : Read → Call
 readCall (Read.Find key) = Call.on key KeyCall.find
 readCall (Read.SuggestedSize growing) = Call.read (ReadCall.suggestedSize growing)
+readCall Read.BeginIterator = Call.read ReadCall.beginIterator
+readCall (Read.EndIterator fingerprint) = Call.read (ReadCall.endIterator fingerprint)
 
 unfoldable pub writeCall : Write → Call
 writeCall (Write.Update key value) = Call.on key (KeyCall.update value)
 writeCall (Write.Add key value) = Call.on key (KeyCall.add value)
+writeCall (Write.Delete key) = Call.on key KeyCall.delete
+writeCall (Write.Resize size) = Call.resize size
+writeCall Write.RehashStep = Call.rehashStep
+writeCall (Write.AllowResize allowed) = Call.note (StateCall.allowResize allowed)
+writeCall Write.BeginSafe = Call.note StateCall.beginSafe
+writeCall Write.EndSafe = Call.note StateCall.endSafe
 
 unfoldable pub listCall : Listing → List ℕ → Call
 listCall (Listing.Scan cursor) list = Call.scan cursor list

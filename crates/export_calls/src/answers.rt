@@ -1,17 +1,23 @@
 // What a plain call answers, in numbers.
 use model::AddAnswer;
+use model::BeginAnswer;
+use model::DeleteAnswer;
+use model::EndAnswer;
 use model::Error;
 use model::FindAnswer;
 use model::InitAnswer;
+use model::ResizeAnswer;
 use model::ScanAnswer;
 use model::SizeAnswer;
 use model::State;
+use model::StateAnswer;
+use model::StepAnswer;
 use model::UpdateAnswer;
 use script::answer::error_number;
 ghost use mathlib.Core.Path.{_≡_};
 ghost use mathlib.Core.List.{[], _∷_};
-ghost use Rattle.model.specs.Answers.{reply, errorNumber, initReply, findReply, updateReply, addReply, sizeReply, scanReply};
-ghost use Rattle.export_calls.specs.Kinds.{answerOf, Answers};
+ghost use Rattle.model.specs.Answers.{reply, errorNumber, initReply, findReply, updateReply, addReply, deleteReply, resizeReply, stepReply, sizeReply, stateReply, beginReply, endReply, scanReply};
+ghost use Rattle.export_calls.specs.Kinds.{answerOf, InNumbers};
 
 // The number, the two results (0 for one that there is not), and the state that comes back.
 pub struct Answer {
@@ -32,18 +38,19 @@ fn two_results(number: u32, one: u32, two: u32, s: State) -> Answer
     }
 }
 
-fn one_result(value: u32, s: State) -> Answer
+// 2 to the 32nd.
+const HALF: u64 = 4294967296;
+
+// Done, with one result: its lower and its higher 32 bits.
+fn one_result(value: u64, s: State) -> Answer
     ensures { λ r. ⌜ r ≡ answerOf (reply 0 (value ∷ []) s) ⌝ }
 {
-    Answer {
-        number: 0,
-        one: value,
-        two: 0,
-        state: s,
-    }
+    let low = value % HALF;
+    let high = value / HALF;
+    two_results(0, low as u32, high as u32, s)
 }
 
-// Done, and no result.
+// Done, with none.
 fn no_result(s: State) -> Answer
     ensures { λ r. ⌜ r ≡ answerOf (reply 0 [] s) ⌝ }
 {
@@ -56,8 +63,10 @@ fn refused(e: Error, s: State) -> Answer
     two_results(error_number(e), 0, 0, s)
 }
 
+// Each answer of the store. Where it has no state, the one that the call was given comes back.
+
 pub(crate) fn of_init(a: InitAnswer) -> Answer
-    ensures { λ r. ⌜ Answers r initReply a ⌝ }
+    ensures { λ r. ⌜ InNumbers r initReply a ⌝ }
 {
     match a {
         InitAnswer::Ready(t) => no_result(t),
@@ -66,16 +75,16 @@ pub(crate) fn of_init(a: InitAnswer) -> Answer
 }
 
 pub(crate) fn of_find(a: FindAnswer, s: State) -> Answer
-    ensures { λ r. ⌜ Answers r (findReply s) a ⌝ }
+    ensures { λ r. ⌜ InNumbers r (findReply s) a ⌝ }
 {
     match a {
-        FindAnswer::Found(value) => one_result(value, s),
+        FindAnswer::Found(value) => one_result(value as u64, s),
         FindAnswer::Refused(e) => refused(e, s),
     }
 }
 
 pub(crate) fn of_update(a: UpdateAnswer, s: State) -> Answer
-    ensures { λ r. ⌜ Answers r (updateReply s) a ⌝ }
+    ensures { λ r. ⌜ InNumbers r (updateReply s) a ⌝ }
 {
     match a {
         UpdateAnswer::Updated => no_result(s),
@@ -84,7 +93,7 @@ pub(crate) fn of_update(a: UpdateAnswer, s: State) -> Answer
 }
 
 pub(crate) fn of_add(a: AddAnswer, s: State) -> Answer
-    ensures { λ r. ⌜ Answers r (addReply s) a ⌝ }
+    ensures { λ r. ⌜ InNumbers r (addReply s) a ⌝ }
 {
     match a {
         AddAnswer::Added(t) => no_result(t),
@@ -92,17 +101,71 @@ pub(crate) fn of_add(a: AddAnswer, s: State) -> Answer
     }
 }
 
-pub(crate) fn of_size(a: SizeAnswer, s: State) -> Answer
-    ensures { λ r. ⌜ Answers r (sizeReply s) a ⌝ }
+pub(crate) fn of_delete(a: DeleteAnswer, s: State) -> Answer
+    ensures { λ r. ⌜ InNumbers r (deleteReply s) a ⌝ }
 {
     match a {
-        SizeAnswer::Suggested(size) => one_result(size, s),
+        DeleteAnswer::Deleted(t) => no_result(t),
+        DeleteAnswer::Refused(e) => refused(e, s),
+    }
+}
+
+pub(crate) fn of_resize(a: ResizeAnswer, s: State) -> Answer
+    ensures { λ r. ⌜ InNumbers r (resizeReply s) a ⌝ }
+{
+    match a {
+        ResizeAnswer::Resized(t) => no_result(t),
+        ResizeAnswer::Refused(e) => refused(e, s),
+    }
+}
+
+pub(crate) fn of_step(a: StepAnswer, s: State) -> Answer
+    ensures { λ r. ⌜ InNumbers r (stepReply s) a ⌝ }
+{
+    match a {
+        StepAnswer::Stepped(moved, t) => two_results(0, moved, t.rehashing as u32, t),
+        StepAnswer::Refused(e) => refused(e, s),
+    }
+}
+
+pub(crate) fn of_size(a: SizeAnswer, s: State) -> Answer
+    ensures { λ r. ⌜ InNumbers r (sizeReply s) a ⌝ }
+{
+    match a {
+        SizeAnswer::Suggested(size) => one_result(size as u64, s),
         SizeAnswer::Refused(e) => refused(e, s),
     }
 }
 
+pub(crate) fn of_state(a: StateAnswer, s: State) -> Answer
+    ensures { λ r. ⌜ InNumbers r (stateReply s) a ⌝ }
+{
+    match a {
+        StateAnswer::Set(t) => no_result(t),
+        StateAnswer::Refused(e) => refused(e, s),
+    }
+}
+
+pub(crate) fn of_begin(a: BeginAnswer, s: State) -> Answer
+    ensures { λ r. ⌜ InNumbers r (beginReply s) a ⌝ }
+{
+    match a {
+        BeginAnswer::Begun(fingerprint) => one_result(fingerprint, s),
+        BeginAnswer::Refused(e) => refused(e, s),
+    }
+}
+
+pub(crate) fn of_end(a: EndAnswer, s: State) -> Answer
+    ensures { λ r. ⌜ InNumbers r (endReply s) a ⌝ }
+{
+    match a {
+        EndAnswer::Ended => no_result(s),
+        EndAnswer::Refused(e) => refused(e, s),
+    }
+}
+
 pub(crate) fn of_scan(a: ScanAnswer, s: State) -> Answer
-    ensures { λ r. ⌜ Answers r (scanReply s) a ⌝ }
+    ensures { λ r. ⌜ InNumbers r (scanReply s) a ⌝ }
 {
     match a {
         ScanAnswer::Scanned(cursor, count) => two_results(0, cursor, count, s),

@@ -12,8 +12,4 @@ unfolding answerOf results reply
 returns c = search needs
 
 pub no-result-spec : {M : Type 1} → statement M
-no-result-spec =
-    tie.close
-    (tie.spec
-    (λ c κs. search needs)
-    returns)
+no-result-spec = tie.close (tie.spec (λ c κs. search needs) returns)

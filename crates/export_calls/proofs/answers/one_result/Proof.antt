@@ -1,16 +1,15 @@
+-- `export_calls::answers::one_result` meets its contract.
+-- Assumes nothing.
+use borrow.Author.Needs.{needs}
 use Rattle.model.specs.Answers.{reply}
 use Rattle.lent_bytes.specs.Exports.{results}
 use Rattle.export_calls.specs.Kinds.{answerOf}
-use Rattle.export_calls.proofs.Telling.{one-result}
 use Rattle.export_calls.proofs.answers.one_result.Statement.{statement}
 use Rattle.export_calls.proofs.answers.one_result.Tie as tie
-use Rattle.export_calls.proofs.answers.one_result.Reads as reads
-use Rattle.export_calls.proofs.answers.one_result.Lts as lts
 
--- src/answers.rt:35:1
 returns : tie.Need-returns
 unfolding answerOf results reply
-returns c = search one-result
+returns c = c .two-results .ensures
 
 pub one-result-spec : {M : Type 1} → statement M
-one-result-spec = tie.close (tie.spec returns)
+one-result-spec = tie.close (tie.spec (λ c. search needs) (λ c. search needs) (λ c κs. search needs) returns)

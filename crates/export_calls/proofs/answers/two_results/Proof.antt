@@ -12,7 +12,4 @@ unfolding answerOf results reply
 returns c = refl
 
 pub two-results-spec : {M : Type 1} → statement M
-two-results-spec =
-    tie.close
-    (tie.spec
-    returns)
+two-results-spec = tie.close (tie.spec returns)

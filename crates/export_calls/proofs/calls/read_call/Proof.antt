@@ -15,6 +15,14 @@ returns-2 : tie.Need-returns-2
 unfolding readCall perform given kept world
 returns-2 c = search (read-as, kept-tells)
 
+returns-3 : tie.Need-returns-3
+unfolding readCall perform given kept world
+returns-3 c = search (read-as, kept-tells)
+
+returns-4 : tie.Need-returns-4
+unfolding readCall perform given kept world
+returns-4 c = search (read-as, kept-tells)
+
 pub read-call-spec : {M : Type 1} → statement M
 read-call-spec =
     tie.close
@@ -25,5 +33,13 @@ read-call-spec =
     (λ c. search needs)
     (λ c κs. search needs)
     (λ c κs. search needs)
+    (λ c. search needs)
+    (λ c κs. search needs)
+    (λ c κs. search needs)
+    (λ c. search needs)
+    (λ c κs. search needs)
+    (λ c κs. search needs)
     returns
-    returns-2)
+    returns-2
+    returns-3
+    returns-4)

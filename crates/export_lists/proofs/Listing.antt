@@ -10,13 +10,14 @@ use mir.Val.{Fits}
 use lib.ListN.{length, getD, take, drop}
 use lib.Seq.{length-take-le}
 use Rattle.little_endian.specs.Words.{decode, encode, Decoded}
+use Rattle.little_endian.proofs.Laws.{encode-length}
 use Rattle.model.specs.declared.State.{State}
 use Rattle.model.specs.Sequences.{World, Outcome, world, perform}
-use Rattle.lent_bytes.specs.Exports.{results, mostEntryBytes}
+use Rattle.lent_bytes.specs.Exports.{results}
 use Rattle.export_calls.specs.declared.answers.Answer.{Answer}
 use Rattle.export_calls.specs.declared.calls.Listing.{Listing}
 use Rattle.export_calls.specs.Kinds.{answerOf, Told, told, listCall}
-use Rattle.export_lists.specs.Listed.{Listed, listedBy, listRoom, Exact, Enough}
+use Rattle.export_lists.specs.Listed.{Listed, listedBy, listRoom, Short, AnyLength}
 use Rattle.export_lists.proofs.Parts.{decode-take, encode-append, encode-rest, decode-length}
 use Rattle.export_lists.proofs.Front.{longer, list-front}
 
@@ -34,6 +35,10 @@ listedTold (Told.tells a first second entries list) = Listed.listed (a .number) 
 listed-told : (o : Outcome) → listedTold (told o) ≡ listedBy o
 unfolding listedTold told answerOf listedBy
 listed-told o = rw (two-results (o .reply .values))
+
+pub same-room : (list numbers numbers′ : List ℕ) → Decoded list numbers → length numbers′ ≡ length numbers
+    → length numbers′ * 4 ≡ length list
+same-room list numbers numbers′ d l = omega (arith, encode-length numbers, ap length (d .back))
 
 pub list-done : (s : State) (first second entries list numbers numbers′ list′ answer : List ℕ) (a : Answer) (call : Listing)
     → Decoded list numbers
@@ -56,15 +61,20 @@ longer-behind : (rest : List ℕ) (o : Outcome) → behind (encode rest) (listed
 unfolding behind listedBy longer
 longer-behind rest o = rw (encode-append (o .lent) rest)
 
-module _ (entries list answer room : List ℕ) (g : Enough entries list answer room) (n : ℕ) (m : n ≡ min (length list / 4) (length room)) where
-  pub list-count : n * 4 ≡ length (take (n * 4) list)
-  list-count = sym (length-take-le (n * 4) list (omega arith))
+module _ (entries list answer : List ℕ) (g : AnyLength entries list answer) (n : ℕ) (m : n ≡ min (length list / 4) listRoom) where
+  pub front-part : n * 4 ≤ length list
+  front-part = omega arith
 
-  pub room-count : n ≡ length (take n room)
-  room-count = sym (length-take-le n room (omega arith))
+  pub front-length : n * 4 ≡ length (take (n * 4) list)
+  front-length = sym (length-take-le (n * 4) list (omega arith))
 
-  pub exact : Exact (take (n * 4) list) answer (take n room)
-  exact = record { room = ap (λ (k : ℕ). k * 4) (sym room-count) ∙ list-count; answer-length = g .answer-length }
+  pub short : Short (take (n * 4) list) answer
+  short =
+      record {
+        whole = omega (arith, front-length);
+        few = omega (arith, front-length);
+        answer-length = g .answer-length;
+      }
 
   pub front-done : (s : State) (first second part answer′ : List ℕ) (r : ℕ) (call : Listing) → ((i : ℕ) → Fits w8 (getD list i 0))
       → Listed.listed r part answer′ ≡ listedBy (perform (world s first second entries) (listCall call (decode (take (n * 4) list))))

@@ -1,11 +1,11 @@
--- Handing out to the front of a list is handing out to the whole: what a walk call or a pass call can hand out is no more than
--- two numbers for each entry, so that a front with room for these answers the same, and what lies behind it stays.
+-- Handing out to the front of a list is handing out to the whole of it. A walk call and a pass call hand out at most two numbers
+-- for each entry, so that with a front that has room for these the answer is the same, and what lies behind the front stays.
 -- Assumes nothing.
 use Prim.Native.Nat.{ℕ, _*_, _/_, _≤_, min}
 use native.Mathlib.Omega.{arith}
 use mathlib.Core.Path.{_≡_, refl, sym, ap, _∙_}
 use mathlib.Core.Bool.{Bool, true, false, cond}
-use mathlib.Core.List.{List, [], _++_, append-assoc}
+use mathlib.Core.List.{List, _++_, append-assoc}
 use mathlib.Core.Option.{Option, none, some}
 use lib.ListN.{length, take, drop, take-append-drop, length-take}
 use lib.Seq.{drop-append-le}
@@ -17,19 +17,19 @@ use Rattle.model.specs.declared.Error.{Error}
 use Rattle.model.specs.declared.ScanAnswer.{ScanAnswer}
 use Rattle.model.specs.Memory.{keysHeld, usedOf, Place, budgetAt, chainAt, listed}
 use Rattle.model.specs.Calls.{sound, oriented, checked, reading}
-use Rattle.model.specs.Walk.{AfterScan, atMost, pairs, scanned, group, tablesOf, chainsAt, groupPlaces}
+use Rattle.model.specs.Walk.{AfterScan, atMost, pairs, scanned, tablesOf}
 use Rattle.model.specs.Walk as walk
-use Rattle.model.specs.Iterators.{handed, endPlace, bucketAt, firstPlace, filled}
+use Rattle.model.specs.Iterators.{handed, firstPlace, filled}
 use Rattle.model.specs.Iterators as iterators
-use Rattle.model.specs.Sequences.{Call, World, Outcome, kept, keptScan, given, perform}
-use Rattle.export_calls.specs.declared.calls.Listing.{Listing}
-use Rattle.export_calls.specs.Kinds.{listCall}
+use Rattle.model.specs.Sequences.{World, Outcome, kept, keptScan, given, perform}
 use Rattle.model.proofs.Linked.{read-sound}
 use Rattle.model.proofs.AtMost.{at-most-some}
 use Rattle.model.proofs.Soundness.{Sound, sound-facts}
+use Rattle.export_calls.specs.declared.calls.Listing.{Listing}
+use Rattle.export_calls.specs.Kinds.{listCall}
 
 -- what is left of a front, and the rest of the list behind it
-unfoldable pub followed : List ℕ → AfterScan → AfterScan
+unfoldable followed : List ℕ → AfterScan → AfterScan
 followed rest (AfterScan.after answer front) = AfterScan.after answer (front ++ rest)
 
 module _ (m : ℕ) (list : List ℕ) where
@@ -106,7 +106,17 @@ module _ (s : State) (current other entries : List ℕ) (h : Sound s (length cur
       read none e = omega arith
       read (some ns) e = omega (arith, at-most-some (keysHeld s) o ns e .1)
 
--- The walk call and the pass call. The entry buffer has room for no more entries than the front has room for pairs.
+-- the outcome of a call on a front, and the rest of the list behind it
+unfoldable pub longer : List ℕ → Outcome → Outcome
+longer rest o =
+    record { reply = o .reply; first = o .first; second = o .second; entries = o .entries; lent = o .lent ++ rest }
+
+kept-longer : (w : World) (rest : List ℕ) (a : AfterScan) → longer rest (keptScan w a) ≡ keptScan w (followed rest a)
+unfolding longer keptScan kept followed
+kept-longer w rest (AfterScan.after answer list) = refl
+
+-- The walk call and the pass call. An entry is three numbers of the entry buffer, and a pair two of the list: so with this room
+-- there is room for every pair.
 
 module _ (room m : ℕ) (w : World) (list : List ℕ) (few : length (w .entries) / 3 * 2 ≤ room) (long : min room (length list) ≤ m) where
   fits : (current other : ℕ) → Sound (w .state) current other (length (w .entries)) → min (w .state .capacity * 2) (length list) ≤ m
@@ -140,18 +150,7 @@ module _ (room m : ℕ) (w : World) (list : List ℕ) (few : length (w .entries)
       by current other h (some n) =
           scanned-front m list (w .state .capacity) (fits _ _ h) (w .entries) _ _ (chain-fits (w .state) current other (w .entries) h _)
 
--- The outcome of either call: the front's, and the rest of the list behind it.
-
-unfoldable pub longer : List ℕ → Outcome → Outcome
-longer rest o =
-    record { reply = o .reply; first = o .first; second = o .second; entries = o .entries; lent = o .lent ++ rest }
-
-kept-longer : (w : World) (rest : List ℕ) (a : AfterScan) → longer rest (keptScan w a) ≡ keptScan w (followed rest a)
-unfolding longer keptScan kept followed
-kept-longer w rest (AfterScan.after answer list) = refl
-
-module _ (room m : ℕ) (w : World) (list : List ℕ) (few : length (w .entries) / 3 * 2 ≤ room) (long : min room (length list) ≤ m) where
   pub list-front : (call : Listing) → longer (drop m list) (perform w (listCall call (take m list))) ≡ perform w (listCall call list)
   unfolding listCall perform
-  list-front (Listing.Scan cursor) = kept-longer w (drop m list) _ ∙ ap (keptScan w) (scan-front room m w list few long cursor)
-  list-front (Listing.Iterate place) = kept-longer w (drop m list) _ ∙ ap (keptScan w) (iterate-front room m w list few long place)
+  list-front (Listing.Scan cursor) = kept-longer w (drop m list) _ ∙ ap (keptScan w) (scan-front cursor)
+  list-front (Listing.Iterate place) = kept-longer w (drop m list) _ ∙ ap (keptScan w) (iterate-front place)

@@ -1,4 +1,4 @@
--- Bytes in two parts: the numbers of each part are that part of the numbers.
+-- Bytes in two parts: the numbers of a part are that part of the numbers, and back.
 -- Assumes nothing.
 use Prim.Native.Nat.{ℕ, zero, suc, _+_, _*_, _-_, _/_, _≤_}
 use native.Mathlib.Omega.{arith}
@@ -9,7 +9,15 @@ use lib.Seq.{getD-drop}
 use Rattle.little_endian.specs.Words.{word, decode, encode}
 use Rattle.little_endian.proofs.Laws.{Below, encode-decode}
 
--- A number's four bytes, and those of the numbers behind it
+pub decode-length : (bytes : List ℕ) → length (decode bytes) ≡ length bytes / 4
+unfolding decode
+decode-length [] = refl
+decode-length (a ∷ []) = refl
+decode-length (a ∷ b ∷ []) = refl
+decode-length (a ∷ b ∷ c ∷ []) = refl
+decode-length (a ∷ b ∷ c ∷ d ∷ bytes) = omega (arith, decode-length bytes)
+
+-- a number's four bytes, and those of the numbers behind it
 four-more : (m : ℕ) → suc m * 4 ≡ suc (suc (suc (suc (m * 4))))
 four-more m = omega arith
 
@@ -43,11 +51,3 @@ encode-rest m bytes whole few b =
     ap encode (sym (decode-drop m bytes))
     ∙ encode-decode (length bytes / 4 - m) (drop (m * 4) bytes) (omega (arith, length-drop (m * 4) bytes))
     (λ i. rw (getD-drop (m * 4) bytes i 0) (b (m * 4 + i)))
-
-pub decode-length : (bytes : List ℕ) → length (decode bytes) ≡ length bytes / 4
-unfolding decode
-decode-length [] = refl
-decode-length (a ∷ []) = refl
-decode-length (a ∷ b ∷ []) = refl
-decode-length (a ∷ b ∷ c ∷ []) = refl
-decode-length (a ∷ b ∷ c ∷ d ∷ bytes) = omega (arith, decode-length bytes)

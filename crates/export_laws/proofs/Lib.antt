@@ -1,0 +1,4 @@
+pub mod Computing
+pub mod Cases
+pub mod Refusals
+pub mod WrongExports

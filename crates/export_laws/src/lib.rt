@@ -1,0 +1,1 @@
+// Laws about the calls over bytes; no code.

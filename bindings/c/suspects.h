@@ -4,7 +4,7 @@
  * The store holds suspect flip-flops, each with a count of fails, in a hash dictionary of two tables. It grows by
  * itself: behind an add a move to a larger table may begin, and each add or delete then moves a bucket. It hands the
  * cells out a few at a time, by a cursor that stays good while all this goes on. Every function here is proved to
- * answer, and to leave the memory, as docs/SPECIFICATION.md says ("Calls over bytes"). This header says it shortly.
+ * answer, and to leave the memory, as docs/SPECIFICATION.md says ("Calls over bytes"); this header says it in short.
  *
  * The archive is made by `rt staticlib exports` (target/staticlib/libexports.a), for Linux on x86-64.
  *
@@ -56,7 +56,8 @@
  *     memory is clear, and so is calloc's).
  *   - The slices of one call must not overlap.
  *   - Two calls on one store must not run at the same time, unless both are of the functions whose store is const;
- *     each of the two then has an answer, and a list, of its own.
+ *     each of the two then has an answer, and a list, of its own. Calls on different stores may.
+ *   - A call must run to its end. One that is cut short, by a longjmp for instance, leaves the store half written.
  *
  * No more is asked. Any bytes, any lengths and any numbers are safe: a state that is no state, a chain that loops, a
  * cursor that was made up. Each call comes to its end and is answered with a number. What a damaged store answers is
@@ -68,8 +69,8 @@
  * state, the buffers and the list are what they were before. Where more than one number would apply, the one that is
  * named first at the function is given.
  *
- * 1 comes before all others. It says that the state is not one of a store with these buffers, or that a length or a
- * flag is wrong:
+ * 1 comes before all others. It says that the state is not one of a store with these buffers (docs/SPECIFICATION.md,
+ * "Sound state"), or that a length or a flag is wrong:
  *
  *   - the state has another length than 44 bytes, or the answer another than 8;
  *   - a flag of the state is above 1 (suspects_init does not look), or the flag given as a number is;
@@ -114,9 +115,9 @@
  *   - each bucket buffer: four bytes for each bucket of the largest table that it is to hold. A table grows to the
  *     least power of two that is at least twice the keys held. With SUSPECTS_BUCKET_BYTES_FOR(c) there is room for
  *     that, up to the 4,096 buckets that a buffer can have. (With more than 2,048 keys it would grow to 8,192, and so
- *     not at all: a table that has fewer than 4,096 buckets then needs a suspects_resize.) With shorter buffers it grows
- *     as long as there is room, and with a second one of length 0 never. No add is refused for that, but chains become
- *     long, and calls slow;
+ *     not at all: a table that has fewer than 4,096 buckets then needs a suspects_resize.) With shorter buffers it
+ *     grows as long as there is room, and with a second one of length 0 never. No add is refused for that, but chains
+ *     become long, and calls slow;
  *   - the list: SUSPECTS_LIST_BYTES_FOR(c) is enough for every call. A shorter one is answered 9 where it is too short.
  *
  * WHAT A CALL COSTS

@@ -153,6 +153,48 @@ static void try_rows(void)
     }
 }
 
+/* ---- The state, field by field ---- */
+
+enum { FIELDS = SUSPECTS_STATE_BYTES / 4 };
+
+static void must(enum call call, uint64_t a, uint32_t b)
+{
+    const struct lent lent = lend();
+    if (make_call(call, &lent, a, b) != SUSPECTS_DONE) fail("it is refused on the way to a state", call);
+}
+
+static void expect_state(const uint32_t *due)
+{
+    static const int at[FIELDS] = {SUSPECTS_AT_SECOND_IS_CURRENT, SUSPECTS_AT_OLD_SIZE,      SUSPECTS_AT_NEW_SIZE,
+                                   SUSPECTS_AT_OLD_USED,          SUSPECTS_AT_NEW_USED,      SUSPECTS_AT_REHASHING,
+                                   SUSPECTS_AT_REHASH_INDEX,      SUSPECTS_AT_FREE_HEAD,     SUSPECTS_AT_CAPACITY,
+                                   SUSPECTS_AT_RESIZE_ALLOWED,    SUSPECTS_AT_SAFE_ITERATORS};
+    for (int i = 0; i < FIELDS; i++) {
+        uint32_t is = suspects_get32(memory.state + at[i]);
+        if (is == due[i]) continue;
+        fprintf(stderr, "calls: the state's field at %d is %" PRIu32 ", where %" PRIu32 " is due\n", at[i], is, due[i]);
+        exit(1);
+    }
+}
+
+/* Two states in which no two fields have the same value both times, so that none can be taken for another. */
+static void try_state(void)
+{
+    static const uint32_t moving[FIELDS] = {0, 4, 8, 1, 4, 1, 3, 6, 7, 0, 2};
+    static const uint32_t at_rest[FIELDS] = {1, 8, 0, 5, 0, 0, 0, 6, 7, 0, 0};
+    static const uint32_t keys[] = {1, 3, 6, 9};
+    must(INIT, 7, 4);
+    for (int i = 0; i < 4; i++) must(ADD, keys[i], 1);
+    must(REHASH_STEP, 0, 0); /* moves keys 9 and 1 */
+    must(ADD, 17, 1);        /* moves key 6 */
+    must(ALLOW_RESIZE, 0, 0);
+    for (int i = 0; i < 2; i++) must(BEGIN_SAFE, 0, 0);
+    expect_state(moving);
+    for (int i = 0; i < 2; i++) must(END_SAFE, 0, 0);
+    must(REHASH_STEP, 0, 0); /* moves key 3, the last one */
+    expect_state(at_rest);
+}
+
 /* ---- Lengths and pointers, on a new store ---- */
 
 /* A refusal by the first check leaves every slice as it was, but for an answer of eight bytes, which becomes zeros. */
@@ -251,6 +293,8 @@ int main(void)
 {
     try_helpers();
     try_rows();
+    try_state();
+    must(INIT, 8, 4);
     for (int call = 0; call < CALLS; call++) {
         try_wrong_lengths((enum call)call);
         try_long_buffers((enum call)call);

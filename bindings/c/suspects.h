@@ -173,15 +173,15 @@ extern "C" {
 #define SUSPECTS_ENTRY_BYTES_FOR(capacity) ((size_t)12 * (capacity))
 #define SUSPECTS_LIST_BYTES_FOR(keys) ((size_t)8 * (keys))
 #define SUSPECTS_BUCKET_BYTES_FOR(capacity)                                                                            \
-    ((size_t)4 * ((capacity) <= 2     ? 4                                                                              \
-                  : (capacity) <= 4   ? 8                                                                              \
-                  : (capacity) <= 8   ? 16                                                                             \
-                  : (capacity) <= 16  ? 32                                                                             \
-                  : (capacity) <= 32  ? 64                                                                             \
-                  : (capacity) <= 64  ? 128                                                                            \
-                  : (capacity) <= 128 ? 256                                                                            \
-                  : (capacity) <= 256 ? 512                                                                            \
-                  : (capacity) <= 512 ? 1024                                                                           \
+    ((size_t)4 * ((capacity) <= 2      ? 4                                                                             \
+                  : (capacity) <= 4    ? 8                                                                             \
+                  : (capacity) <= 8    ? 16                                                                            \
+                  : (capacity) <= 16   ? 32                                                                            \
+                  : (capacity) <= 32   ? 64                                                                            \
+                  : (capacity) <= 64   ? 128                                                                           \
+                  : (capacity) <= 128  ? 256                                                                           \
+                  : (capacity) <= 256  ? 512                                                                           \
+                  : (capacity) <= 512  ? 1024                                                                          \
                   : (capacity) <= 1024 ? 2048                                                                          \
                                        : SUSPECTS_MOST_SIZE))
 
@@ -251,20 +251,11 @@ static inline void suspects_put64(uint8_t *p, uint64_t n)
 }
 
 /* A cell's key, and back. */
-static inline uint32_t suspects_key(uint16_t chain, uint16_t position)
-{
-    return (uint32_t)chain << 16 | position;
-}
+static inline uint32_t suspects_key(uint16_t chain, uint16_t position) { return (uint32_t)chain << 16 | position; }
 
-static inline uint16_t suspects_chain(uint32_t key)
-{
-    return (uint16_t)(key >> 16);
-}
+static inline uint16_t suspects_chain(uint32_t key) { return (uint16_t)(key >> 16); }
 
-static inline uint16_t suspects_position(uint32_t key)
-{
-    return (uint16_t)(key & 65535);
-}
+static inline uint16_t suspects_position(uint32_t key) { return (uint16_t)(key & 65535); }
 
 /* A number's name, for messages. */
 static inline const char *suspects_number_name(uint32_t number)
@@ -481,8 +472,7 @@ uint32_t suspects_begin_safe(uint8_t *state, size_t state_len, uint8_t *first, s
  * Writes, on 0: the state.
  */
 uint32_t suspects_end_safe(uint8_t *state, size_t state_len, uint8_t *first, size_t first_len, uint8_t *second,
-                           size_t second_len, uint8_t *entries, size_t entries_len, uint8_t *answer,
-                           size_t answer_len);
+                           size_t second_len, uint8_t *entries, size_t entries_len, uint8_t *answer, size_t answer_len);
 
 #ifdef __cplusplus
 }

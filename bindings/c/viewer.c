@@ -259,7 +259,7 @@ static bool read_line(char *line)
     return !ferror(stdin);
 }
 
-/* Reads a decimal number, which is at most `most`, and the blanks around it. */
+/* Reads a decimal number, which is at most `most`, and the blanks around it. False where there is none. */
 static bool read_number(const char **text, uint32_t most, uint32_t *number)
 {
     const char *blanks = " \t\r", *digits = *text + strspn(*text, blanks), *end = digits + strspn(digits, "0123456789");
@@ -270,7 +270,7 @@ static bool read_number(const char **text, uint32_t most, uint32_t *number)
     }
     *number = (uint32_t)n;
     *text = end + strspn(end, blanks);
-    return end > digits && (*text > end || *end == '\0');
+    return end > digits;
 }
 
 static void take_line(const char *line)

@@ -268,15 +268,16 @@ static void try_nulls(enum call call)
     if (make_call(call, &none, 1, 1) != SUSPECTS_BAD_STATE) fail("it does not answer 1 with nothing lent", call);
 }
 
-/* The widths of the helpers: what is put comes back, and lies with its lowest byte first. */
-static void try_helpers(void)
+/* What the header has itself: a number that is put lies with its lowest byte first and comes back; and the bytes to
+   lend for a capacity. */
+static void try_header(void)
 {
     const uint8_t bytes[8] = {8, 7, 6, 5, 4, 3, 2, 1};
     uint8_t put[8];
     suspects_put64(put, UINT64_C(0x0102030405060708));
     if (memcmp(put, bytes, 8) != 0 || suspects_get64(put) != UINT64_C(0x0102030405060708) ||
         suspects_get32(put + 4) != 0x01020304) {
-        fputs("calls: the helpers for numbers disagree\n", stderr);
+        fputs("calls: a number is put or got in another order\n", stderr);
         exit(1);
     }
     for (uint32_t c = 1; c <= SUSPECTS_MOST_CAPACITY; c++) {
@@ -291,7 +292,7 @@ static void try_helpers(void)
 
 int main(void)
 {
-    try_helpers();
+    try_header();
     try_rows();
     try_state();
     must(INIT, 8, 4);

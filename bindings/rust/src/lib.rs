@@ -1,3 +1,70 @@
-//! A safe crate over the C exports of the proved store of suspect cells.
+//! A store of suspect cells that is proved, for Rust.
+//!
+//! A scan-diagnosis tool keeps suspect flip-flops, each with a count of fails, in a hash
+//! dictionary, and hands them to a viewer bit by bit while failures still arrive and the table
+//! changes its size. The store behind this crate is written in Rattle. Every call of it is proved
+//! to answer exactly as its definition says, for any numbers and any memory. This crate calls it
+//! by its C exports, and adds what Rust can say about them: owned memory, borrows, errors and
+//! iterators. It has no dependencies.
+//!
+//! ```
+//! use suspects::{Cell, Error, Store, Walk};
+//!
+//! fn main() -> Result<(), Error> {
+//!     let mut store = Store::new(4096, 4)?; // room for 4,096 cells; 4 buckets at first
+//!     for position in 0..6 {
+//!         store.add(Cell::new(1, position), 1)?; // a cell of scan chain 1, with one fail
+//!     }
+//!     let mut late = (6..9).map(|position| Cell::new(1, position));
+//!     let mut walk = Walk::new();
+//!     while let Some(group) = walk.next(&store)? {
+//!         for (cell, fails) in group {
+//!             println!("{cell}: {fails}");
+//!         }
+//!         if let Some(cell) = late.next() {
+//!             store.add(cell, 1)?; // the walk goes on, whatever is added, and loses none
+//!         }
+//!     }
+//!     Ok(())
+//! }
+//! ```
+//!
+//! # Ways through a store
+//!
+//! | | while it goes on | each cell held throughout comes |
+//! |---|---|---|
+//! | [`Store::walk`], an iterator | the store is borrowed | exactly once |
+//! | [`Walk`] | anything may happen to the store | at least once; exactly once while the table does not shrink |
+//! | [`PlainPass`] | the store should not change; its end tells most changes | exactly once, if nothing changed |
+//! | [`CarefulPass`], and [`Store::careful_pass`] with a closure | anything but a start; no key moves until it is ended | exactly once |
+//!
+//! `docs/PASSES.md` says when to use which.
+//!
+//! # Where it is said
+//!
+//! `docs/SPECIFICATION.md` says what the store does, whole. This crate follows its words, and the
+//! code's names for the calls; [`Error`] has the numbers of its answers. The functions of [`raw`]
+//! are the exports one for one, and all that is `unsafe` is in that module.
+//!
+//! # To build it
+//!
+//! The archive of the exports comes first: `rt staticlib exports` in the repository's folder. The
+//! variable `SUSPECTS_ARCHIVE_DIR` names its folder, where that is not the repository's
+//! `target/staticlib`.
 
+mod bytes;
+mod cell;
+mod error;
+mod list;
+mod memory;
+mod passes;
 pub mod raw;
+mod store;
+mod walk;
+
+pub use cell::Cell;
+pub use error::Error;
+pub use memory::Memory;
+pub use passes::{CarefulPass, PlainPass};
+pub use store::{Step, Store};
+pub use walk::{Suspects, Walk};

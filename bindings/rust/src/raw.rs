@@ -1,32 +1,54 @@
 //! The fifteen exports as safe functions over slices, one for one.
 //!
-//! Each has the name of its export without the prefix `suspects_`, and its arguments in the same order: the slices,
-//! and then the call's own numbers. It returns the answer's number, 0 for done. What a call does, and the layout of the
-//! bytes, is in `docs/SPECIFICATION.md`, "Calls over bytes". All numbers in the slices are little-endian.
+//! Each has the name of its export without the prefix `suspects_`, and the same arguments in the
+//! same order: the slices, and then the call's own numbers. It returns the answer's number, 0 for
+//! done. What each call does, and how the bytes lie, is in `docs/SPECIFICATION.md`, "Calls over
+//! bytes". All numbers in the slices are little-endian.
 //!
 //! | slice | what it is |
 //! |---|---|
-//! | `state` | [`STATE_BYTES`]: eleven 32-bit numbers, of which the three flags are 0 or 1 |
-//! | `first`, `second` | the two bucket buffers, 32-bit numbers, each up to [`MAX_BUCKET_BYTES`] |
-//! | `entries` | the entry buffer, three 32-bit numbers for each entry, up to [`MAX_ENTRY_BYTES`] |
-//! | `list` | of a walk call and a pass call: gets the keys handed out, each with its value, as pairs of 32-bit numbers |
+//! | `state` | [`STATE_BYTES`]: eleven 32-bit numbers, three of which are flags, 0 or 1 |
+//! | `first`, `second` | the bucket buffers: 32-bit numbers, up to [`MAX_BUCKET_BYTES`] each |
+//! | `entries` | the entry buffer: three 32-bit numbers for each entry, up to [`MAX_ENTRY_BYTES`] |
+//! | `list` | gets the keys that are handed out, each with its value: pairs of 32-bit numbers |
 //! | `answer` | [`ANSWER_BYTES`]: gets the results, on a refusal too |
 //!
-//! Nothing need be true of the slices. Any lengths and any bytes are answered: what does not fit is answered 1, and
-//! damaged memory 2 where the call meets the damage.
+//! Nothing need be true of the slices: any lengths and any bytes are answered. Lengths that do not
+//! fit are answered 1, and damaged memory is answered 2 where the call meets the damage.
+//! [`Error::check`](crate::Error::check) makes a `Result` of the number and the answer.
+//!
+//! ```
+//! use suspects::raw;
+//!
+//! let mut state = [0; raw::STATE_BYTES];
+//! let mut answer = [0; raw::ANSWER_BYTES];
+//! let (mut first, mut second, mut entries) = ([0; 16], [0; 32], [0; 96]);
+//!
+//! // A store for eight cells, of four buckets, which has room to grow to eight.
+//! let done = raw::init(&mut state, &mut first, &mut second, &mut entries, &mut answer, 8, 4);
+//! assert_eq!(done, 0);
+//! let done = raw::add(&mut state, &mut first, &mut second, &mut entries, &mut answer, 65_541, 3);
+//! assert_eq!(done, 0);
+//! let done = raw::find(&state, &first, &second, &entries, &mut answer, 65_541);
+//! assert_eq!((done, answer), (0, [3, 0, 0, 0, 0, 0, 0, 0]));
+//! ```
 //!
 //! # Why the functions are safe
 //!
-//! A function in another language is sound to call if its own promises are kept. These are the same for all fifteen.
+//! To call a function of another language is sound as long as what that function counts on is
+//! given. For these fifteen it is given by their Rust signatures alone.
 //!
-//! - **Valid memory.** Each slice goes over as its pointer and its length. A Rust reference is never null, and its
-//!   bytes are there for the whole call, to be written if it is a `&mut`. A byte needs no alignment.
-//! - **No overlap.** A `&mut` excludes every other reference to the same bytes, so what an export writes overlaps with
-//!   nothing. Slices that are only read may overlap without harm.
-//! - **No precondition.** The contract of each export is proved for all bytes, all lengths and all numbers. It says
-//!   what is written, and the export comes to an end.
-//! - **Nothing kept.** An export keeps no pointer, has no memory of its own between calls and allocates none. Calls on
-//!   different slices may run at the same time, and so may calls that only read the same ones.
+//! - **Valid memory.** A slice goes over as its pointer and its length. The pointer of a Rust
+//!   slice is never null, its bytes stay for the whole call, and those of a `&mut` may be written.
+//!   A byte needs no alignment.
+//! - **No overlap.** While a `&mut` lives there is no other reference to its bytes, so nothing
+//!   that an export writes overlaps with another slice. Slices that are only read may overlap:
+//!   nothing can tell.
+//! - **No precondition.** Each export's contract is proved for all bytes, all lengths and all
+//!   numbers. It says all that the export writes, and that it comes to an end.
+//! - **Nothing is kept.** An export keeps no pointer, allocates nothing, and has no memory of its
+//!   own from one call to the next. So calls may run at the same time wherever Rust lets them:
+//!   on different slices, or on the same ones if they only read them.
 
 #![allow(unsafe_code)]
 
@@ -36,214 +58,144 @@ pub const STATE_BYTES: usize = 44;
 /// The length of an answer.
 pub const ANSWER_BYTES: usize = 8;
 
-/// The greatest length of a bucket buffer, for 4,096 buckets.
+/// The greatest length of a bucket buffer: 4,096 buckets.
 pub const MAX_BUCKET_BYTES: usize = 16_384;
 
-/// The greatest length of an entry buffer, for 4,096 entries.
+/// The greatest length of an entry buffer: 4,096 entries.
 pub const MAX_ENTRY_BYTES: usize = 49_152;
 
-/// The exports that read the store, and write the answer alone.
-macro_rules! readers {
-    ($($(#[$documentation:meta])* $name:ident = $export:ident($($number:ident: $type:ty),*);)*) => {$(
+/// Declares exports, and defines a safe function for each. Behind the name of a slice stands what
+/// the export does with it: `read` for a C pointer to const, `write` for one that is not.
+macro_rules! exports {
+    (@slice read) => { &[u8] };
+    (@slice write) => { &mut [u8] };
+    (@pointer read) => { *const u8 };
+    (@pointer write) => { *mut u8 };
+    (@address read $slice:ident) => { $slice.as_ptr() };
+    (@address write $slice:ident) => { $slice.as_mut_ptr() };
+    ($(
+        $(#[$documentation:meta])*
+        $name:ident = $export:ident(
+            $($slice:ident: $access:ident),+;
+            $($number:ident: $type:ty),*
+        );
+    )+) => {$(
         $(#[$documentation])*
-        pub fn $name(
-            state: &[u8],
-            first: &[u8],
-            second: &[u8],
-            entries: &[u8],
-            answer: &mut [u8],
-            $($number: $type,)*
-        ) -> u32 {
+        pub fn $name($($slice: exports!(@slice $access),)+ $($number: $type),*) -> u32 {
             unsafe extern "C" {
                 fn $export(
-                    state: *const u8,
-                    state_length: usize,
-                    first: *const u8,
-                    first_length: usize,
-                    second: *const u8,
-                    second_length: usize,
-                    entries: *const u8,
-                    entries_length: usize,
-                    answer: *mut u8,
-                    answer_length: usize,
-                    $($number: $type,)*
+                    $($slice: exports!(@pointer $access), _: usize,)+
+                    $($number: $type),*
                 ) -> u32;
             }
-            // SAFETY: each pointer and length is that of a Rust slice: not null, valid for the call, and the answer,
-            // which is written, overlaps with none of the others. The export's contract is proved for all bytes, all
-            // lengths and all numbers, with no precondition, and it keeps no pointer.
+            // SAFETY: each pointer and length is that of a Rust slice, so it is not null, and is
+            // valid for the whole call. What is written comes from a `&mut`, and overlaps with no
+            // other slice. Any bytes, lengths and numbers will do, since the export's contract is
+            // proved for all of them with no precondition; and it keeps no pointer.
             unsafe {
                 $export(
-                    state.as_ptr(),
-                    state.len(),
-                    first.as_ptr(),
-                    first.len(),
-                    second.as_ptr(),
-                    second.len(),
-                    entries.as_ptr(),
-                    entries.len(),
-                    answer.as_mut_ptr(),
-                    answer.len(),
-                    $($number,)*
+                    $(exports!(@address $access $slice), $slice.len(),)+
+                    $($number),*
                 )
             }
         }
-    )*};
+    )+};
 }
 
-/// The exports that read the store, and write a list and the answer.
-macro_rules! listers {
-    ($($(#[$documentation:meta])* $name:ident = $export:ident($($number:ident: $type:ty),*);)*) => {$(
-        $(#[$documentation])*
-        pub fn $name(
-            state: &[u8],
-            first: &[u8],
-            second: &[u8],
-            entries: &[u8],
-            list: &mut [u8],
-            answer: &mut [u8],
-            $($number: $type,)*
-        ) -> u32 {
-            unsafe extern "C" {
-                fn $export(
-                    state: *const u8,
-                    state_length: usize,
-                    first: *const u8,
-                    first_length: usize,
-                    second: *const u8,
-                    second_length: usize,
-                    entries: *const u8,
-                    entries_length: usize,
-                    list: *mut u8,
-                    list_length: usize,
-                    answer: *mut u8,
-                    answer_length: usize,
-                    $($number: $type,)*
-                ) -> u32;
-            }
-            // SAFETY: each pointer and length is that of a Rust slice: not null, valid for the call, and the list and
-            // the answer, which are written, overlap with nothing. The export's contract is proved for all bytes, all
-            // lengths and all numbers, with no precondition, and it keeps no pointer.
-            unsafe {
-                $export(
-                    state.as_ptr(),
-                    state.len(),
-                    first.as_ptr(),
-                    first.len(),
-                    second.as_ptr(),
-                    second.len(),
-                    entries.as_ptr(),
-                    entries.len(),
-                    list.as_mut_ptr(),
-                    list.len(),
-                    answer.as_mut_ptr(),
-                    answer.len(),
-                    $($number,)*
-                )
-            }
-        }
-    )*};
-}
-
-/// The exports that may write the store.
-macro_rules! writers {
-    ($($(#[$documentation:meta])* $name:ident = $export:ident($($number:ident: $type:ty),*);)*) => {$(
-        $(#[$documentation])*
-        pub fn $name(
-            state: &mut [u8],
-            first: &mut [u8],
-            second: &mut [u8],
-            entries: &mut [u8],
-            answer: &mut [u8],
-            $($number: $type,)*
-        ) -> u32 {
-            unsafe extern "C" {
-                fn $export(
-                    state: *mut u8,
-                    state_length: usize,
-                    first: *mut u8,
-                    first_length: usize,
-                    second: *mut u8,
-                    second_length: usize,
-                    entries: *mut u8,
-                    entries_length: usize,
-                    answer: *mut u8,
-                    answer_length: usize,
-                    $($number: $type,)*
-                ) -> u32;
-            }
-            // SAFETY: each pointer and length is that of a Rust slice: not null, valid for the call, to be written
-            // too, and none overlaps with another. The export's contract is proved for all bytes, all lengths and all
-            // numbers, with no precondition, and it keeps no pointer.
-            unsafe {
-                $export(
-                    state.as_mut_ptr(),
-                    state.len(),
-                    first.as_mut_ptr(),
-                    first.len(),
-                    second.as_mut_ptr(),
-                    second.len(),
-                    entries.as_mut_ptr(),
-                    entries.len(),
-                    answer.as_mut_ptr(),
-                    answer.len(),
-                    $($number,)*
-                )
-            }
-        }
-    )*};
-}
-
-writers! {
-    /// Start: an empty store in the lent memory. The state is not read, and written only on 0. Refused: 6, 1.
-    init = suspects_init(capacity: u32, size: u32);
+// These may write the store.
+exports! {
+    /// Start: makes an empty store. The state is not read, and it is written only on 0.
+    /// Refused: 6, 1.
+    init = suspects_init(
+        state: write, first: write, second: write, entries: write, answer: write;
+        capacity: u32, size: u32
+    );
 
     /// Change: gives a held key another value. Refused: 1, 2, 3.
-    update = suspects_update(key: u32, value: u32);
+    update = suspects_update(
+        state: write, first: write, second: write, entries: write, answer: write;
+        key: u32, value: u32
+    );
 
-    /// Add: a key that is not held, with a value. Refused: 1, 2, 4, 5, 2.
-    add = suspects_add(key: u32, value: u32);
+    /// Add: adds a key that is not held, with a value. Refused: 1, 2, 4, 5, 2.
+    add = suspects_add(
+        state: write, first: write, second: write, entries: write, answer: write;
+        key: u32, value: u32
+    );
 
     /// Delete: removes a key. Refused: 1, 2, 3.
-    delete = suspects_delete(key: u32);
+    delete = suspects_delete(
+        state: write, first: write, second: write, entries: write, answer: write;
+        key: u32
+    );
 
     /// Resize: begins a move of all keys to a table of another size. Refused: 1, 7, 6.
-    resize = suspects_resize(size: u32);
+    resize = suspects_resize(
+        state: write, first: write, second: write, entries: write, answer: write;
+        size: u32
+    );
 
-    /// Step: moves the keys of one bucket, or passes empty ones. The answer gets the number of entries moved, and 1 if
-    /// the move goes on or 0 if not. Refused: 1, 8, 18, 2.
-    rehash_step = suspects_rehash_step();
+    /// Step: moves the keys of one bucket, or passes empty ones. The answer gets the number of
+    /// entries moved, and 1 if the move goes on or 0 if not. Refused: 1, 8, 18, 2.
+    rehash_step = suspects_rehash_step(
+        state: write, first: write, second: write, entries: write, answer: write;
+    );
 
-    /// Permission: whether the table may grow by itself, 1 or 0. Refused: 1.
-    allow_resize = suspects_allow_resize(allowed: u32);
+    /// Permission: says whether the table may grow by itself, 1 or 0. Refused: 1.
+    allow_resize = suspects_allow_resize(
+        state: write, first: write, second: write, entries: write, answer: write;
+        allowed: u32
+    );
 
     /// Begin of a careful pass: counts one more. Refused: 1, 17.
-    begin_safe = suspects_begin_safe();
+    begin_safe = suspects_begin_safe(
+        state: write, first: write, second: write, entries: write, answer: write;
+    );
 
     /// End of a careful pass: counts one fewer. Refused: 1, 16.
-    end_safe = suspects_end_safe();
+    end_safe = suspects_end_safe(
+        state: write, first: write, second: write, entries: write, answer: write;
+    );
 }
 
-readers! {
+// These only read it.
+exports! {
     /// Find: the answer gets the key's value. Refused: 1, 2, 3.
-    find = suspects_find(key: u32);
+    find = suspects_find(
+        state: read, first: read, second: read, entries: read, answer: write;
+        key: u32
+    );
 
-    /// Suggested size: the answer gets the size that suits the keys held, to grow (1) or to shrink (0). Refused: 1.
-    suggested_size = suspects_suggested_size(growing: u32);
+    /// Suggested size: the answer gets a size that suits the keys held, to grow to if `growing` is
+    /// 1, and to shrink to if it is 0. Refused: 1.
+    suggested_size = suspects_suggested_size(
+        state: read, first: read, second: read, entries: read, answer: write;
+        growing: u32
+    );
 
-    /// Begin of a plain pass: the answer gets the store's fingerprint, one 64-bit number. Refused: 1.
-    begin_iterator = suspects_begin_iterator();
+    /// Begin of a plain pass: the answer gets the fingerprint, one 64-bit number. Refused: 1.
+    begin_iterator = suspects_begin_iterator(
+        state: read, first: read, second: read, entries: read, answer: write;
+    );
 
-    /// End of a plain pass: whether the store still has this fingerprint. Refused: 1, 15.
-    end_iterator = suspects_end_iterator(fingerprint: u64);
-}
+    /// End of a plain pass: says whether the store still has this fingerprint. Refused: 1, 15.
+    end_iterator = suspects_end_iterator(
+        state: read, first: read, second: read, entries: read, answer: write;
+        fingerprint: u64
+    );
 
-listers! {
-    /// Walk call: the list gets the keys of the cursor's group, and the answer the next cursor and the number of keys.
-    /// Refused: 1, 2, 9; with 9 the answer's second number says how many keys there were.
-    scan = suspects_scan(cursor: u32);
+    /// Walk call: the list gets the keys of the cursor's group. The answer gets the next cursor
+    /// and the number of keys. Refused: 1, 2, 9; with 9 the number of keys comes all the same.
+    scan = suspects_scan(
+        state: read, first: read, second: read, entries: read, list: write, answer: write;
+        cursor: u32
+    );
 
-    /// Pass call: the list gets the keys of the first filled bucket from the place on, and the answer the next place
-    /// and the number of keys. Refused: 1, 2, 9; with 9 the answer's second number says how many keys there were.
-    iterate = suspects_iterate(place: u32);
+    /// Pass call: the list gets the keys of the first filled bucket from the place on. The answer
+    /// gets the next place and the number of keys. Refused: 1, 2, 9; with 9 the number of keys
+    /// comes all the same.
+    iterate = suspects_iterate(
+        state: read, first: read, second: read, entries: read, list: write, answer: write;
+        place: u32
+    );
 }

@@ -1,0 +1,63 @@
+//! The list that walks and passes are lent.
+
+use crate::bytes::{self, Answer};
+use crate::{Cell, Error, Memory, Store};
+
+/// A call that hands out keys: `scan` with a cursor, or `iterate` with a place.
+type HandOut = fn(&[u8], &[u8], &[u8], &[u8], &mut [u8], &mut [u8], from: u32) -> u32;
+
+/// The bytes of a key and its value.
+const PAIR: usize = 8;
+
+/// A list, and what has been handed out to it last.
+#[derive(Clone, Debug, Default)]
+pub(crate) struct List {
+    bytes: Vec<u8>,
+    suspects: Vec<(Cell, u32)>,
+}
+
+impl List {
+    pub(crate) fn suspects(&self) -> &[(Cell, u32)] {
+        &self.suspects
+    }
+
+    /// Makes the call with a list that is long enough, and answers the next cursor or place.
+    ///
+    /// How long that is the call says itself, by [`Error::Short`]. It says the same the second
+    /// time, since the store is borrowed, so this refuses as the call does, but never as short.
+    pub(crate) fn fill(
+        &mut self,
+        store: &Store,
+        hand_out: HandOut,
+        from: u32,
+    ) -> Result<u32, Error> {
+        let answer = match self.call(store, hand_out, from) {
+            Err(Error::Short { keys }) => {
+                // A power of two, so that few calls are made twice.
+                self.bytes
+                    .resize(PAIR * keys.next_power_of_two() as usize, 0);
+                self.call(store, hand_out, from)
+            }
+            answered => answered,
+        }?;
+        let keys = answer.second() as usize;
+        let pairs = &self.bytes.as_chunks::<PAIR>().0[..keys];
+        self.suspects.clear();
+        self.suspects.extend(
+            pairs
+                .iter()
+                .map(|pair| (Cell::from(bytes::number(pair, 0)), bytes::number(pair, 1))),
+        );
+        Ok(answer.first())
+    }
+
+    fn call(&mut self, store: &Store, hand_out: HandOut, from: u32) -> Result<Answer, Error> {
+        let Memory {
+            state,
+            first,
+            second,
+            entries,
+        } = store.memory();
+        Answer::of(|answer| hand_out(state, first, second, entries, &mut self.bytes, answer, from))
+    }
+}

@@ -1,4 +1,4 @@
-//! Cells, which are the store's keys.
+//! Cells, which are the store's keys, and suspects, which are its pairs.
 
 use std::fmt;
 
@@ -60,3 +60,6 @@ impl fmt::Display for Cell {
         write!(f, "scan chain {}, position {}", self.chain, self.position)
     }
 }
+
+/// A suspect: a cell, and how often it has failed. This is what walks and passes hand out.
+pub type Suspect = (Cell, u32);

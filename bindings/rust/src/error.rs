@@ -81,9 +81,7 @@ impl Error {
             6 => Error::BadSize,
             7 => Error::Moving,
             8 => Error::NotMoving,
-            9 => Error::Short {
-                keys: bytes::number(answer, 1),
-            },
+            9 => Error::Short { keys: bytes::number(answer, 1) },
             15 => Error::Changed,
             16 => Error::NoCarefulPass,
             17 => Error::TooManyCarefulPasses,

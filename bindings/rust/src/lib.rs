@@ -62,7 +62,7 @@ pub mod raw;
 mod store;
 mod walk;
 
-pub use cell::Cell;
+pub use cell::{Cell, Suspect};
 pub use error::Error;
 pub use memory::Memory;
 pub use passes::{CarefulPass, PlainPass};

@@ -1,7 +1,7 @@
 //! The list that walks and passes are lent.
 
 use crate::bytes::{self, Answer};
-use crate::{Cell, Error, Memory, Store};
+use crate::{Cell, Error, Memory, Store, Suspect};
 
 /// A call that hands out keys: `scan` with a cursor, or `iterate` with a place.
 type HandOut = fn(&[u8], &[u8], &[u8], &[u8], &mut [u8], &mut [u8], from: u32) -> u32;
@@ -13,11 +13,11 @@ const PAIR: usize = 8;
 #[derive(Clone, Debug, Default)]
 pub(crate) struct List {
     bytes: Vec<u8>,
-    suspects: Vec<(Cell, u32)>,
+    suspects: Vec<Suspect>,
 }
 
 impl List {
-    pub(crate) fn suspects(&self) -> &[(Cell, u32)] {
+    pub(crate) fn suspects(&self) -> &[Suspect] {
         &self.suspects
     }
 
@@ -34,8 +34,7 @@ impl List {
         let answer = match self.call(store, hand_out, from) {
             Err(Error::Short { keys }) => {
                 // A power of two, so that few calls are made twice.
-                self.bytes
-                    .resize(PAIR * keys.next_power_of_two() as usize, 0);
+                self.bytes.resize(PAIR * keys.next_power_of_two() as usize, 0);
                 self.call(store, hand_out, from)
             }
             answered => answered,
@@ -44,20 +43,13 @@ impl List {
         let pairs = &self.bytes.as_chunks::<PAIR>().0[..keys];
         self.suspects.clear();
         self.suspects.extend(
-            pairs
-                .iter()
-                .map(|pair| (Cell::from(bytes::number(pair, 0)), bytes::number(pair, 1))),
+            pairs.iter().map(|pair| (Cell::from(bytes::number(pair, 0)), bytes::number(pair, 1))),
         );
         Ok(answer.first())
     }
 
     fn call(&mut self, store: &Store, hand_out: HandOut, from: u32) -> Result<Answer, Error> {
-        let Memory {
-            state,
-            first,
-            second,
-            entries,
-        } = store.memory();
+        let Memory { state, first, second, entries } = store.memory();
         Answer::of(|answer| hand_out(state, first, second, entries, &mut self.bytes, answer, from))
     }
 }

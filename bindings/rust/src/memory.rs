@@ -7,6 +7,7 @@ use crate::raw::STATE_BYTES;
 ///
 /// How they lie is in `docs/SPECIFICATION.md`, "Calls over bytes". Nothing need be true of them:
 /// a store that is given other bytes, copied, read from a file or damaged, answers all its calls.
+/// (For bytes that the store is not to own there are the functions of [`raw`](crate::raw).)
 ///
 /// ```
 /// use suspects::{Error, Memory, Store};

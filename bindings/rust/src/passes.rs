@@ -2,7 +2,7 @@
 
 use crate::list::List;
 use crate::raw;
-use crate::{Cell, Error, Store};
+use crate::{Error, Store, Suspect};
 
 /// How far a pass has come, and what it has handed out last.
 #[derive(Clone, Debug)]
@@ -13,13 +13,10 @@ struct Pass {
 
 impl Pass {
     fn at(place: u32) -> Pass {
-        Pass {
-            place,
-            list: List::default(),
-        }
+        Pass { place, list: List::default() }
     }
 
-    fn next(&mut self, store: &Store) -> Result<Option<&[(Cell, u32)]>, Error> {
+    fn next(&mut self, store: &Store) -> Result<Option<&[Suspect]>, Error> {
         self.place = self.list.fill(store, raw::iterate, self.place)?;
         // A filled bucket has a key. So no keys say that no filled bucket was left.
         let bucket = self.list.suspects();
@@ -76,10 +73,7 @@ impl PlainPass {
 
     /// A pass that goes on at a place, with the fingerprint of its begin. Any numbers will do.
     pub fn resume(place: u32, fingerprint: u64) -> PlainPass {
-        PlainPass {
-            pass: Pass::at(place),
-            fingerprint,
-        }
+        PlainPass { pass: Pass::at(place), fingerprint }
     }
 
     /// The place for the next call.
@@ -99,7 +93,7 @@ impl PlainPass {
     ///
     /// [`Error::BadState`] and [`Error::Damaged`], which come from memory that something else has
     /// written. The pass stays where it was, and may be tried again.
-    pub fn next(&mut self, store: &Store) -> Result<Option<&[(Cell, u32)]>, Error> {
+    pub fn next(&mut self, store: &Store) -> Result<Option<&[Suspect]>, Error> {
         self.pass.next(store)
     }
 
@@ -172,9 +166,7 @@ impl CarefulPass {
 
     /// A pass that has begun, and goes on at a place. Any number will do.
     pub fn resume(place: u32) -> CarefulPass {
-        CarefulPass {
-            pass: Pass::at(place),
-        }
+        CarefulPass { pass: Pass::at(place) }
     }
 
     /// The place for the next call.
@@ -190,7 +182,7 @@ impl CarefulPass {
     ///
     /// [`Error::BadState`] and [`Error::Damaged`], which come from memory that something else has
     /// written. The pass stays where it was, and may be tried again.
-    pub fn next(&mut self, store: &Store) -> Result<Option<&[(Cell, u32)]>, Error> {
+    pub fn next(&mut self, store: &Store) -> Result<Option<&[Suspect]>, Error> {
         self.pass.next(store)
     }
 

@@ -5,7 +5,7 @@ use std::fmt;
 use crate::bytes::{self, Answer};
 use crate::memory::{BUCKET, ENTRY};
 use crate::raw::{self, MAX_BUCKET_BYTES, MAX_ENTRY_BYTES};
-use crate::{CarefulPass, Cell, Error, Memory, Suspects};
+use crate::{CarefulPass, Cell, Error, Memory, Suspect, Suspects};
 
 /// A store of suspect cells, each with its count of fails.
 ///
@@ -34,10 +34,10 @@ use crate::{CarefulPass, Cell, Error, Memory, Suspects};
 ///
 /// # Errors of every call
 ///
-/// Two errors are for memory that came from elsewhere ([`Store::from_memory`]): every call may
-/// answer [`Error::BadState`], and every call that reads a chain [`Error::Damaged`]. It is proved
-/// that a store which [`Store::new`] has made, and which only calls have changed, never meets
-/// either.
+/// Two errors are for memory that something else has written ([`Store::from_memory`]): every call
+/// may answer [`Error::BadState`], and every call that reads a chain [`Error::Damaged`]. It follows
+/// from the proofs that a store in which only calls have written, since its start, meets neither,
+/// but for a further start in too little memory. So each call below names its other errors.
 #[derive(Clone)]
 pub struct Store {
     memory: Memory,
@@ -134,8 +134,7 @@ impl Store {
     /// [`Error::BadSize`] as [`Store::new`] has it; then [`Error::BadState`], if the store's memory
     /// has too little room.
     pub fn init(&mut self, capacity: u32, size: u32) -> Result<(), Error> {
-        call!(init(&mut self.memory, capacity, size))?;
-        Ok(())
+        call!(init(&mut self.memory, capacity, size)).map(drop)
     }
 
     /// The fail count of a cell.
@@ -145,8 +144,7 @@ impl Store {
     /// [`Error::Absent`]: the cell is not held.
     pub fn find(&self, cell: impl Into<Cell>) -> Result<u32, Error> {
         let key = cell.into().key();
-        let answer = call!(find(&self.memory, key))?;
-        Ok(answer.first())
+        Ok(call!(find(&self.memory, key))?.first())
     }
 
     /// Change: gives a cell that is held another fail count.
@@ -156,8 +154,7 @@ impl Store {
     /// [`Error::Absent`]: the cell is not held.
     pub fn update(&mut self, cell: impl Into<Cell>, fails: u32) -> Result<(), Error> {
         let key = cell.into().key();
-        call!(update(&mut self.memory, key, fails))?;
-        Ok(())
+        call!(update(&mut self.memory, key, fails)).map(drop)
     }
 
     /// Adds a cell that is not held.
@@ -171,8 +168,7 @@ impl Store {
     /// - [`Error::Full`]: the store holds as many cells as its capacity.
     pub fn add(&mut self, cell: impl Into<Cell>, fails: u32) -> Result<(), Error> {
         let key = cell.into().key();
-        call!(add(&mut self.memory, key, fails))?;
-        Ok(())
+        call!(add(&mut self.memory, key, fails)).map(drop)
     }
 
     /// Removes a cell.
@@ -184,8 +180,7 @@ impl Store {
     /// [`Error::Absent`]: the cell is not held.
     pub fn delete(&mut self, cell: impl Into<Cell>) -> Result<(), Error> {
         let key = cell.into().key();
-        call!(delete(&mut self.memory, key))?;
-        Ok(())
+        call!(delete(&mut self.memory, key)).map(drop)
     }
 
     /// Begins a move of all keys to a table of another size, larger or smaller.
@@ -213,8 +208,7 @@ impl Store {
     /// - [`Error::BadSize`]: the size is not a power of two from 1 to 65,536, or it is the present
     ///   one, or more than the store's memory has room for.
     pub fn resize(&mut self, size: u32) -> Result<(), Error> {
-        call!(resize(&mut self.memory, size))?;
-        Ok(())
+        call!(resize(&mut self.memory, size)).map(drop)
     }
 
     /// Step: moves the keys of one bucket to the new table, or passes up to ten empty buckets.
@@ -225,10 +219,7 @@ impl Store {
     /// - [`Error::Paused`]: one is, but a careful pass is too.
     pub fn rehash_step(&mut self) -> Result<Step, Error> {
         let answer = call!(rehash_step(&mut self.memory))?;
-        Ok(Step {
-            moved: answer.first(),
-            moving: answer.second() != 0,
-        })
+        Ok(Step { moved: answer.first(), moving: answer.second() != 0 })
     }
 
     /// A size that suits the number of keys held: to grow to, or to shrink to.
@@ -251,8 +242,7 @@ impl Store {
     ///
     /// [`Error::BadState`] alone.
     pub fn suggested_size(&self, growing: bool) -> Result<u32, Error> {
-        let answer = call!(suggested_size(&self.memory, growing.into()))?;
-        Ok(answer.first())
+        Ok(call!(suggested_size(&self.memory, growing.into()))?.first())
     }
 
     /// Says whether the table may grow as soon as it holds as many keys as it has buckets. It may
@@ -262,8 +252,7 @@ impl Store {
     ///
     /// [`Error::BadState`] alone.
     pub fn allow_resize(&mut self, allowed: bool) -> Result<(), Error> {
-        call!(allow_resize(&mut self.memory, allowed.into()))?;
-        Ok(())
+        call!(allow_resize(&mut self.memory, allowed.into())).map(drop)
     }
 
     /// Walks through the whole store, which cannot change meanwhile: each cell comes exactly once,
@@ -301,7 +290,7 @@ impl Store {
     ///
     /// let mut store = Store::new(8, 4)?;
     /// for position in 0..6 {
-    ///     store.add(position, 10 * u32::from(position))?;
+    ///     store.add(position, 10 * position)?;
     /// }
     /// store.careful_pass(|store, bucket| {
     ///     for &(cell, fails) in bucket {
@@ -322,7 +311,7 @@ impl Store {
     /// - [`Error::NoCarefulPass`]: the visitor has ended this one, as a start does.
     pub fn careful_pass(
         &mut self,
-        mut visit: impl FnMut(&mut Store, &[(Cell, u32)]) -> Result<(), Error>,
+        mut visit: impl FnMut(&mut Store, &[Suspect]) -> Result<(), Error>,
     ) -> Result<(), Error> {
         let mut pass = CarefulPass::begin(self)?;
         let paused = Paused(self);
@@ -334,8 +323,7 @@ impl Store {
 
     /// How many keys are held.
     pub fn len(&self) -> u32 {
-        self.field(Field::OldUsed)
-            .saturating_add(self.field(Field::NewUsed))
+        self.field(Field::OldUsed).saturating_add(self.field(Field::NewUsed))
     }
 
     /// Whether no key is held.
@@ -378,18 +366,15 @@ impl Store {
     }
 
     pub(crate) fn end_iterator(&self, fingerprint: u64) -> Result<(), Error> {
-        call!(end_iterator(&self.memory, fingerprint))?;
-        Ok(())
+        call!(end_iterator(&self.memory, fingerprint)).map(drop)
     }
 
     pub(crate) fn begin_safe(&mut self) -> Result<(), Error> {
-        call!(begin_safe(&mut self.memory))?;
-        Ok(())
+        call!(begin_safe(&mut self.memory)).map(drop)
     }
 
     pub(crate) fn end_safe(&mut self) -> Result<(), Error> {
-        call!(end_safe(&mut self.memory))?;
-        Ok(())
+        call!(end_safe(&mut self.memory)).map(drop)
     }
 
     fn field(&self, field: Field) -> u32 {

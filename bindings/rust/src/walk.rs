@@ -4,7 +4,7 @@ use std::iter::FusedIterator;
 
 use crate::list::List;
 use crate::raw;
-use crate::{Cell, Error, Store};
+use crate::{Error, Store, Suspect};
 
 /// A walk through a store that may change between two calls of it.
 ///
@@ -60,10 +60,7 @@ impl Walk {
 
     /// A walk that goes on at a cursor. Any number will do, and none is refused.
     pub fn from_cursor(cursor: u32) -> Walk {
-        Walk {
-            cursor: Some(cursor),
-            list: List::default(),
-        }
+        Walk { cursor: Some(cursor), list: List::default() }
     }
 
     /// The cursor for the next call, or `None` once the walk has ended.
@@ -78,7 +75,7 @@ impl Walk {
     ///
     /// [`Error::BadState`] and [`Error::Damaged`], which come from memory that something else has
     /// written. The walk stays where it was, and may be tried again.
-    pub fn next(&mut self, store: &Store) -> Result<Option<&[(Cell, u32)]>, Error> {
+    pub fn next(&mut self, store: &Store) -> Result<Option<&[Suspect]>, Error> {
         let Some(cursor) = self.cursor else {
             return Ok(None);
         };
@@ -107,16 +104,12 @@ pub struct Suspects<'a> {
 
 impl<'a> Suspects<'a> {
     pub(crate) fn new(store: &'a Store) -> Suspects<'a> {
-        Suspects {
-            store,
-            walk: Walk::new(),
-            given: 0,
-        }
+        Suspects { store, walk: Walk::new(), given: 0 }
     }
 }
 
 impl Iterator for Suspects<'_> {
-    type Item = Result<(Cell, u32), Error>;
+    type Item = Result<Suspect, Error>;
 
     fn next(&mut self) -> Option<Self::Item> {
         loop {

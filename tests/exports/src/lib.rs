@@ -1,0 +1,3 @@
+//! Tests the store's C exports on random and damaged memory.
+
+pub mod model;

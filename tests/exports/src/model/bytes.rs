@@ -360,8 +360,9 @@ fn read_state(bytes: &[u8]) -> Option<State> {
     })
 }
 
-fn write_state(bytes: &mut [u8], state: &State) {
-    let fields = [
+/// The eleven numbers that a state is, in their order.
+pub fn fields(state: &State) -> [u32; 11] {
+    [
         u32::from(state.second_is_current),
         state.old_size,
         state.new_size,
@@ -373,8 +374,11 @@ fn write_state(bytes: &mut [u8], state: &State) {
         state.capacity,
         u32::from(state.resize_allowed),
         state.safe_iterators,
-    ];
-    write_numbers(bytes, &fields);
+    ]
+}
+
+fn write_state(bytes: &mut [u8], state: &State) {
+    write_numbers(bytes, &fields(state));
 }
 
 /// "The first check" of every export but a start, of everything but a list and a flag among the numbers: the store that

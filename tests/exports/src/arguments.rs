@@ -140,7 +140,7 @@ fn fingerprint(random: &mut Random, slices: &Slices) -> u64 {
         0 => now ^ (1 << random.below(64)),
         1 => now.rotate_left(32),
         2 => now & u64::from(u32::MAX),
-        3 => random.next(),
+        3 => random.bits(),
         _ => now,
     }
 }

@@ -1,7 +1,6 @@
 //! The fifteen exports as values, and those who answer them.
 
 use crate::model;
-use crate::raw;
 use crate::slices::Slices;
 
 /// A call, with its own numbers.
@@ -137,11 +136,11 @@ impl Side for Model {
     }
 }
 
-/// The exports of the archive.
+/// The exports of the archive, by way of the safe functions of `bindings/rust`.
 pub struct Archive;
 
 impl Side for Archive {
     fn answer(&self, call: Call, slices: &mut Slices) -> u32 {
-        hand_on!(raw, call, slices)
+        hand_on!(suspects::raw, call, slices)
     }
 }

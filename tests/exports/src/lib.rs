@@ -11,7 +11,6 @@ pub mod faults;
 pub mod model;
 pub mod plant;
 pub mod random;
-mod raw;
 pub mod slices;
 
 /// The seed of a run that is not given one, as in the gate.

@@ -10,10 +10,10 @@ impl Random {
     /// A generator for one case of a run, so that a case does not depend on how many numbers the others took.
     pub fn of_case(seed: u64, case: u64) -> Self {
         let mut of_seed = Random(seed);
-        Random(of_seed.next() ^ Random(case).next())
+        Random(of_seed.bits() ^ Random(case).bits())
     }
 
-    pub fn next(&mut self) -> u64 {
+    pub fn bits(&mut self) -> u64 {
         self.0 = self.0.wrapping_add(0x9e37_79b9_7f4a_7c15);
         let mut mixed = self.0;
         mixed = (mixed ^ (mixed >> 30)).wrapping_mul(0xbf58_476d_1ce4_e5b9);
@@ -22,12 +22,12 @@ impl Random {
     }
 
     pub fn number(&mut self) -> u32 {
-        (self.next() >> 32) as u32
+        (self.bits() >> 32) as u32
     }
 
     /// A number below the bound, which is above 0. The remainder's bias is of no matter for bounds this small.
     pub fn below(&mut self, bound: usize) -> usize {
-        (self.next() % bound as u64) as usize
+        (self.bits() % bound as u64) as usize
     }
 
     pub fn below_u32(&mut self, bound: u32) -> u32 {
@@ -63,7 +63,7 @@ impl Random {
 
     pub fn fill(&mut self, bytes: &mut [u8]) {
         for chunk in bytes.chunks_mut(8) {
-            let random = self.next().to_le_bytes();
+            let random = self.bits().to_le_bytes();
             chunk.copy_from_slice(&random[..chunk.len()]);
         }
     }

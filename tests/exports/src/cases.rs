@@ -15,17 +15,20 @@ pub enum Kind {
     History,
     /// Calls on one damaged memory.
     Damaged,
+    /// Calls on a small memory during a move that is not paused, damaged where a step comes and goes.
+    Moving,
     /// Calls whose bytes are at odds with the first check, or only just not.
     Bytes,
     /// Nothing but random bytes, in slices of random lengths.
     Noise,
 }
 
-const KINDS: [(Kind, usize); 4] = [
-    (Kind::History, 5),
-    (Kind::Damaged, 9),
-    (Kind::Bytes, 3),
-    (Kind::Noise, 1),
+const KINDS: [(Kind, usize); 5] = [
+    (Kind::History, 10),
+    (Kind::Damaged, 10),
+    (Kind::Moving, 10),
+    (Kind::Bytes, 6),
+    (Kind::Noise, 2),
 ];
 
 /// Most memory is small, since it is there that damage meets damage, and calls are quick.
@@ -34,6 +37,20 @@ const ROOMS: [(Room, usize); 4] = [
     (Room::Small, 10),
     (Room::Middle, 3),
     (Room::Largest, 2),
+];
+
+const ROOMS_OF_A_MOVE: [(Room, usize); 2] = [(Room::Tiny, 5), (Room::Small, 1)];
+
+/// Where damage is met by the step that comes first, and by what comes behind it.
+const DAMAGES_OF_A_MOVE: [Damage; 8] = [
+    Damage::FalseCounts,
+    Damage::FalseCounts,
+    Damage::SharedEntries,
+    Damage::SharedEntries,
+    Damage::FreeEntryThatMoves,
+    Damage::BucketAnyNumber,
+    Damage::LinkAnyNumber,
+    Damage::KeyOffItsBucket,
 ];
 
 /// A case has about so many calls.
@@ -122,7 +139,10 @@ pub fn run(seed: u64, calls: u64, comparison: &mut Comparison) -> Result<Done, D
         }
         let mut random = Random::of_case(seed, number);
         let kind = random.weighted(&KINDS);
-        let room = random.weighted(&ROOMS);
+        let room = match kind {
+            Kind::Moving => random.weighted(&ROOMS_OF_A_MOVE),
+            _ => random.weighted(&ROOMS),
+        };
         let before = comparison.calls();
         let mut case = Case {
             random,
@@ -133,6 +153,7 @@ pub fn run(seed: u64, calls: u64, comparison: &mut Comparison) -> Result<Done, D
         match kind {
             Kind::History => case.history()?,
             Kind::Damaged => case.damaged()?,
+            Kind::Moving => case.moving()?,
             Kind::Bytes => case.bytes()?,
             Kind::Noise => case.noise()?,
         }
@@ -191,7 +212,11 @@ impl Case<'_, '_> {
     }
 
     fn damage(&mut self, slices: &mut Slices) {
-        let kind: Damage = self.random.weighted(&DAMAGES);
+        let kind = self.random.weighted(&DAMAGES);
+        self.damage_so(slices, kind);
+    }
+
+    fn damage_so(&mut self, slices: &mut Slices, kind: Damage) {
         self.done.damages[kind as usize] += 1;
         damage(&mut self.random, slices, kind);
     }
@@ -273,6 +298,35 @@ impl Case<'_, '_> {
             self.some_export()
         } else {
             *self.random.pick(&reads_chains)
+        }
+    }
+
+    fn moving(&mut self) -> Result<(), Difference> {
+        let exports = [Export::Add, Export::Delete, Export::RehashStep];
+        let mut copy = Slices::default();
+        for _ in 0..CALLS_OF_A_CASE / 6 {
+            let mut slices = self.planted_during_a_move();
+            for _ in 0..self.random.within(1, 3) {
+                let kind = *self.random.pick(&DAMAGES_OF_A_MOVE);
+                self.damage_so(&mut slices, kind);
+            }
+            for _ in 0..6 {
+                copy.clone_from(&slices);
+                let export = *self.random.pick(&exports);
+                self.make_some(&mut copy, export)?;
+            }
+        }
+        Ok(())
+    }
+
+    /// A store during a move that is not paused, seldom with nothing left to move.
+    fn planted_during_a_move(&mut self) -> Slices {
+        loop {
+            let store = plant(&mut self.random, self.room);
+            let to_be_moved = store.state.old_used > 0 || self.random.once_in(8);
+            if store.state.rehashing && !store.state.paused() && to_be_moved {
+                return Slices::of_store(&mut self.random, &store);
+            }
         }
     }
 

@@ -3,8 +3,8 @@
 use std::fmt;
 
 use crate::call::{Call, Export, Side, EXPORTS};
-use crate::events::{event, Event, EVENTS};
-use crate::slices::{Field, Slices, FIELDS};
+use crate::events::{events, Event, EVENTS};
+use crate::slices::{field_of, Field, Slice, Slices, FIELDS};
 
 /// One more than the highest number that a call answers.
 pub const NUMBERS: usize = 19;
@@ -18,31 +18,22 @@ pub struct Tally {
 
 impl Tally {
     pub fn answered(&self, export: Export, number: u32) -> u64 {
-        self.answers[export as usize]
-            .get(number as usize)
-            .copied()
-            .unwrap_or(0)
+        self.answers[export as usize][number as usize]
     }
 
     pub fn events(&self, event: Event) -> u64 {
         self.events[event as usize]
     }
-
-    fn count(&mut self, export: Export, number: u32) {
-        if let Some(count) = self.answers[export as usize].get_mut(number as usize) {
-            *count += 1;
-        }
-    }
 }
 
-/// What a call was that the two sides answered differently, and how.
+/// A call that the two sides answered differently, and how.
 #[derive(Debug)]
 pub struct Difference {
     pub number_of_call: u64,
     pub call: Call,
-    pub lengths: Vec<(&'static str, usize)>,
-    pub fields: Vec<(Field, u32)>,
     pub what: What,
+    lengths: Vec<(&'static str, usize)>,
+    state_before: Vec<(Field, u32)>,
 }
 
 #[derive(Debug, PartialEq, Eq)]
@@ -51,38 +42,43 @@ pub enum What {
         model: u32,
         other: u32,
     },
+    /// A place below 0, or from the length of the slice on, is in a margin.
     Byte {
         slice: &'static str,
         at: isize,
         model: u8,
         other: u8,
     },
-    /// The model answers a number that the page does not give to this call.
-    NoAnswerOfThisCall {
-        model: u32,
-    },
+    /// Both sides answer a number that the page does not give to this call.
+    NoAnswerOfThisCall(u32),
 }
 
 impl fmt::Display for Difference {
     fn fmt(&self, out: &mut fmt::Formatter) -> fmt::Result {
         writeln!(out, "call {} differs: {:?}", self.number_of_call, self.call)?;
         match &self.what {
-            What::Returned { model, other } => writeln!(out, "  returned: the model {model}, the other side {other}")?,
-            What::Byte { slice, at, model, other } => writeln!(
-                out,
-                "  the first differing byte is byte {at} of {slice}: the model has {model}, the other side {other}"
-            )?,
-            What::NoAnswerOfThisCall { model } => {
-                writeln!(out, "  the model returned {model}, which is no answer of this call")?
+            What::Returned { model, other } => {
+                writeln!(out, "  returned: the model {model}, the other side {other}")?;
+            }
+            What::Byte {
+                slice,
+                at,
+                model,
+                other,
+            } => {
+                write!(out, "  the first differing byte is byte {at} of {slice}: ")?;
+                writeln!(out, "the model has {model}, the other side {other}")?;
+            }
+            What::NoAnswerOfThisCall(number) => {
+                writeln!(out, "  both returned {number}, no answer of this call")?;
             }
         }
         write!(out, "  lengths in bytes:")?;
         for (name, length) in &self.lengths {
             write!(out, " {name} {length}")?;
         }
-        writeln!(out)?;
-        write!(out, "  the state before:")?;
-        for (field, number) in &self.fields {
+        write!(out, "\n  the state before:")?;
+        for (field, number) in &self.state_before {
             write!(out, " {field:?} {number}")?;
         }
         Ok(())
@@ -95,9 +91,9 @@ pub struct Comparison<'a> {
     other: &'a dyn Side,
     calls: u64,
     tally: Tally,
-    /// Kept from call to call, so that none has to be allocated for each.
-    before: Slices,
+    /// Kept from call to call, so that it need not be allocated for each.
     theirs: Slices,
+    state_before: Slice,
 }
 
 impl<'a> Comparison<'a> {
@@ -107,8 +103,8 @@ impl<'a> Comparison<'a> {
             other,
             calls: 0,
             tally: Tally::default(),
-            before: Slices::default(),
             theirs: Slices::default(),
+            state_before: Slice::default(),
         }
     }
 
@@ -121,58 +117,64 @@ impl<'a> Comparison<'a> {
     }
 
     /// Makes the call on both sides, each on the same bytes. The slices become what the call leaves of them.
+    ///
+    /// The model cannot write what an export takes as const; so the bytes of these slices are compared with what they
+    /// were before the call.
     pub fn make(&mut self, call: Call, slices: &mut Slices) -> Result<u32, Difference> {
         self.calls += 1;
         self.theirs.clone_from(slices);
-        self.before.state.clone_from(&slices.state);
+        self.state_before.clone_from(&slices.state);
         let model = self.model.answer(call, slices);
         let other = self.other.answer(call, &mut self.theirs);
-        let (_, _, possible) = EXPORTS[call.export() as usize];
-        if model != other {
-            return Err(self.difference(call, slices, What::Returned { model, other }));
-        }
-        if !possible.contains(&model) {
-            return Err(self.difference(call, slices, What::NoAnswerOfThisCall { model }));
-        }
-        for ((name, mine), (_, theirs)) in slices.all().into_iter().zip(self.theirs.all()) {
-            if let Some((at, model, other)) = mine.first_difference(theirs) {
-                return Err(self.difference(
-                    call,
-                    slices,
-                    What::Byte {
-                        slice: name,
-                        at,
-                        model,
-                        other,
-                    },
-                ));
+        match self.what_differs(call, slices, model, other) {
+            Some(what) => Err(self.difference(call, slices, what)),
+            None => {
+                self.count(call, slices, model);
+                Ok(model)
             }
         }
-        self.tally.count(call.export(), model);
-        if let Some(event) = event(
-            call,
-            model,
-            &self.before.state,
-            &slices.state,
-            &slices.answer,
-        ) {
+    }
+
+    fn what_differs(&self, call: Call, slices: &Slices, model: u32, other: u32) -> Option<What> {
+        if model != other {
+            return Some(What::Returned { model, other });
+        }
+        let (_, _, possible) = EXPORTS[call.export() as usize];
+        if !possible.contains(&model) {
+            return Some(What::NoAnswerOfThisCall(model));
+        }
+        let pairs = slices.all().into_iter().zip(self.theirs.all());
+        for ((slice, mine), (_, theirs)) in pairs {
+            if let Some((at, model, other)) = mine.first_difference(theirs) {
+                return Some(What::Byte {
+                    slice,
+                    at,
+                    model,
+                    other,
+                });
+            }
+        }
+        None
+    }
+
+    fn count(&mut self, call: Call, slices: &Slices, number: u32) {
+        self.tally.answers[call.export() as usize][number as usize] += 1;
+        for event in events(call, number, &self.state_before, slices) {
             self.tally.events[event as usize] += 1;
         }
-        Ok(model)
     }
 
     fn difference(&self, call: Call, slices: &Slices, what: What) -> Difference {
+        let state_before = FIELDS.map(|field| (field, field_of(&self.state_before, field)));
         Difference {
             number_of_call: self.calls,
             call,
+            what,
             lengths: slices
                 .all()
                 .map(|(name, slice)| (name, slice.len()))
                 .to_vec(),
-            fields: FIELDS
-                .map(|field| (field, self.before.field(field)))
-                .to_vec(),
-            what,
+            state_before: state_before.to_vec(),
         }
     }
 }

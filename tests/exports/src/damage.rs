@@ -30,6 +30,8 @@ pub enum Damage {
     DoubleKey,
     FreeHead,
     FreeLink,
+    FreeEntryThatMoves,
+    EmptiedBuckets,
     CutShort,
     Lengthened,
     PlausibleGarbage,
@@ -37,7 +39,7 @@ pub enum Damage {
     GarbageEverywhere,
 }
 
-pub const DAMAGES: [(Damage, usize); 23] = [
+pub const DAMAGES: [(Damage, usize); 25] = [
     (Damage::StateOffByOne, 3),
     (Damage::StateAnyNumber, 2),
     (Damage::FalseCounts, 8),
@@ -56,6 +58,8 @@ pub const DAMAGES: [(Damage, usize); 23] = [
     (Damage::DoubleKey, 3),
     (Damage::FreeHead, 4),
     (Damage::FreeLink, 4),
+    (Damage::FreeEntryThatMoves, 4),
+    (Damage::EmptiedBuckets, 3),
     (Damage::CutShort, 2),
     (Damage::Lengthened, 1),
     (Damage::PlausibleGarbage, 3),
@@ -104,7 +108,11 @@ pub fn damage(random: &mut Random, slices: &mut Slices, damage: Damage) {
         }
         Damage::FalseCounts => false_counts(random, slices),
         Damage::NextBucket => {
-            let number = random.below_u32(slices.field(Field::OldSize).saturating_add(2));
+            let size = slices.field(Field::OldSize);
+            let number = match random.below(2) {
+                0 => size.saturating_sub(random.below_u32(13)),
+                _ => random.below_u32(size.saturating_add(2)),
+            };
             slices.set_field(Field::RehashIndex, number);
         }
         Damage::PauseCount => {
@@ -168,6 +176,8 @@ pub fn damage(random: &mut Random, slices: &mut Slices, damage: Damage) {
                 slices.set_link(head, number);
             }
         }
+        Damage::FreeEntryThatMoves => free_entry_that_moves(random, slices),
+        Damage::EmptiedBuckets => empty_buckets(random, slices),
         Damage::CutShort => {
             let buffer = some_buffer(random, slices);
             let numbers = buffer.numbers();
@@ -327,10 +337,16 @@ fn some_head(random: &mut Random, slices: &Slices) -> u32 {
     }
 }
 
-/// The entries of some chain, as far as it can be read, each once.
+/// The entries of some chain.
 fn some_chain(random: &mut Random, slices: &Slices) -> Vec<u32> {
+    let head = some_head(random, slices);
+    chain(slices, head)
+}
+
+/// The entries of a chain, as far as it can be read, each once.
+fn chain(slices: &Slices, head: u32) -> Vec<u32> {
     let mut chain = Vec::new();
-    let mut number = some_head(random, slices);
+    let mut number = head;
     while (1..=slices.entries_there()).contains(&number) && !chain.contains(&number) {
         chain.push(number);
         number = slices.entry(number)[0];
@@ -392,10 +408,16 @@ fn false_counts(random: &mut Random, slices: &mut Slices) {
     let (old, new) = match random.below(4) {
         0 if moving && new > 0 => (old.wrapping_add(1), new - 1),
         1 if moving && old > 0 => (old - 1, new.wrapping_add(1)),
-        2 if random.once_in(2) => (off_by_one(random, old), new),
-        2 => (old, off_by_one(random, new)),
+        2 if random.once_in(4) => (old, off_by_one(random, new)),
+        2 => (old.saturating_sub(1 + random.below_u32(2)), new),
         _ => {
-            let held = random.below_u32(slices.field(Field::Capacity).saturating_add(1));
+            let capacity = slices.field(Field::Capacity);
+            let full = random.once_in(4);
+            let held = if full {
+                capacity
+            } else {
+                random.below_u32(capacity.saturating_add(1))
+            };
             let of_new = if moving {
                 random.below_u32(held.saturating_add(1))
             } else {
@@ -426,6 +448,45 @@ fn share_entries(random: &mut Random, slices: &mut Slices) {
     match one.last() {
         Some(&last) if !random.once_in(4) => slices.set_link(last, into),
         _ => change_a_bucket(random, slices, |_, _, _| into),
+    }
+}
+
+/// The first bucket, from the next one to move on, that is filled.
+fn bucket_to_move(slices: &Slices) -> Option<usize> {
+    let buffer = slices.buffer(Table::Old);
+    let from = slices.field(Field::RehashIndex) as usize;
+    (from..slices.buckets_there(Table::Old) as usize).find(|&bucket| buffer.number(bucket) != 0)
+}
+
+/// The first free entry lies on the chain that a step would move, and often its new bucket is damaged too: behind the step
+/// the number there is the entry's link.
+fn free_entry_that_moves(random: &mut Random, slices: &mut Slices) {
+    let Some(bucket) = bucket_to_move(slices) else {
+        return;
+    };
+    let moves = chain(slices, slices.buffer(Table::Old).number(bucket));
+    if moves.is_empty() {
+        return;
+    }
+    let entry = *random.pick(&moves);
+    slices.set_field(Field::FreeHead, entry);
+    let size = slices.buckets_there(Table::New);
+    if size > 0 && random.once_in(2) {
+        let number = any_number(random, slices);
+        let new_bucket = slices.entry(entry)[1] % size;
+        slices
+            .buffer_mut(Table::New)
+            .set_number(new_bucket as usize, number);
+    }
+}
+
+/// About as many buckets as one step passes are empty, from the next one on.
+fn empty_buckets(random: &mut Random, slices: &mut Slices) {
+    let from = slices.field(Field::RehashIndex) as usize;
+    let there = slices.buckets_there(Table::Old) as usize;
+    let to = from.saturating_add(random.within(9, 12)).min(there);
+    for bucket in from..to {
+        slices.buffer_mut(Table::Old).set_number(bucket, 0);
     }
 }
 

@@ -1,7 +1,10 @@
 //! What happened inside a call, told from the states before and after it: a run must have met all of it.
 
 use crate::call::Call;
-use crate::slices::{Field, Slice};
+use crate::slices::{field_of, Field, Slice, Slices};
+
+/// The bytes of a list for the keys of a store of 4,096 entries.
+const LONGEST_NEEDED: usize = 32_768;
 
 #[derive(Clone, Copy, Debug, PartialEq, Eq)]
 #[repr(usize)]
@@ -29,9 +32,14 @@ pub enum Event {
     ScanOfNoKeys,
     IterateHandsOut,
     IterateComesToTheEnd,
+    ListExactlyLongEnough,
+    ListLongerThanNeeded,
+    ListLongerThanAnyNeeded,
+    ListShortByOneNumber,
+    ListShortByOnePair,
 }
 
-pub const EVENTS: [(Event, &str); 23] = [
+pub const EVENTS: [(Event, &str); 28] = [
     (Event::ResizeBegan, "a resize began a move"),
     (Event::ResizeWhilePaused, "a resize began a paused move"),
     (Event::StepMoved, "a step moved keys, and the move goes on"),
@@ -91,26 +99,43 @@ pub const EVENTS: [(Event, &str); 23] = [
         Event::IterateComesToTheEnd,
         "a pass call that finds none left",
     ),
+    (
+        Event::ListExactlyLongEnough,
+        "a list exactly as long as is needed",
+    ),
+    (Event::ListLongerThanNeeded, "a list longer than is needed"),
+    (
+        Event::ListLongerThanAnyNeeded,
+        "a list longer than the keys of any store need",
+    ),
+    (
+        Event::ListShortByOneNumber,
+        "a list too short by one number",
+    ),
+    (Event::ListShortByOnePair, "a list too short by one pair"),
 ];
 
-/// What happened, if it is one of these. A state that is no 44 bytes tells nothing.
-pub fn event(
+/// What happened. A call that the first check refuses tells nothing.
+pub fn events(
     call: Call,
     number: u32,
-    before: &Slice,
-    after: &Slice,
-    answer: &Slice,
-) -> Option<Event> {
-    if before.numbers() <= Field::SafeIterators as usize || answer.numbers() < 2 {
-        return None;
-    }
-    let was = |field: Field| before.number(field as usize);
-    let is = |field: Field| after.number(field as usize);
+    state_before: &Slice,
+    slices: &Slices,
+) -> impl Iterator<Item = Event> {
+    let told = number != 1;
+    let of_the_store = told.then(|| of_the_store(call, number, state_before, slices));
+    let of_the_list = (told && call.has_a_list()).then(|| of_the_list(number, slices));
+    [of_the_store, of_the_list].into_iter().flatten().flatten()
+}
+
+fn of_the_store(call: Call, number: u32, state_before: &Slice, slices: &Slices) -> Option<Event> {
+    let was = |field| field_of(state_before, field);
+    let is = |field| slices.field(field);
     let moving = was(Field::Rehashing) == 1;
     let moves_on = is(Field::Rehashing) == 1;
     let paused = was(Field::SafeIterators) > 0;
     let ended = was(Field::SecondIsCurrent) != is(Field::SecondIsCurrent);
-    let (one, other) = (answer.number(0), answer.number(1));
+    let (one, other) = (slices.answer.number(0), slices.answer.number(1));
     match (call, number) {
         (Call::Resize { .. }, 0) if paused => Some(Event::ResizeWhilePaused),
         (Call::Resize { .. }, 0) => Some(Event::ResizeBegan),
@@ -134,8 +159,8 @@ pub fn event(
             (true, false) => Event::DeleteWhoseStepEnded,
             (true, true) => Event::DeleteWithStep,
         }),
-        (Call::Add { .. }, 2..) if moving && !paused => Some(Event::AddRefusedDuringAMove),
-        (Call::Delete { .. }, 2..) if moving && !paused => Some(Event::DeleteRefusedDuringAMove),
+        (Call::Add { .. }, _) if moving && !paused => Some(Event::AddRefusedDuringAMove),
+        (Call::Delete { .. }, _) if moving && !paused => Some(Event::DeleteRefusedDuringAMove),
         (Call::Scan { .. }, 0) if was(Field::OldUsed) == 0 && was(Field::NewUsed) == 0 => {
             Some(Event::ScanOfNoKeys)
         }
@@ -143,6 +168,20 @@ pub fn event(
         (Call::Scan { .. }, 0) if other > 0 => Some(Event::ScanOfOneTable),
         (Call::Iterate { .. }, 0) if other > 0 => Some(Event::IterateHandsOut),
         (Call::Iterate { .. }, 0) => Some(Event::IterateComesToTheEnd),
+        _ => None,
+    }
+}
+
+/// What the length of the list was, beside the keys that were to be handed out.
+fn of_the_list(number: u32, slices: &Slices) -> Option<Event> {
+    let (list, answer) = (&slices.list, &slices.answer);
+    let needed = 8 * answer.number(1) as usize;
+    match number {
+        0 if list.len() > LONGEST_NEEDED => Some(Event::ListLongerThanAnyNeeded),
+        0 if needed > 0 && list.len() == needed => Some(Event::ListExactlyLongEnough),
+        0 if needed > 0 => Some(Event::ListLongerThanNeeded),
+        9 if list.len() + 4 == needed => Some(Event::ListShortByOneNumber),
+        9 if list.len() + 8 == needed => Some(Event::ListShortByOnePair),
         _ => None,
     }
 }

@@ -1,10 +1,12 @@
 //! Models with one known fault each. A run that does not notice them would compare too little.
 
 use crate::call::{Call, Model, Side};
+use crate::model::bytes::checked;
 use crate::model::numbers::Table;
 use crate::slices::{
     Field, Slice, Slices, ANSWER_BYTES, FLAGS, MOST_BUCKET_BYTES, MOST_ENTRY_BYTES, STATE_BYTES,
 };
+use crate::told::{told, Rule};
 
 #[derive(Clone, Copy, Debug, PartialEq, Eq)]
 pub enum Fault {
@@ -27,9 +29,11 @@ pub enum Fault {
     FreedEntryKeepsItsKey,
     FlagsByOneByte,
     OneByteBehindTheAnswer,
+    /// One of the rules by which an add or a delete is told to be refused before its step is taken.
+    Forgets(Rule),
 }
 
-pub const FAULTS: [(Fault, &str); 19] = [
+pub const FAULTS: [(Fault, &str); 25] = [
     (Fault::BytesInTheWrongOrder, "bytes-in-the-wrong-order"),
     (Fault::StateFlagOfTwo, "state-flag-of-two"),
     (Fault::FlagArgumentOfTwo, "flag-argument-of-two"),
@@ -52,6 +56,30 @@ pub const FAULTS: [(Fault, &str); 19] = [
     (Fault::FreedEntryKeepsItsKey, "freed-entry-keeps-its-key"),
     (Fault::FlagsByOneByte, "flags-by-one-byte"),
     (Fault::OneByteBehindTheAnswer, "one-byte-behind-the-answer"),
+    (
+        Fault::Forgets(Rule::FewerInTheOldTable),
+        "forgets-fewer-in-the-old-table",
+    ),
+    (
+        Fault::Forgets(Rule::MoreInTheNewTable),
+        "forgets-more-in-the-new-table",
+    ),
+    (
+        Fault::Forgets(Rule::LessThoseThatCameFirst),
+        "forgets-less-those-that-came-first",
+    ),
+    (
+        Fault::Forgets(Rule::NoEntryOfTheMovedChain),
+        "forgets-no-entry-of-the-moved-chain",
+    ),
+    (
+        Fault::Forgets(Rule::LinkToTheOneMovedBefore),
+        "forgets-link-to-the-one-moved-before",
+    ),
+    (
+        Fault::Forgets(Rule::LinkToTheFormerHead),
+        "forgets-link-to-the-former-head",
+    ),
 ];
 
 /// The model with a fault.
@@ -60,6 +88,10 @@ pub struct Faulty(pub Fault);
 impl Side for Faulty {
     fn answer(&self, call: Call, slices: &mut Slices) -> u32 {
         match self.0 {
+            Fault::Forgets(rule) => Told {
+                forgotten: Some(rule),
+            }
+            .answer(call, slices),
             Fault::BytesInTheWrongOrder => after(call, slices, |_, slices| {
                 if slices.answer.len() == ANSWER_BYTES {
                     slices
@@ -168,6 +200,37 @@ impl Side for Faulty {
                     *byte ^= 1;
                 }
             }),
+        }
+    }
+}
+
+/// The model, but that of an add or a delete whose step comes first the number is told beforehand, and the free head that
+/// it leaves, maybe with a rule forgotten.
+pub struct Told {
+    pub forgotten: Option<Rule>,
+}
+
+impl Side for Told {
+    fn answer(&self, call: Call, slices: &mut Slices) -> u32 {
+        let (state, first) = (slices.state.get(), slices.first.get());
+        let (second, entries) = (slices.second.get(), slices.entries.get());
+        let store = match call {
+            Call::Add { .. } | Call::Delete { .. } => {
+                checked(state, first, second, entries, slices.answer.get())
+            }
+            _ => None,
+        };
+        let told = store.and_then(|store| told(&store, call, self.forgotten));
+        let number = Model.answer(call, slices);
+        match told {
+            None => number,
+            Some(Err(refusal)) => refusal.number(),
+            Some(Ok(free_head)) => {
+                if let Some(free_head) = free_head {
+                    slices.set_field(Field::FreeHead, free_head);
+                }
+                0
+            }
         }
     }
 }

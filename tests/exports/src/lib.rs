@@ -12,6 +12,7 @@ pub mod model;
 pub mod plant;
 pub mod random;
 pub mod slices;
+pub mod told;
 
 /// The seed of a run that is not given one, as in the gate.
 pub const DEFAULT_SEED: u64 = 8;

@@ -1,4 +1,4 @@
-//! The run: both sides answer the same random calls, and what was met is shown.
+//! The run: the model and the archive answer the same random calls, and what was met is shown.
 
 use std::env;
 use std::process::ExitCode;
@@ -12,15 +12,16 @@ use exports::faults::{Faulty, FAULTS};
 use exports::{DEFAULT_CALLS, DEFAULT_SEED};
 
 const USAGE: &str = "\
-usage: exports [--seed N] [--calls N] [--fault NAME]
+usage: exports [--seed N] [--calls N] [--counts] [--fault NAME]
   --seed N      the seed of the random numbers
   --calls N     at least so many calls are made
-  --fault NAME  the model gets this fault, which the run must notice
-                (with a wrong NAME the faults are listed)";
+  --counts      shows how often each thing was met
+  --fault NAME  gives the model a fault, which the run should notice; a wrong NAME lists the faults";
 
 struct Options {
     seed: u64,
     calls: u64,
+    counts: bool,
     model: Box<dyn Side>,
 }
 
@@ -28,25 +29,28 @@ fn options() -> Result<Options, String> {
     let mut options = Options {
         seed: DEFAULT_SEED,
         calls: DEFAULT_CALLS,
+        counts: false,
         model: Box::new(Model),
     };
     let mut arguments = env::args().skip(1);
     while let Some(name) = arguments.next() {
-        let value = arguments.next().ok_or(USAGE)?;
+        let mut value = || arguments.next().ok_or(USAGE);
         match name.as_str() {
-            "--seed" => options.seed = value.parse().map_err(|_| USAGE)?,
-            "--calls" => options.calls = value.parse().map_err(|_| USAGE)?,
-            "--fault" => {
-                let names: Vec<_> = FAULTS.iter().map(|(_, name)| *name).collect();
-                let fault = FAULTS.iter().find(|(_, name)| *name == value);
-                let (fault, _) =
-                    fault.ok_or_else(|| format!("the faults are: {}", names.join(", ")))?;
-                options.model = Box::new(Faulty(*fault));
-            }
+            "--seed" => options.seed = value()?.parse().map_err(|_| USAGE)?,
+            "--calls" => options.calls = value()?.parse().map_err(|_| USAGE)?,
+            "--counts" => options.counts = true,
+            "--fault" => options.model = Box::new(faulty(&value()?)?),
             _ => return Err(USAGE.to_string()),
         }
     }
     Ok(options)
+}
+
+fn faulty(wanted: &str) -> Result<Faulty, String> {
+    let names = FAULTS.map(|(_, name)| name).join("\n  ");
+    let found = FAULTS.iter().find(|(_, name)| *name == wanted);
+    let (fault, _) = found.ok_or(format!("the faults are\n  {names}"))?;
+    Ok(Faulty(*fault))
 }
 
 fn main() -> ExitCode {
@@ -66,16 +70,24 @@ fn main() -> ExitCode {
             return ExitCode::FAILURE;
         }
     };
-    show(comparison.tally(), &done);
-    let missing = not_met(comparison.tally(), &done);
-    for what in &missing {
-        println!("not met: {what}");
+    let tally = comparison.tally();
+    show_answers(tally);
+    let met = met(tally, &done);
+    if options.counts {
+        for (what, times) in &met {
+            println!("{times:>8}  {what}");
+        }
+    }
+    let missing: Vec<_> = met.iter().filter(|(_, times)| *times == 0).collect();
+    for (what, _) in &missing {
+        println!("exports: not met: {what}");
     }
     println!(
-        "exports: {} calls compared, every byte of every slice equal",
-        comparison.calls()
+        "exports: {} calls compared, {} in the largest buffers: every byte of every slice equal",
+        comparison.calls(),
+        done.in_largest_buffers
     );
-    // A short run on request cannot be asked to meet everything.
+    // A run that is told to be shorter cannot be asked to meet everything.
     if missing.is_empty() || options.calls < DEFAULT_CALLS {
         ExitCode::SUCCESS
     } else {
@@ -83,67 +95,51 @@ fn main() -> ExitCode {
     }
 }
 
-fn show(tally: &Tally, done: &Done) {
-    let numbers: Vec<u32> = (0..NUMBERS as u32)
-        .filter(|number| EXPORTS.iter().any(|row| row.2.contains(number)))
+/// How often each export answered each number that it can answer.
+fn show_answers(tally: &Tally) {
+    let is_answered = |number: &u32| {
+        EXPORTS
+            .iter()
+            .any(|(_, _, possible)| possible.contains(number))
+    };
+    let numbers: Vec<u32> = (0..NUMBERS as u32).filter(is_answered).collect();
+    let heads: String = numbers
+        .iter()
+        .map(|number| format!("{number:>7}"))
         .collect();
-    print!("{:<16}", "answers");
-    for number in &numbers {
-        print!("{number:>8}");
-    }
-    println!();
+    println!("{:<16}{heads}", "answers");
     for (export, name, possible) in EXPORTS {
-        print!("{name:<16}");
-        for number in &numbers {
-            match possible.contains(number) {
-                true => print!("{:>8}", tally.answered(export, *number)),
-                false => print!("{:>8}", "-"),
-            }
-        }
-        println!();
+        let cell = |number: &u32| match possible.contains(number) {
+            true => format!("{:>7}", tally.answered(export, *number)),
+            false => format!("{:>7}", "-"),
+        };
+        let row: String = numbers.iter().map(cell).collect();
+        println!("{name:<16}{row}");
     }
-    for (event, name) in EVENTS {
-        println!("{:>8}  {name}", tally.events(event));
-    }
-    for (kind, _) in DAMAGES {
-        println!("{:>8}  damage: {kind:?}", done.damages[kind as usize]);
-    }
-    for kind in DISTURBANCES {
-        println!("{:>8}  bytes: {kind:?}", done.disturbances[kind as usize]);
-    }
-    println!(
-        "{:>8}  calls in cases of the largest buffers",
-        done.in_largest_buffers
-    );
 }
 
-/// What a run should have met, and did not.
-fn not_met(tally: &Tally, done: &Done) -> Vec<String> {
-    let mut missing = Vec::new();
+/// All that a run should meet, and how often it did.
+fn met(tally: &Tally, done: &Done) -> Vec<(String, u64)> {
+    let mut all = Vec::new();
     for (export, name, possible) in EXPORTS {
-        for number in possible {
-            if tally.answered(export, *number) == 0 {
-                missing.push(format!("{name} answered {number}"));
-            }
+        for &number in possible {
+            all.push((
+                format!("{name} answered {number}"),
+                tally.answered(export, number),
+            ));
         }
     }
     for (event, name) in EVENTS {
-        if tally.events(event) == 0 {
-            missing.push(name.to_string());
-        }
+        all.push((name.to_string(), tally.events(event)));
     }
     for (kind, _) in DAMAGES {
-        if done.damages[kind as usize] == 0 {
-            missing.push(format!("damage {kind:?}"));
-        }
+        all.push((format!("damage: {kind:?}"), done.damages[kind as usize]));
     }
     for kind in DISTURBANCES {
-        if done.disturbances[kind as usize] == 0 {
-            missing.push(format!("bytes {kind:?}"));
-        }
+        let times = done.disturbances[kind as usize];
+        all.push((format!("bytes: {kind:?}"), times));
     }
-    if done.in_largest_buffers == 0 {
-        missing.push("calls in cases of the largest buffers".to_string());
-    }
-    missing
+    let largest = "calls in the largest buffers".to_string();
+    all.push((largest, done.in_largest_buffers));
+    all
 }

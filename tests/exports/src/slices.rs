@@ -158,6 +158,15 @@ impl Slice {
     }
 }
 
+/// A field of a state, 0 where the state is too short to have it.
+pub fn field_of(state: &Slice, field: Field) -> u32 {
+    if (field as usize) < state.numbers() {
+        state.number(field as usize)
+    } else {
+        0
+    }
+}
+
 #[derive(Debug, Default, PartialEq, Eq)]
 pub struct Slices {
     pub state: Slice,
@@ -219,13 +228,8 @@ impl Slices {
         ]
     }
 
-    /// A field of the state, 0 where the state is too short to have it.
     pub fn field(&self, field: Field) -> u32 {
-        if (field as usize) < self.state.numbers() {
-            self.state.number(field as usize)
-        } else {
-            0
-        }
+        field_of(&self.state, field)
     }
 
     pub fn set_field(&mut self, field: Field, number: u32) {

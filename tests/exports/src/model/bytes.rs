@@ -383,7 +383,7 @@ fn write_state(bytes: &mut [u8], state: &State) {
 
 /// "The first check" of every export but a start, of everything but a list and a flag among the numbers: the store that
 /// the bytes are, if it is passed.
-fn checked(
+pub fn checked(
     state: &[u8],
     first: &[u8],
     second: &[u8],

@@ -220,10 +220,15 @@ impl Store {
 
     /// "Sound chain": the entries of a bucket's chain, from head to end, if it is sound.
     pub fn chain(&self, table: Table, bucket: u32) -> Answer<Vec<u32>> {
+        self.chain_of_at_most(self.used(table), table, bucket)
+    }
+
+    /// The same, where the state allows the chain so many entries.
+    pub fn chain_of_at_most(&self, most: u32, table: Table, bucket: u32) -> Answer<Vec<u32>> {
         let mut met = Vec::new();
         let mut number = self.head(table, bucket);
         while number != 0 {
-            let too_many = met.len() as u64 == u64::from(self.used(table));
+            let too_many = met.len() == most as usize;
             if too_many || number > self.state.capacity {
                 return Err(Refusal::Damaged);
             }

@@ -107,9 +107,12 @@ fn flags_above_one() {
     }
 }
 
+/// A buffer among the slices, and the most bytes that it may have.
+type Buffer = (usize, fn(&mut Slices) -> &mut Slice);
+
 #[test]
 fn lengths_of_buffers() {
-    let buffers: [(usize, fn(&mut Slices) -> &mut Slice); 3] = [
+    let buffers: [Buffer; 3] = [
         (MOST_BUCKET_BYTES, |slices| &mut slices.first),
         (MOST_BUCKET_BYTES, |slices| &mut slices.second),
         (MOST_ENTRY_BYTES, |slices| &mut slices.entries),

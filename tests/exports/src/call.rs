@@ -144,3 +144,15 @@ impl Side for Archive {
         hand_on!(suspects::raw, call, slices)
     }
 }
+
+#[cfg(test)]
+mod tests {
+    use super::EXPORTS;
+
+    #[test]
+    fn exports_stand_in_their_order() {
+        for (index, (export, _, _)) in EXPORTS.iter().enumerate() {
+            assert_eq!(*export as usize, index);
+        }
+    }
+}

@@ -271,13 +271,14 @@ impl Case<'_, '_> {
             // A larger memory takes longer to plant than a call on it, and so has more calls.
             let calls = if self.room == Room::Tiny { 12 } else { 24 }.min(left);
             left -= calls;
+            copy.clone_from(&slices);
             for _ in 0..calls {
-                // Each call finds the damage as it was, or as the call before it left it.
+                let export = self.export_on_damage();
+                self.make_some(&mut copy, export)?;
+                // The next call finds the damage as this one leaves it, or as it was.
                 if !self.random.once_in(3) {
                     copy.clone_from(&slices);
                 }
-                let export = self.export_on_damage();
-                self.make_some(&mut copy, export)?;
             }
         }
         Ok(())

@@ -439,9 +439,13 @@ fn loop_a_chain(random: &mut Random, slices: &mut Slices) {
     }
 }
 
-/// One chain leads into another, or into the free chain; now and then both keep to the keys of their buckets.
+/// One chain leads into another, or into the free chain. Often both are sound all the same, since few buckets have few keys.
 fn share_entries(random: &mut Random, slices: &mut Slices) {
-    let (one, other) = (some_chain(random, slices), some_chain(random, slices));
+    let one = some_chain(random, slices);
+    let other = match random.below(5) {
+        0 => chain(slices, slices.field(Field::FreeHead)),
+        _ => some_chain(random, slices),
+    };
     let Some(&into) = other.get(random.below(other.len().max(1))) else {
         return;
     };

@@ -9,12 +9,16 @@ const LONGEST_NEEDED: usize = 32_768;
 #[derive(Clone, Copy, Debug, PartialEq, Eq)]
 #[repr(usize)]
 pub enum Event {
+    /// A resize that begins a move, and one that begins a paused one.
     ResizeBegan,
     ResizeWhilePaused,
+    /// A step that moves keys, or passes ten empty buckets, and the move goes on,
     StepMoved,
     StepPassedTen,
+    /// or that ends it, with keys moved or none.
     StepMovedAndEnded,
     StepEndedWithNone,
+    /// An add by the step that comes first, and by the growth behind it.
     AddAtRest,
     AddWhilePaused,
     AddWithStep,
@@ -22,16 +26,20 @@ pub enum Event {
     AddAndGrowth,
     AddWhoseStepEndedAndGrowth,
     AddRefusedDuringAMove,
+    /// A delete by the step that comes first.
     DeleteAtRest,
     DeleteWhilePaused,
     DeleteWithStep,
     DeleteWhoseStepEnded,
     DeleteRefusedDuringAMove,
+    /// A walk call that hands out keys, or has none to hand out.
     ScanOfOneTable,
     ScanOfTwoTables,
     ScanOfNoKeys,
+    /// A pass call that hands out a bucket, or finds none left.
     IterateHandsOut,
     IterateComesToTheEnd,
+    /// What a list was beside the keys to be handed out; a store of the largest capacity needs 32,768 bytes.
     ListExactlyLongEnough,
     ListLongerThanNeeded,
     ListLongerThanAnyNeeded,
@@ -39,80 +47,35 @@ pub enum Event {
     ListShortByOnePair,
 }
 
-pub const EVENTS: [(Event, &str); 28] = [
-    (Event::ResizeBegan, "a resize began a move"),
-    (Event::ResizeWhilePaused, "a resize began a paused move"),
-    (Event::StepMoved, "a step moved keys, and the move goes on"),
-    (Event::StepPassedTen, "a step passed ten empty buckets"),
-    (
-        Event::StepMovedAndEnded,
-        "a step moved keys and ended the move",
-    ),
-    (
-        Event::StepEndedWithNone,
-        "a step moved none and ended the move",
-    ),
-    (Event::AddAtRest, "an add with no move, and no growth"),
-    (Event::AddWhilePaused, "an add during a paused move"),
-    (
-        Event::AddWithStep,
-        "an add whose step left the move going on",
-    ),
-    (Event::AddWhoseStepEnded, "an add whose step ended the move"),
-    (Event::AddAndGrowth, "an add, and growth behind it"),
-    (
-        Event::AddWhoseStepEndedAndGrowth,
-        "an add whose step ended a move, and growth behind it",
-    ),
-    (
-        Event::AddRefusedDuringAMove,
-        "an add refused during a move that is not paused",
-    ),
-    (Event::DeleteAtRest, "a delete with no move"),
-    (Event::DeleteWhilePaused, "a delete during a paused move"),
-    (
-        Event::DeleteWithStep,
-        "a delete whose step left the move going on",
-    ),
-    (
-        Event::DeleteWhoseStepEnded,
-        "a delete whose step ended the move",
-    ),
-    (
-        Event::DeleteRefusedDuringAMove,
-        "a delete refused during a move that is not paused",
-    ),
-    (
-        Event::ScanOfOneTable,
-        "a walk call of one table that hands out keys",
-    ),
-    (
-        Event::ScanOfTwoTables,
-        "a walk call of two tables that hands out keys",
-    ),
-    (Event::ScanOfNoKeys, "a walk call of a store with no keys"),
-    (
-        Event::IterateHandsOut,
-        "a pass call that hands out a bucket",
-    ),
-    (
-        Event::IterateComesToTheEnd,
-        "a pass call that finds none left",
-    ),
-    (
-        Event::ListExactlyLongEnough,
-        "a list exactly as long as is needed",
-    ),
-    (Event::ListLongerThanNeeded, "a list longer than is needed"),
-    (
-        Event::ListLongerThanAnyNeeded,
-        "a list longer than the keys of any store need",
-    ),
-    (
-        Event::ListShortByOneNumber,
-        "a list too short by one number",
-    ),
-    (Event::ListShortByOnePair, "a list too short by one pair"),
+pub const EVENTS: [Event; 28] = [
+    Event::ResizeBegan,
+    Event::ResizeWhilePaused,
+    Event::StepMoved,
+    Event::StepPassedTen,
+    Event::StepMovedAndEnded,
+    Event::StepEndedWithNone,
+    Event::AddAtRest,
+    Event::AddWhilePaused,
+    Event::AddWithStep,
+    Event::AddWhoseStepEnded,
+    Event::AddAndGrowth,
+    Event::AddWhoseStepEndedAndGrowth,
+    Event::AddRefusedDuringAMove,
+    Event::DeleteAtRest,
+    Event::DeleteWhilePaused,
+    Event::DeleteWithStep,
+    Event::DeleteWhoseStepEnded,
+    Event::DeleteRefusedDuringAMove,
+    Event::ScanOfOneTable,
+    Event::ScanOfTwoTables,
+    Event::ScanOfNoKeys,
+    Event::IterateHandsOut,
+    Event::IterateComesToTheEnd,
+    Event::ListExactlyLongEnough,
+    Event::ListLongerThanNeeded,
+    Event::ListLongerThanAnyNeeded,
+    Event::ListShortByOneNumber,
+    Event::ListShortByOnePair,
 ];
 
 /// What happened. A call that the first check refuses tells nothing.

@@ -18,6 +18,9 @@ usage: exports [--seed N] [--calls N] [--counts] [--fault NAME]
   --counts      shows how often each thing was met
   --fault NAME  gives the model a fault, which the run should notice; a wrong NAME lists the faults";
 
+/// A run of the default length meets each thing at least so often.
+const LEAST: u64 = 50;
+
 struct Options {
     seed: u64,
     calls: u64,
@@ -78,9 +81,9 @@ fn main() -> ExitCode {
             println!("{times:>8}  {what}");
         }
     }
-    let missing: Vec<_> = met.iter().filter(|(_, times)| *times == 0).collect();
-    for (what, _) in &missing {
-        println!("exports: not met: {what}");
+    let missing: Vec<_> = met.iter().filter(|(_, times)| *times < LEAST).collect();
+    for (what, times) in &missing {
+        println!("exports: met only {times} times: {what}");
     }
     println!(
         "exports: {} calls compared, {} in the largest buffers: every byte of every slice equal",
@@ -129,8 +132,8 @@ fn met(tally: &Tally, done: &Done) -> Vec<(String, u64)> {
             ));
         }
     }
-    for (event, name) in EVENTS {
-        all.push((name.to_string(), tally.events(event)));
+    for event in EVENTS {
+        all.push((format!("event: {event:?}"), tally.events(event)));
     }
     for (kind, _) in DAMAGES {
         all.push((format!("damage: {kind:?}"), done.damages[kind as usize]));

@@ -26,7 +26,7 @@ tells-whole most n =
     tells-same (λ h. record { whole = h .0; few = h .1 }) (λ w. (w .whole, w .few)) (tells-and (tells-four n) (tells-le n most))
 
 module _ (state first second entries list answer : ℕ) where
-  tells-lengths : Tells (Lengths state first second entries list answer) (lengthsFit state first second entries list answer)
+  pub tells-lengths : Tells (Lengths state first second entries list answer) (lengthsFit state first second entries list answer)
   unfolding lengthsFit
   tells-lengths =
       tells-same

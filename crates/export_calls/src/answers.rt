@@ -38,19 +38,18 @@ fn two_results(number: u32, one: u32, two: u32, s: State) -> Answer
     }
 }
 
-// 2 to the 32nd.
-const HALF: u64 = 4294967296;
+const TWO_TO_32: u64 = 4294967296;
 
 // Done, with one result: its lower and its higher 32 bits.
 fn one_result(value: u64, s: State) -> Answer
     ensures { λ r. ⌜ r ≡ answerOf (reply 0 (value ∷ []) s) ⌝ }
 {
-    let low = value % HALF;
-    let high = value / HALF;
+    let low = value % TWO_TO_32;
+    let high = value / TWO_TO_32;
     two_results(0, low as u32, high as u32, s)
 }
 
-// Done, with none.
+// Done, with no result.
 fn no_result(s: State) -> Answer
     ensures { λ r. ⌜ r ≡ answerOf (reply 0 [] s) ⌝ }
 {

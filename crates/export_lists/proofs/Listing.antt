@@ -19,7 +19,7 @@ use Rattle.export_calls.specs.declared.calls.Listing.{Listing}
 use Rattle.export_calls.specs.Kinds.{Told, told, listCall}
 use Rattle.export_calls.proofs.Keeping.{list-keeps}
 use Rattle.export_runs.specs.Numbers.{roomFor, numbersFrom, performed}
-use Rattle.export_runs.proofs.Running.{opened, list-told, kept-state}
+use Rattle.export_runs.proofs.Running.{list-told, kept-state}
 use Rattle.export_lists.specs.Room.{listRoom, Front, AnyLength}
 use Rattle.export_lists.proofs.Parts.{decode-take, encode-append, encode-rest, decode-length}
 use Rattle.export_lists.proofs.Front.{longer, list-front}
@@ -91,7 +91,7 @@ pub any-length : (state first second entries e list answer : List ℕ)
 unfolding roomFor
 any-length state first second entries e list answer k d =
     record {
-      opened = opened state answer (length first) (length second) (length entries) (length list) k;
+      opened = record { fits = k .fits; answer-length = k .lengths .answer-length };
       whole = k .lengths .list-whole;
       few-entries = omega (arith, k .lengths .entries-whole .few, ap length (d .back), encode-length e);
     }

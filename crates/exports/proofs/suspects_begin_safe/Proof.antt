@@ -1,0 +1,12 @@
+-- `exports::suspects_begin_safe` meets its contract. Assumes nothing.
+use borrow.Author.Needs.{needs}
+use Rattle.export_calls.specs.Kinds.{writeCall}
+use Rattle.exports.proofs.suspects_begin_safe.Statement.{statement}
+use Rattle.exports.proofs.suspects_begin_safe.Tie as tie
+
+returns : tie.Need-returns
+unfolding writeCall
+returns c = search needs
+
+pub suspects-begin-safe-spec : {M : Type 1} → statement M
+suspects-begin-safe-spec = tie.close (tie.spec (λ c κs. search needs) (λ c. search needs) (λ c. search needs) (λ c. search needs) (λ c. search needs) (λ c. search needs) returns)

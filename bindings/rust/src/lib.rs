@@ -22,7 +22,7 @@
 //!             println!("{cell}: {fails}");
 //!         }
 //!         if let Some(cell) = late.next() {
-//!             store.add(cell, 1)?; // the walk goes on, whatever is added, and loses none
+//!             store.add(cell, 1)?; // the walk goes on, and none of the six is lost
 //!         }
 //!     }
 //!     Ok(())
@@ -35,7 +35,7 @@
 //! |---|---|---|
 //! | [`Store::walk`], an iterator | the store is borrowed | exactly once |
 //! | [`Walk`] | anything may happen to the store | at least once; exactly once while the table does not shrink |
-//! | [`PlainPass`] | the store should not change; its end tells most changes | exactly once, if nothing changed |
+//! | [`PlainPass`] | the store should not change; its end notices some changes | exactly once, if nothing changed |
 //! | [`CarefulPass`], and [`Store::careful_pass`] with a closure | anything but a start; no key moves until it is ended | exactly once |
 //!
 //! `docs/PASSES.md` says when to use which.

@@ -42,8 +42,8 @@
 //!   slice is never null, its bytes stay for the whole call, and those of a `&mut` may be written.
 //!   A byte needs no alignment.
 //! - **No overlap.** While a `&mut` lives there is no other reference to its bytes, so nothing
-//!   that an export writes overlaps with another slice. Slices that are only read may overlap:
-//!   nothing can tell.
+//!   that an export writes overlaps with another slice. Where slices that are only read overlap,
+//!   that makes no difference.
 //! - **No precondition.** Each export's contract is proved for all bytes, all lengths and all
 //!   numbers. It says all that the export writes, and that it comes to an end.
 //! - **Nothing is kept.** An export keeps no pointer, allocates nothing, and has no memory of its

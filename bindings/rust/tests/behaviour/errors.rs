@@ -48,11 +48,9 @@ fn changed() -> Result<(), Error> {
     pass.end(&store)
 }
 
-fn crowded() -> Result<CarefulPass, Error> {
+fn crowded() -> Result<(), Error> {
     let mut store = store(&[]);
-    loop {
-        let _ = CarefulPass::begin(&mut store)?;
-    }
+    (0..256).try_for_each(|_| CarefulPass::begin(&mut store).map(drop))
 }
 
 /// One of each, with its number and its name in the specification.

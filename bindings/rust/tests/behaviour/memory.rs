@@ -48,8 +48,12 @@ fn all_bad(answered: &Answered) -> bool {
 /// A store of `capacity` cells, half of them held or more, with a move under way.
 fn filled(random: &mut Random, capacity: u32) -> Pair {
     let mut pair = Pair::new(capacity, 4);
-    while pair.map.len() < capacity as usize / 2 || !pair.store.is_rehashing() {
-        let _ = pair.change(Change::Add(random.below(2 * capacity).into(), random.below(100)));
+    while pair.map.len() < capacity as usize / 2 {
+        let cell = random.below(2 * capacity).into();
+        let _ = pair.change(Change::Add(cell, random.below(100)));
+    }
+    if !pair.store.is_rehashing() {
+        pair.change(Change::Resize(2 * pair.store.size())).unwrap();
     }
     pair
 }
@@ -175,7 +179,7 @@ fn an_iterator_ends_with_an_error() {
     let entry = memory.first[4 * 2];
     memory.entries[12 * (usize::from(entry) - 1)] = entry;
     let store = Store::from_memory(memory);
-    let items: Vec<_> = store.walk().collect();
+    let items: Vec<_> = store.walk().take(5).collect();
     assert_eq!(items, [Ok((0.into(), 0)), Err(Error::Damaged)]);
 
     let mut walk = Walk::new();

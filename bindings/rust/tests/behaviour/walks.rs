@@ -30,6 +30,8 @@ impl Watch {
         };
         self.held.retain(|cell| pair.map.contains_key(cell));
         self.sizes.push(smaller_size(&pair.store));
+        let bound = *self.sizes.iter().max().unwrap() as usize;
+        assert!(self.sizes.len() <= bound, "a call too many, by sizes {:?}", self.sizes);
         for (cell, fails) in group {
             assert_eq!(pair.map.get(cell), Some(fails));
             *self.handed_out.entry(*cell).or_default() += 1;
@@ -44,7 +46,6 @@ impl Watch {
 
     /// Sees that the walk has kept its promises, now that it has ended.
     fn expect(&self) {
-        assert!(self.sizes.len() <= *self.sizes.iter().max().unwrap() as usize);
         for cell in &self.held {
             assert!(self.handed_out.contains_key(cell), "{cell} was lost");
         }
@@ -65,7 +66,7 @@ fn smaller_size(store: &Store) -> u32 {
 #[test]
 fn walks_lose_nothing() {
     let (mut grew, mut shrank, mut doubled) = (0, 0, 0);
-    for seed in 0..200 {
+    for seed in 0..100 {
         let mut random = Random::new(seed);
         let mut pair = Pair::new(400, 1 << random.below(7));
         for _ in 0..random.below(200) {
@@ -120,7 +121,10 @@ fn a_walk_goes_on_from_its_cursor() {
     }
     let mut walk = Walk::default();
     assert_eq!(walk.cursor(), Some(0));
+    let mut calls = 0;
     while let Some(cursor) = walk.cursor() {
+        calls += 1;
+        assert!(calls <= Store::MAX_SIZE);
         let mut other = Walk::from_cursor(cursor);
         assert_eq!(walk.next(&pair.store).unwrap(), other.next(&pair.store).unwrap());
         assert_eq!(walk.cursor(), other.cursor());

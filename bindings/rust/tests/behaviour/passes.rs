@@ -242,22 +242,19 @@ fn passes_go_on_from_their_place() {
     let mut store = store(&[1, 2, 3, 5, 6]);
     let mut plain = PlainPass::begin(&store).unwrap();
     let mut careful = CarefulPass::begin(&mut store).unwrap();
-    loop {
-        let mut other_plain = PlainPass::resume(plain.place(), plain.fingerprint());
+    let end = store.size() + store.new_size().unwrap();
+    while plain.place() < end {
+        let place = plain.place();
+        let mut other_plain = PlainPass::resume(place, plain.fingerprint());
+        // None begins with this one, so that none is to be ended.
         let mut other_careful = CarefulPass::resume(careful.place());
         let bucket = plain.next(&store).unwrap();
         assert_eq!(bucket, careful.next(&store).unwrap());
         assert_eq!(bucket, other_plain.next(&store).unwrap());
         assert_eq!(bucket, other_careful.next(&store).unwrap());
-        let ended = bucket.is_none();
         assert_eq!(other_plain.end(&store), Ok(()));
-        // It is not one that has begun, so that nothing of it is to be ended.
-        drop(other_careful);
-        if ended {
-            break;
-        }
+        assert!(plain.place() > place);
     }
-    let end = store.size() + store.new_size().unwrap();
     assert_eq!((plain.place(), careful.place()), (end, end));
     let forged = PlainPass::resume(u32::MAX, !plain.fingerprint());
     assert_eq!(forged.clone().next(&store), Ok(None));

@@ -6,7 +6,7 @@ use std::collections::BTreeMap;
 use exports::model::numbers::{Refusal, Store, Table};
 use exports::random::Random;
 
-use crate::shape::{at_rest_for, number};
+use crate::shape::at_rest_for;
 
 const SEQUENCES: u64 = 200;
 const CALLS: usize = 300;
@@ -183,6 +183,11 @@ fn a_sequence_answers_as_a_plain_map() {
             }
         }
     }
+}
+
+/// The number of an answer.
+fn number<T>(answer: Result<T, Refusal>) -> u32 {
+    answer.map_or_else(Refusal::number, |_| 0)
 }
 
 /// A refused call of the model may leave its store half changed; a caller keeps what was before it.

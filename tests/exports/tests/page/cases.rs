@@ -67,31 +67,25 @@ fn cursors_of_one_table() {
     assert_eq!(group(&marked(at_rest(4)), u32::MAX), (vec![(Old, 3)], 0));
 }
 
+/// Two tables and a cursor; the smaller table's bucket, the larger one's, and the next cursor. Which of the two is the old
+/// one plays no part.
+fn check_group(sizes: (u32, u32), cursor: u32, smaller: u32, larger: &[u32], next: u32) {
+    let in_order = |small, large| {
+        let mut buckets = vec![(small, smaller)];
+        buckets.extend(larger.iter().map(|&bucket| (large, bucket)));
+        (buckets, next)
+    };
+    let grows = marked(moving(sizes.0, sizes.1));
+    assert_eq!(group(&grows, cursor), in_order(Old, New));
+    let shrinks = marked(moving(sizes.1, sizes.0));
+    assert_eq!(group(&shrinks, cursor), in_order(New, Old));
+}
+
 #[test]
 fn groups_of_two_tables() {
-    let buckets = |smaller: (Table, u32), larger: (Table, &[u32])| {
-        let of_larger = larger.1.iter().map(|&bucket| (larger.0, bucket));
-        std::iter::once(smaller)
-            .chain(of_larger)
-            .collect::<Vec<_>>()
-    };
-    let cases: [(u32, u32, u32, u32, &[u32], u32); 3] = [
-        (4, 8, 2, 2, &[2, 6], 1),
-        (4, 16, 0, 0, &[0, 8, 4, 12], 2),
-        (4, 16, 8, 0, &[8, 4, 12], 2),
-    ];
-    for (smaller, larger, cursor, bucket, of_larger, next) in cases {
-        let grows = marked(moving(smaller, larger));
-        assert_eq!(
-            group(&grows, cursor),
-            (buckets((Old, bucket), (New, of_larger)), next)
-        );
-        let shrinks = marked(moving(larger, smaller));
-        assert_eq!(
-            group(&shrinks, cursor),
-            (buckets((New, bucket), (Old, of_larger)), next)
-        );
-    }
+    check_group((4, 8), 2, 2, &[2, 6], 1);
+    check_group((4, 16), 0, 0, &[0, 8, 4, 12], 2);
+    check_group((4, 16), 8, 0, &[8, 4, 12], 2);
 }
 
 #[test]

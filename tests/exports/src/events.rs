@@ -45,9 +45,11 @@ pub enum Event {
     ListLongerThanAnyNeeded,
     ListShortByOneNumber,
     ListShortByOnePair,
+    /// A list that only just holds the keys of a store of about the largest capacity.
+    ListOfAboutTheMostKeys,
 }
 
-pub const EVENTS: [Event; 28] = [
+pub const EVENTS: [Event; 29] = [
     Event::ResizeBegan,
     Event::ResizeWhilePaused,
     Event::StepMoved,
@@ -76,6 +78,7 @@ pub const EVENTS: [Event; 28] = [
     Event::ListLongerThanAnyNeeded,
     Event::ListShortByOneNumber,
     Event::ListShortByOnePair,
+    Event::ListOfAboutTheMostKeys,
 ];
 
 /// What happened. A call that the first check refuses tells nothing.
@@ -141,6 +144,9 @@ fn of_the_list(number: u32, slices: &Slices) -> Option<Event> {
     let needed = 8 * answer.number(1) as usize;
     match number {
         0 if list.len() > LONGEST_NEEDED => Some(Event::ListLongerThanAnyNeeded),
+        0 if list.len() == needed && needed > LONGEST_NEEDED / 2 => {
+            Some(Event::ListOfAboutTheMostKeys)
+        }
         0 if needed > 0 && list.len() == needed => Some(Event::ListExactlyLongEnough),
         0 if needed > 0 => Some(Event::ListLongerThanNeeded),
         9 if list.len() + 4 == needed => Some(Event::ListShortByOneNumber),

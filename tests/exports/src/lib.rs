@@ -18,4 +18,4 @@ pub mod told;
 pub const DEFAULT_SEED: u64 = 8;
 
 /// The calls of a run that is not told how many.
-pub const DEFAULT_CALLS: u64 = 300_000;
+pub const DEFAULT_CALLS: u64 = 500_000;

@@ -19,7 +19,7 @@ usage: exports [--seed N] [--calls N] [--counts] [--fault NAME]
   --fault NAME  gives the model a fault, which the run should notice; a wrong NAME lists the faults";
 
 /// A run of the default length meets each thing at least so often.
-const LEAST: u64 = 50;
+const LEAST: u64 = 10;
 
 struct Options {
     seed: u64,

@@ -29,15 +29,20 @@ impl Room {
     }
 
     pub fn capacity(self, random: &mut Random) -> u32 {
-        match random.below(4) {
+        match random.below(3) {
             0 => self.most(),
             _ => 1 + random.below_u32(self.most()),
         }
     }
 
-    /// A legal size that the room allows.
+    /// A legal size that the room allows: often the least or the most. With a small table chains are long, and a walk call
+    /// hands out many keys.
     pub fn size(self, random: &mut Random) -> u32 {
-        1 << random.below_u32(self.most().ilog2() + 1)
+        match random.below(6) {
+            0 => 1,
+            1 => self.most(),
+            _ => 1 << random.below_u32(self.most().ilog2() + 1),
+        }
     }
 
     /// The length of a bucket buffer in numbers, at least as many as are needed.

@@ -39,15 +39,16 @@ const ROOMS: [(Room, usize); 4] = [
     (Room::Largest, 2),
 ];
 
-const ROOMS_OF_A_MOVE: [(Room, usize); 2] = [(Room::Tiny, 5), (Room::Small, 1)];
+const ROOMS_OF_A_MOVE: [(Room, usize); 2] = [(Room::Tiny, 4), (Room::Small, 1)];
 
 /// Where damage is met by the step that comes first, and by what comes behind it.
-const DAMAGES_OF_A_MOVE: [Damage; 8] = [
+const DAMAGES_OF_A_MOVE: [Damage; 9] = [
     Damage::FalseCounts,
     Damage::FalseCounts,
     Damage::SharedEntries,
     Damage::SharedEntries,
     Damage::FreeEntryThatMoves,
+    Damage::EmptiedBuckets,
     Damage::BucketAnyNumber,
     Damage::LinkAnyNumber,
     Damage::KeyOffItsBucket,

@@ -484,13 +484,16 @@ fn free_entry_that_moves(random: &mut Random, slices: &mut Slices) {
     }
 }
 
-/// About as many buckets as one step passes are empty, from the next one on.
+/// About as many buckets as one step passes are empty, from the next one on; often the table ends there.
 fn empty_buckets(random: &mut Random, slices: &mut Slices) {
-    let from = slices.field(Field::RehashIndex) as usize;
-    let there = slices.buckets_there(Table::Old) as usize;
-    let to = from.saturating_add(random.within(9, 12)).min(there);
-    for bucket in from..to {
-        slices.buffer_mut(Table::Old).set_number(bucket, 0);
+    let count = random.within(9, 12) as u32;
+    let there = slices.buckets_there(Table::Old);
+    if random.once_in(2) {
+        slices.set_field(Field::RehashIndex, there.saturating_sub(count));
+    }
+    let from = slices.field(Field::RehashIndex);
+    for bucket in from..from.saturating_add(count).min(there) {
+        slices.buffer_mut(Table::Old).set_number(bucket as usize, 0);
     }
 }
 

@@ -24,6 +24,7 @@ pub enum Fault {
     RefusedStartWritesZeros,
     StepNotPaused,
     AddNotPaused,
+    TenthBucketPassedThoughTheLast,
     RefusedAddKeepsItsStep,
     ResizeClearsTooMuch,
     FreedEntryKeepsItsKey,
@@ -33,7 +34,7 @@ pub enum Fault {
     Forgets(Rule),
 }
 
-pub const FAULTS: [(Fault, &str); 25] = [
+pub const FAULTS: [(Fault, &str); 26] = [
     (Fault::BytesInTheWrongOrder, "bytes-in-the-wrong-order"),
     (Fault::StateFlagOfTwo, "state-flag-of-two"),
     (Fault::FlagArgumentOfTwo, "flag-argument-of-two"),
@@ -51,6 +52,10 @@ pub const FAULTS: [(Fault, &str); 25] = [
     (Fault::RefusedStartWritesZeros, "refused-start-writes-zeros"),
     (Fault::StepNotPaused, "step-not-paused"),
     (Fault::AddNotPaused, "add-not-paused"),
+    (
+        Fault::TenthBucketPassedThoughTheLast,
+        "tenth-bucket-passed-though-the-last",
+    ),
     (Fault::RefusedAddKeepsItsStep, "refused-add-keeps-its-step"),
     (Fault::ResizeClearsTooMuch, "resize-clears-too-much"),
     (Fault::FreedEntryKeepsItsKey, "freed-entry-keeps-its-key"),
@@ -177,6 +182,14 @@ impl Side for Faulty {
                 Call::Add { .. } => not_paused(call, slices),
                 _ => Model.answer(call, slices),
             },
+            Fault::TenthBucketPassedThoughTheLast => {
+                let number = Model.answer(call, slices);
+                if (call, number) == (Call::RehashStep, 2) && ten_empty_buckets_left(slices) {
+                    slices.set_field(Field::RehashIndex, slices.field(Field::OldSize));
+                    return 0;
+                }
+                number
+            }
             Fault::RefusedAddKeepsItsStep => after(call, slices, |number, slices| {
                 if number != 0 && matches!(call, Call::Add { .. }) {
                     Model.answer(Call::RehashStep, slices);
@@ -233,6 +246,13 @@ impl Side for Told {
             }
         }
     }
+}
+
+fn ten_empty_buckets_left(slices: &Slices) -> bool {
+    let next = slices.field(Field::RehashIndex);
+    let end = slices.field(Field::OldSize);
+    let table = slices.buffer(Table::Old);
+    next + 10 == end && (next..end).all(|bucket| table.number(bucket as usize) == 0)
 }
 
 /// The model's answer, and something done behind it.

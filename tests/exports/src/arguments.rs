@@ -152,8 +152,8 @@ fn flag(random: &mut Random) -> u32 {
     }
 }
 
-/// Lends a call its answer and, if it takes one, its list: random bytes, and of the list mostly about as many as the call
-/// needs.
+/// Lends a call its answer and, if it takes one, its list: random bytes, and of the list mostly about as many as the
+/// call needs.
 pub fn lend(random: &mut Random, slices: &mut Slices, call: Call) {
     let answer = random.bytes(ANSWER_BYTES);
     slices.answer.replace(random, &answer);

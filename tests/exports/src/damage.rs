@@ -309,8 +309,8 @@ fn some_table(random: &mut Random, slices: &Slices) -> Table {
     }
 }
 
-/// A bucket of a live table: often the one that a step would move, or another filled one, since damage elsewhere is seldom
-/// met. None if there is none in the buffer.
+/// A bucket of a live table: often the one that a step would move, or another filled one, since damage elsewhere is
+/// seldom met. None if there is none in the buffer.
 fn some_bucket(random: &mut Random, slices: &Slices) -> Option<(Table, usize)> {
     let table = some_table(random, slices);
     let there = slices.buckets_there(table) as usize;
@@ -439,7 +439,8 @@ fn loop_a_chain(random: &mut Random, slices: &mut Slices) {
     }
 }
 
-/// One chain leads into another, or into the free chain. Often both are sound all the same, since few buckets have few keys.
+/// One chain leads into another, or into the free chain. Where there are few buckets, both are often sound all the
+/// same.
 fn share_entries(random: &mut Random, slices: &mut Slices) {
     let one = some_chain(random, slices);
     let other = match random.below(5) {
@@ -462,8 +463,8 @@ fn bucket_to_move(slices: &Slices) -> Option<usize> {
     (from..slices.buckets_there(Table::Old) as usize).find(|&bucket| buffer.number(bucket) != 0)
 }
 
-/// The first free entry lies on the chain that a step would move, and often its new bucket is damaged too: behind the step
-/// the number there is the entry's link.
+/// The first free entry lies on the chain that a step would move, and often its new bucket is damaged too: behind the
+/// step the number there is the entry's link.
 fn free_entry_that_moves(random: &mut Random, slices: &mut Slices) {
     let Some(bucket) = bucket_to_move(slices) else {
         return;

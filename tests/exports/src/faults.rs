@@ -34,57 +34,33 @@ pub enum Fault {
     Forgets(Rule),
 }
 
-pub const FAULTS: [(Fault, &str); 26] = [
-    (Fault::BytesInTheWrongOrder, "bytes-in-the-wrong-order"),
-    (Fault::StateFlagOfTwo, "state-flag-of-two"),
-    (Fault::FlagArgumentOfTwo, "flag-argument-of-two"),
-    (Fault::StartReadsFlags, "start-reads-flags"),
-    (Fault::LongerState, "longer-state"),
-    (Fault::LongerBucketBuffer, "longer-bucket-buffer"),
-    (Fault::LongerEntryBuffer, "longer-entry-buffer"),
-    (Fault::RestOfTheListCleared, "rest-of-the-list-cleared"),
-    (Fault::AnswerLeftOnRefusal, "answer-left-on-refusal"),
-    (Fault::ShortWithoutItsNumber, "short-without-its-number"),
-    (
-        Fault::FingerprintHalvesSwapped,
-        "fingerprint-halves-swapped",
-    ),
-    (Fault::RefusedStartWritesZeros, "refused-start-writes-zeros"),
-    (Fault::StepNotPaused, "step-not-paused"),
-    (Fault::AddNotPaused, "add-not-paused"),
-    (
-        Fault::TenthBucketPassedThoughTheLast,
-        "tenth-bucket-passed-though-the-last",
-    ),
-    (Fault::RefusedAddKeepsItsStep, "refused-add-keeps-its-step"),
-    (Fault::ResizeClearsTooMuch, "resize-clears-too-much"),
-    (Fault::FreedEntryKeepsItsKey, "freed-entry-keeps-its-key"),
-    (Fault::FlagsByOneByte, "flags-by-one-byte"),
-    (Fault::OneByteBehindTheAnswer, "one-byte-behind-the-answer"),
-    (
-        Fault::Forgets(Rule::FewerInTheOldTable),
-        "forgets-fewer-in-the-old-table",
-    ),
-    (
-        Fault::Forgets(Rule::MoreInTheNewTable),
-        "forgets-more-in-the-new-table",
-    ),
-    (
-        Fault::Forgets(Rule::LessThoseThatCameFirst),
-        "forgets-less-those-that-came-first",
-    ),
-    (
-        Fault::Forgets(Rule::NoEntryOfTheMovedChain),
-        "forgets-no-entry-of-the-moved-chain",
-    ),
-    (
-        Fault::Forgets(Rule::LinkToTheOneMovedBefore),
-        "forgets-link-to-the-one-moved-before",
-    ),
-    (
-        Fault::Forgets(Rule::LinkToTheFormerHead),
-        "forgets-link-to-the-former-head",
-    ),
+pub const FAULTS: [Fault; 26] = [
+    Fault::BytesInTheWrongOrder,
+    Fault::StateFlagOfTwo,
+    Fault::FlagArgumentOfTwo,
+    Fault::StartReadsFlags,
+    Fault::LongerState,
+    Fault::LongerBucketBuffer,
+    Fault::LongerEntryBuffer,
+    Fault::RestOfTheListCleared,
+    Fault::AnswerLeftOnRefusal,
+    Fault::ShortWithoutItsNumber,
+    Fault::FingerprintHalvesSwapped,
+    Fault::RefusedStartWritesZeros,
+    Fault::StepNotPaused,
+    Fault::AddNotPaused,
+    Fault::TenthBucketPassedThoughTheLast,
+    Fault::RefusedAddKeepsItsStep,
+    Fault::ResizeClearsTooMuch,
+    Fault::FreedEntryKeepsItsKey,
+    Fault::FlagsByOneByte,
+    Fault::OneByteBehindTheAnswer,
+    Fault::Forgets(Rule::FewerInTheOldTable),
+    Fault::Forgets(Rule::MoreInTheNewTable),
+    Fault::Forgets(Rule::LessThoseThatCameFirst),
+    Fault::Forgets(Rule::NoEntryOfTheMovedChain),
+    Fault::Forgets(Rule::LinkToTheOneMovedBefore),
+    Fault::Forgets(Rule::LinkToTheFormerHead),
 ];
 
 /// The model with a fault.
@@ -217,8 +193,8 @@ impl Side for Faulty {
     }
 }
 
-/// The model, but that of an add or a delete whose step comes first the number is told beforehand, and the free head that
-/// it leaves, maybe with a rule forgotten.
+/// The model, but that of an add or a delete whose step comes first the number is told beforehand, and the free head
+/// that it leaves, maybe with a rule forgotten.
 pub struct Told {
     pub forgotten: Option<Rule>,
 }

@@ -50,10 +50,10 @@ fn options() -> Result<Options, String> {
 }
 
 fn faulty(wanted: &str) -> Result<Faulty, String> {
-    let names = FAULTS.map(|(_, name)| name).join("\n  ");
-    let found = FAULTS.iter().find(|(_, name)| *name == wanted);
-    let (fault, _) = found.ok_or(format!("the faults are\n  {names}"))?;
-    Ok(Faulty(*fault))
+    let names = FAULTS.map(|fault| format!("{fault:?}"));
+    let found = names.iter().position(|name| name == wanted);
+    let found = found.ok_or_else(|| format!("the faults are\n  {}", names.join("\n  ")))?;
+    Ok(Faulty(FAULTS[found]))
 }
 
 fn main() -> ExitCode {

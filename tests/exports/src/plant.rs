@@ -1,5 +1,5 @@
-//! Undamaged stores of every shape, made directly and not by calls: a full store of 4,096 entries in the midst of a move
-//! would take thousands of calls otherwise.
+//! Undamaged stores of every shape, made directly and not by calls: a full store of 4,096 entries in the midst of a
+//! move would take thousands of calls otherwise.
 
 use std::collections::HashSet;
 
@@ -35,8 +35,8 @@ impl Room {
         }
     }
 
-    /// A legal size that the room allows: often the least or the most. With a small table chains are long, and a walk call
-    /// hands out many keys.
+    /// A legal size that the room allows: often the least or the most. With a small table chains are long, and a walk
+    /// call hands out many keys.
     pub fn size(self, random: &mut Random) -> u32 {
         match random.below(6) {
             0 => 1,

@@ -144,8 +144,8 @@ impl Slice {
         self.get_mut()[4 * index..4 * index + 4].copy_from_slice(&number.to_le_bytes());
     }
 
-    /// Where the first byte that differs is, counted from the beginning of the slice, and what both have there. A place
-    /// below 0, or from the length on, is in a margin.
+    /// Where the first byte that differs is, counted from the beginning of the slice, and what both have there. A
+    /// place below 0, or from the length on, is in a margin.
     pub fn first_difference(&self, other: &Self) -> Option<(isize, u8, u8)> {
         if self.bytes == other.bytes {
             return None;

@@ -1,7 +1,7 @@
-//! What an add or a delete answers during a move that is not paused, told from the memory before its step: the rules at the
-//! end of "The step that comes first" in `docs/SPECIFICATION.md`. The model takes the step on a copy and needs none of
-//! them. Each of them matters only on damaged memory of a certain kind; a run that meets that kind notices if one is
-//! forgotten.
+//! What an add or a delete answers during a move that is not paused, told from the memory before its step: the rules
+//! at the end of "The step that comes first" in `docs/SPECIFICATION.md`. The model takes the step on a copy and needs
+//! none of them. Each of them matters only on damaged memory of a certain kind; a run that meets that kind notices if
+//! one is forgotten.
 
 use crate::call::Call;
 use crate::model::numbers::{Answer, Refusal, Store, Table};

@@ -1,5 +1,5 @@
-//! That a run compares enough: each of the known faults is noticed within the calls of a default run, and nothing is noticed
-//! where there is no fault. Neither side is the archive here.
+//! That a run compares enough: each of the known faults is noticed within the calls of a default run, and nothing is
+//! noticed where there is no fault. Neither side is the archive here.
 
 use exports::call::{Model, Side};
 use exports::cases;
@@ -9,12 +9,12 @@ use exports::{DEFAULT_CALLS, DEFAULT_SEED};
 
 #[test]
 fn each_fault_is_noticed() {
-    for (fault, name) in FAULTS {
+    for fault in FAULTS {
         let faulty = Faulty(fault);
         let mut comparison = Comparison::new(&Model, &faulty);
         let noticed = cases::run(DEFAULT_SEED, DEFAULT_CALLS, &mut comparison).is_err();
-        assert!(noticed, "{name} goes unnoticed");
-        println!("{name} is noticed by call {}", comparison.calls());
+        assert!(noticed, "{fault:?} goes unnoticed");
+        println!("{fault:?} is noticed by call {}", comparison.calls());
     }
 }
 

@@ -381,8 +381,8 @@ fn write_state(bytes: &mut [u8], state: &State) {
     write_numbers(bytes, &fields(state));
 }
 
-/// "The first check" of every export but a start, of everything but a list and a flag among the numbers: the store that
-/// the bytes are, if it is passed.
+/// "The first check" of every export but a start, of everything but a list and a flag among the numbers: the store
+/// that the bytes are, if it is passed.
 pub fn checked(
     state: &[u8],
     first: &[u8],

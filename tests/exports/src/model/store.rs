@@ -1,5 +1,5 @@
-//! "The calls", from start to permission. A refused call may leave its store half changed: the exports run every call on a
-//! copy of what they are lent, and throw it away then.
+//! "The calls", from start to permission. A refused call may leave its store half changed: the exports run every call
+//! on a copy of what they are lent, and throw it away then.
 
 use super::numbers::{
     has_room, legal_capacity, legal_size, Answer, Refusal, State, Store, Table, MOST,
@@ -45,8 +45,8 @@ pub fn init(first: &mut [u32], entries: &mut [u32], capacity: u32, size: u32) ->
 }
 
 impl Store {
-    /// What find reads: the key's chain in each live table. All of them must be sound, also where the key is met on the
-    /// first. The entry found is the first one met that has the key.
+    /// What find reads: the key's chain in each live table. All of them must be sound, also where the key is met on
+    /// the first. The entry found is the first one met that has the key.
     fn search(&self, key: u32) -> Answer<Option<Found>> {
         let mut found = None;
         for &table in self.live_tables() {

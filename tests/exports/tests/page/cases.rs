@@ -67,8 +67,8 @@ fn cursors_of_one_table() {
     assert_eq!(group(&marked(at_rest(4)), u32::MAX), (vec![(Old, 3)], 0));
 }
 
-/// Two tables and a cursor; the smaller table's bucket, the larger one's, and the next cursor. Which of the two is the old
-/// one plays no part.
+/// Two tables and a cursor; the smaller table's bucket, the larger one's, and the next cursor. Which of the two is
+/// the old one plays no part.
 fn check_group(sizes: (u32, u32), cursor: u32, smaller: u32, larger: &[u32], next: u32) {
     let in_order = |small, large| {
         let mut buckets = vec![(small, smaller)];

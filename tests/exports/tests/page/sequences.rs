@@ -1,5 +1,6 @@
-//! "Sequences of calls" of `docs/SPECIFICATION.md`: over random sequences the model stays undamaged and answers as a plain
-//! map, every walk and every pass of a store that stays as it is hands out each key once, and every move ends in time.
+//! "Sequences of calls" of `docs/SPECIFICATION.md`: over random sequences the model stays undamaged and answers as a
+//! plain map, every walk and every pass of a store that stays as it is hands out each key once, and every move ends
+//! in time.
 
 use std::collections::BTreeMap;
 
@@ -86,8 +87,8 @@ fn check(store: &Store, map: &Map) {
     assert_eq!(pairs, map.pairs);
 }
 
-/// All that a series of calls hands out, each given what the one before answered, until one answers the last; and how many
-/// calls that took.
+/// All that a series of calls hands out, each given what the one before answered, until one answers the last; and how
+/// many calls that took.
 fn all_handed_out(
     last: u32,
     call: impl Fn(u32) -> Result<(u32, Vec<(u32, u32)>), Refusal>,

@@ -65,8 +65,8 @@ pub trait Shape: Sized {
     /// The number of the call, made on a copy.
     fn number(&self, call: Call) -> u32;
 
-    /// Makes a walk call or a pass call: its number, the two numbers of its answer, and the keys of the pairs that it hands
-    /// out to a list of so many numbers. Each key must come with its value.
+    /// Makes a walk call or a pass call: its number, the two numbers of its answer, and the keys of the pairs that it
+    /// hands out to a list of so many numbers. Each key must come with its value.
     fn hand_out(&self, call: Call, list: usize) -> (u32, u32, u32, Vec<u32>);
 
     /// With a chain of these keys, in this order, in a bucket, counted.
@@ -177,7 +177,8 @@ pub fn iterate(place: u32) -> Call {
     Call::Iterate { place }
 }
 
-/// What the readers of "Cases" answer: find, change and delete of a key, add of another one, and a walk call at cursor 0.
+/// What the readers of "Cases" answer: find, change and delete of a key, add of another one, and a walk call at
+/// cursor 0.
 pub fn readers(store: &Store, key: u32, another: u32) -> [u32; 5] {
     let calls = [find(key), update(key), delete(key), add(another), scan(0)];
     calls.map(|call| store.number(call))

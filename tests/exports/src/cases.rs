@@ -304,7 +304,12 @@ impl Case<'_, '_> {
     }
 
     fn moving(&mut self) -> Result<(), Difference> {
-        let exports = [Export::Add, Export::Delete, Export::RehashStep];
+        let exports = [
+            (Export::Add, 4),
+            (Export::Delete, 4),
+            (Export::RehashStep, 2),
+            (Export::Scan, 3),
+        ];
         let mut copy = Slices::default();
         for _ in 0..CALLS_OF_A_CASE / 6 {
             let mut slices = self.planted_during_a_move();
@@ -314,7 +319,7 @@ impl Case<'_, '_> {
             }
             for _ in 0..6 {
                 copy.clone_from(&slices);
-                let export = *self.random.pick(&exports);
+                let export = self.random.weighted(&exports);
                 self.make_some(&mut copy, export)?;
             }
         }

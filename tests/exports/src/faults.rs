@@ -2,7 +2,7 @@
 
 use crate::call::{Call, Model, Side};
 use crate::model::bytes::checked;
-use crate::model::numbers::Table;
+use crate::model::numbers::{Store, Table};
 use crate::slices::{
     Field, Slice, Slices, ANSWER_BYTES, FLAGS, MOST_BUCKET_BYTES, MOST_ENTRY_BYTES, STATE_BYTES,
 };
@@ -25,6 +25,7 @@ pub enum Fault {
     StepNotPaused,
     AddNotPaused,
     TenthBucketPassedThoughTheLast,
+    GroupNotCountedTogether,
     RefusedAddKeepsItsStep,
     ResizeClearsTooMuch,
     FreedEntryKeepsItsKey,
@@ -34,7 +35,7 @@ pub enum Fault {
     Forgets(Rule),
 }
 
-pub const FAULTS: [Fault; 26] = [
+pub const FAULTS: [Fault; 27] = [
     Fault::BytesInTheWrongOrder,
     Fault::StateFlagOfTwo,
     Fault::FlagArgumentOfTwo,
@@ -50,6 +51,7 @@ pub const FAULTS: [Fault; 26] = [
     Fault::StepNotPaused,
     Fault::AddNotPaused,
     Fault::TenthBucketPassedThoughTheLast,
+    Fault::GroupNotCountedTogether,
     Fault::RefusedAddKeepsItsStep,
     Fault::ResizeClearsTooMuch,
     Fault::FreedEntryKeepsItsKey,
@@ -166,6 +168,13 @@ impl Side for Faulty {
                 }
                 number
             }
+            Fault::GroupNotCountedTogether => {
+                let number = Model.answer(call, slices);
+                match (call, number) {
+                    (Call::Scan { cursor }, 2) if chains_are_sound(slices, cursor) => 0,
+                    _ => number,
+                }
+            }
             Fault::RefusedAddKeepsItsStep => after(call, slices, |number, slices| {
                 if number != 0 && matches!(call, Call::Add { .. }) {
                     Model.answer(Call::RehashStep, slices);
@@ -201,12 +210,8 @@ pub struct Told {
 
 impl Side for Told {
     fn answer(&self, call: Call, slices: &mut Slices) -> u32 {
-        let (state, first) = (slices.state.get(), slices.first.get());
-        let (second, entries) = (slices.second.get(), slices.entries.get());
         let store = match call {
-            Call::Add { .. } | Call::Delete { .. } => {
-                checked(state, first, second, entries, slices.answer.get())
-            }
+            Call::Add { .. } | Call::Delete { .. } => store_of(slices),
             _ => None,
         };
         let told = store.and_then(|store| told(&store, call, self.forgotten));
@@ -222,6 +227,22 @@ impl Side for Told {
             }
         }
     }
+}
+
+/// The store that the slices are, if they pass the first check.
+fn store_of(slices: &Slices) -> Option<Store> {
+    let (state, first) = (slices.state.get(), slices.first.get());
+    let (second, entries) = (slices.second.get(), slices.entries.get());
+    checked(state, first, second, entries, slices.answer.get())
+}
+
+/// Whether each chain of the group is sound by itself.
+fn chains_are_sound(slices: &Slices, cursor: u32) -> bool {
+    store_of(slices).is_some_and(|store| {
+        let (group, _) = store.group(cursor);
+        let mut chains = group.into_iter();
+        chains.all(|(table, bucket)| store.chain(table, bucket).is_ok())
+    })
 }
 
 fn ten_empty_buckets_left(slices: &Slices) -> bool {

@@ -1,5 +1,5 @@
-// The calls that write, and start. Each buffer in turn is made numbers, and bytes again behind the call: a function for each, so
-// that none has more than two buffers in hand.
+// The calls that write, and start. Each buffer in turn is made numbers, and bytes again behind the call. There is a function for
+// each buffer, since the proof of one function for all three would be long.
 use crate::change::Change;
 use crate::change::on_numbers;
 use crate::room::bucket_room;

@@ -61,13 +61,13 @@ module _ (w : World) where
   scan-keeps (AfterScan.after a lent) = kept-keeps (scanReply (w .state) a) lent (scan-state a)
 
   pub read-keeps : (call : Read) → Keeps w (perform w (readCall call))
-  unfolding readCall perform
+  unfolding perform
   read-keeps (Read.Find key) = kept-keeps _ [] (find-state (given w calls.find key))
   read-keeps (Read.SuggestedSize growing) = kept-keeps _ [] (size-state (given w calls.suggestedSize growing))
   read-keeps Read.BeginIterator = kept-keeps _ [] (begin-state (given w iterators.beginIterator))
   read-keeps (Read.EndIterator fingerprint) = kept-keeps _ [] (end-state (given w iterators.endIterator fingerprint))
 
   pub list-keeps : (call : Listing) (list : List ℕ) → Keeps w (perform w (listCall call list))
-  unfolding listCall perform
+  unfolding perform
   list-keeps (Listing.Scan cursor) list = scan-keeps (given w walk.scan list cursor)
   list-keeps (Listing.Iterate place) list = scan-keeps (given w iterators.iterate list place)

@@ -35,13 +35,13 @@ told o = Told.tells (answerOf (o .reply)) (o .first) (o .second) (o .entries) (o
 
 -- The calls by kind.
 
-unfoldable pub readCall : Read → Call
+abbrev pub readCall : Read → Call
 readCall (Read.Find key) = Call.on key KeyCall.find
 readCall (Read.SuggestedSize growing) = Call.read (ReadCall.suggestedSize growing)
 readCall Read.BeginIterator = Call.read ReadCall.beginIterator
 readCall (Read.EndIterator fingerprint) = Call.read (ReadCall.endIterator fingerprint)
 
-unfoldable pub writeCall : Write → Call
+abbrev pub writeCall : Write → Call
 writeCall (Write.Update key value) = Call.on key (KeyCall.update value)
 writeCall (Write.Add key value) = Call.on key (KeyCall.add value)
 writeCall (Write.Delete key) = Call.on key KeyCall.delete
@@ -51,6 +51,6 @@ writeCall (Write.AllowResize allowed) = Call.note (StateCall.allowResize allowed
 writeCall Write.BeginSafe = Call.note StateCall.beginSafe
 writeCall Write.EndSafe = Call.note StateCall.endSafe
 
-unfoldable pub listCall : Listing → List ℕ → Call
+abbrev pub listCall : Listing → List ℕ → Call
 listCall (Listing.Scan cursor) list = Call.scan cursor list
 listCall (Listing.Iterate place) list = Call.iterate place list

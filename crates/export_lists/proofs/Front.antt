@@ -151,6 +151,6 @@ module _ (room m : ℕ) (w : World) (list : List ℕ) (few : length (w .entries)
           scanned-front m list (w .state .capacity) (fits _ _ h) (w .entries) _ _ (chain-fits (w .state) current other (w .entries) h _)
 
   pub list-front : (call : Listing) → longer (drop m list) (perform w (listCall call (take m list))) ≡ perform w (listCall call list)
-  unfolding listCall perform
+  unfolding perform
   list-front (Listing.Scan cursor) = kept-longer w (drop m list) _ ∙ ap (keptScan w) (scan-front cursor)
   list-front (Listing.Iterate place) = kept-longer w (drop m list) _ ∙ ap (keptScan w) (iterate-front place)

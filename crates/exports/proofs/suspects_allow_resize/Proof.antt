@@ -1,6 +1,5 @@
 -- `exports::suspects_allow_resize` meets its contract. Assumes nothing.
 use borrow.Author.Needs.{needs}
-use Rattle.export_calls.specs.Kinds.{writeCall}
 use Rattle.exports.proofs.Flags.{flag-refused, flag-passed}
 use Rattle.exports.proofs.suspects_allow_resize.Statement.{statement}
 use Rattle.exports.proofs.suspects_allow_resize.Tie as tie
@@ -9,7 +8,6 @@ returns : tie.Need-returns
 returns c = search flag-refused
 
 returns-2 : tie.Need-returns-2
-unfolding writeCall
 returns-2 c = search flag-passed
 
 pub suspects-allow-resize-spec : {M : Type 1} → statement M

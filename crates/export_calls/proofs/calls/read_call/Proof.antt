@@ -2,25 +2,24 @@
 -- Assumes nothing.
 use borrow.Author.Needs.{needs}
 use Rattle.model.specs.Sequences.{world, given, kept, perform}
-use Rattle.export_calls.specs.Kinds.{readCall}
 use Rattle.export_calls.proofs.Telling.{read-as, kept-tells}
 use Rattle.export_calls.proofs.calls.read_call.Statement.{statement}
 use Rattle.export_calls.proofs.calls.read_call.Tie as tie
 
 returns : tie.Need-returns
-unfolding readCall perform given kept world
+unfolding perform given kept world
 returns c = search (read-as, kept-tells)
 
 returns-2 : tie.Need-returns-2
-unfolding readCall perform given kept world
+unfolding perform given kept world
 returns-2 c = search (read-as, kept-tells)
 
 returns-3 : tie.Need-returns-3
-unfolding readCall perform given kept world
+unfolding perform given kept world
 returns-3 c = search (read-as, kept-tells)
 
 returns-4 : tie.Need-returns-4
-unfolding readCall perform given kept world
+unfolding perform given kept world
 returns-4 c = search (read-as, kept-tells)
 
 pub read-call-spec : {M : Type 1} → statement M

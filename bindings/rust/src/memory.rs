@@ -40,7 +40,8 @@ impl Memory {
     /// Zeros, with room for so many entries, and for tables of up to so many buckets: each at most
     /// 4,096, since the exports take no longer buffers.
     ///
-    /// With a state of zeros this is no store yet. [`Store::init`] makes one in it.
+    /// With a state of zeros this is no store yet. [`Store::init`] makes one in it. The shorter the
+    /// buffers, the quicker its calls.
     ///
     /// ```
     /// use suspects::{Error, Memory, Store};

@@ -49,6 +49,17 @@
 //! - **Nothing is kept.** An export keeps no pointer, allocates nothing, and has no memory of its
 //!   own from one call to the next. So calls may run at the same time wherever Rust lets them:
 //!   on different slices, or on the same ones if they only read them.
+//!
+//! # What a call costs
+//!
+//! An export works on copies of the buffers that it is lent, as numbers, so that its time goes by
+//! their lengths, used or not. With buffers of the greatest lengths a find was measured at 5
+//! microseconds and an add at 6; with those of 100 entries and 256 buckets each at 2.
+//!
+//! The copies lie on the stack: 112 KiB for a walk call or a pass call and 80 KiB for any other,
+//! whatever the lengths are. A thread of Rust has 2 MiB, if it is not told otherwise. Where there
+//! is too little, the process ends as it does for a function of Rust, since an export too touches
+//! its stack page by page, and so meets the guard page.
 
 #![allow(unsafe_code)]
 

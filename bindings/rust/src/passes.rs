@@ -175,8 +175,8 @@ impl CarefulPass {
     }
 
     /// Hands out the cells of the next filled bucket, each with its fail count. `None` says that
-    /// there is none: the pass has come to the end. (If a cell is added behind the end afterwards,
-    /// to a new table, a further call hands it out.)
+    /// there is none: the pass has come to the end. (If a move begins then, and cells are added to
+    /// the new table, which lies behind that end, a further call hands these out.)
     ///
     /// # Errors
     ///

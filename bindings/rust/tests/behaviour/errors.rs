@@ -2,8 +2,8 @@
 
 use std::collections::BTreeSet;
 
-use suspects::raw::{self, ANSWER_BYTES, STATE_BYTES};
-use suspects::{CarefulPass, Cell, Error, Memory, PlainPass, Store};
+use suspects::raw::{self, ANSWER_BYTES};
+use suspects::{CarefulPass, Error, Memory, PlainPass, Store};
 
 fn store(keys: &[u32]) -> Store {
     let mut store = Store::new(4, 4).unwrap();
@@ -78,7 +78,7 @@ fn every_error_is_met() {
     for (error, number, name) in met() {
         assert_eq!(error.number(), number);
         assert!(numbers.insert(number));
-        // What it says begins with its name, and has no other.
+        // What it says begins with its name.
         assert_eq!(error.to_string().split(':').next(), Some(name));
         assert!(std::error::Error::source(&error).is_none());
     }
@@ -134,37 +134,33 @@ fn a_store_that_cannot_be() {
     assert_eq!((store.capacity(), store.size()), (Store::MAX_CAPACITY, Store::MAX_SIZE));
 }
 
-/// The calls of `raw` write a list as long as it is, and leave the rest of it.
+/// The calls of `raw` write the front of a list, and leave the rest of it.
 #[test]
 fn a_list_of_bytes() {
     let store = store(&[4, 0]);
     let Memory { state, first, second, entries } = store.memory();
-    for (call, next) in
-        [(raw::scan as fn(&_, &_, &_, &_, &mut _, &mut _, _) -> _, 2), (raw::iterate, 1)]
-    {
-        let mut list = [0xff; 20];
-        let mut answer = [0xff; ANSWER_BYTES];
-        assert_eq!(
-            call(
-                &state[..],
-                &first[..],
-                &second[..],
-                &entries[..],
-                &mut list[..],
-                &mut answer[..],
-                0_u32
-            ),
-            0_u32
-        );
-        assert_eq!(list[..16], [0, 0, 0, 0, 1, 0, 0, 0, 4, 0, 0, 0, 1, 0, 0, 0]);
-        assert_eq!(list[16..], [0xff; 4]);
-        assert_eq!(answer, [next, 0, 0, 0, 2, 0, 0, 0]);
-    }
-    // An answer of another length is left as it is.
-    let mut answer = [0xff; ANSWER_BYTES + 1];
-    assert_eq!(raw::find(state, first, second, entries, &mut answer, Cell::new(0, 4).key()), 1);
-    assert_eq!(answer, [0xff; ANSWER_BYTES + 1]);
+    let numbers = |bytes: &[u8]| {
+        bytes.as_chunks().0.iter().copied().map(u32::from_le_bytes).collect::<Vec<_>>()
+    };
+    let (mut list, mut answer) = ([0xff; 20], [0xff; ANSWER_BYTES]);
+    assert_eq!(raw::scan(state, first, second, entries, &mut list, &mut answer, 0), 0);
+    assert_eq!(numbers(&list), [0, 1, 4, 1, u32::MAX]);
+    assert_eq!(numbers(&answer), [2, 2]);
+    let (mut list, mut answer) = ([0xff; 20], [0xff; ANSWER_BYTES]);
+    assert_eq!(raw::iterate(state, first, second, entries, &mut list, &mut answer, 0), 0);
+    assert_eq!(numbers(&list), [0, 1, 4, 1, u32::MAX]);
+    assert_eq!(numbers(&answer), [1, 2]);
+}
+
+/// An answer becomes zeros also where nothing else is looked at, if it has its own length.
+#[test]
+fn an_answer_of_bytes() {
+    let store = store(&[4]);
+    let Memory { state, first, second, entries } = store.memory();
     let mut answer = [0xff; ANSWER_BYTES];
-    assert_eq!(raw::find(&[0; STATE_BYTES - 1], first, second, entries, &mut answer, 4), 1);
+    assert_eq!(raw::find(&state[1..], first, second, entries, &mut answer, 4), 1);
     assert_eq!(answer, [0; ANSWER_BYTES]);
+    let mut answer = [0xff; ANSWER_BYTES + 1];
+    assert_eq!(raw::find(state, first, second, entries, &mut answer, 4), 1);
+    assert_eq!(answer, [0xff; ANSWER_BYTES + 1]);
 }

@@ -4,7 +4,7 @@ use std::collections::{BTreeMap, BTreeSet};
 use std::panic::{AssertUnwindSafe, catch_unwind};
 
 use crate::changes::{Change, Pair, Random};
-use suspects::{CarefulPass, Cell, Error, PlainPass, Step, Store};
+use suspects::{CarefulPass, Cell, Error, PlainPass, Step, Store, Suspect};
 
 fn store(keys: &[u32]) -> Store {
     let mut store = Store::new(8, 4).unwrap();
@@ -14,7 +14,7 @@ fn store(keys: &[u32]) -> Store {
     store
 }
 
-fn bucket(keys: &[u32]) -> Option<Vec<(Cell, u32)>> {
+fn bucket(keys: &[u32]) -> Option<Vec<Suspect>> {
     Some(keys.iter().map(|&key| (Cell::from(key), 10 * key)).collect())
 }
 
@@ -29,7 +29,7 @@ fn careful_passes_hand_out_each_cell_once() {
         for _ in 0..random.below(200) {
             let _ = pair.change(Change::any(&mut random, 20, 300));
         }
-        let moved = pair.store.is_rehashing();
+        let moving = pair.store.is_rehashing();
         let mut held: BTreeSet<Cell> = pair.map.keys().copied().collect();
         let mut stays: BTreeMap<Cell, u32> = held.iter().map(|cell| (*cell, 1)).collect();
         let mut handed_out = BTreeMap::<Cell, u32>::new();
@@ -54,8 +54,8 @@ fn careful_passes_hand_out_each_cell_once() {
             assert!(pass.place() > place, "the pass does not come further");
             place = pass.place();
         }
-        moves_begun += u32::from(!moved && pair.store.is_rehashing());
-        assert!(!moved || pair.store.is_rehashing(), "a move has ended");
+        moves_begun += u32::from(!moving && pair.store.is_rehashing());
+        assert!(!moving || pair.store.is_rehashing(), "a move has ended");
         pass.end(&mut pair.store).unwrap();
         assert_eq!(pair.store.careful_passes(), 0);
 
@@ -93,6 +93,24 @@ fn a_pass_call_by_call() {
     assert_eq!(store.rehash_step(), Ok(Step { moved: 1, moving: true }));
 }
 
+/// Key 4 goes to a bucket that the pass has passed, and a move begins behind it. Key 5 goes to the
+/// new table, which lies behind what was the end.
+#[test]
+fn a_careful_pass_goes_on_behind_its_end() {
+    let mut store = store(&[1, 2, 3]);
+    let mut pass = CarefulPass::begin(&mut store).unwrap();
+    for key in [1, 2, 3] {
+        assert_eq!(pass.next(&store).unwrap().map(<[_]>::to_vec), bucket(&[key]));
+    }
+    assert_eq!(pass.next(&store), Ok(None));
+    assert_eq!(pass.place(), store.size());
+    store.add(4, 40).unwrap();
+    store.add(5, 50).unwrap();
+    assert_eq!(pass.next(&store).unwrap().map(<[_]>::to_vec), bucket(&[5]));
+    assert_eq!(pass.next(&store), Ok(None));
+    pass.end(&mut store).unwrap();
+}
+
 #[test]
 fn a_lost_careful_pass_stays_under_way() {
     let mut store = store(&[1, 2, 3]);
@@ -109,7 +127,7 @@ fn careful_passes_are_counted() {
     let mut store = store(&[1, 2, 3]);
     let passes: Vec<_> = (0..255).map(|_| CarefulPass::begin(&mut store).unwrap()).collect();
     assert_eq!(store.careful_passes(), 255);
-    let refused = CarefulPass::begin(&mut store).map(|_| ());
+    let refused = CarefulPass::begin(&mut store).map(drop);
     assert_eq!(refused, Err(Error::TooManyCarefulPasses));
     store.resize(8).unwrap();
     for pass in passes {
@@ -152,7 +170,7 @@ fn a_careful_pass_by_a_closure_always_ends() {
     let visited = store.careful_pass(|store, _| {
         visits += 1;
         assert_eq!(store.careful_passes(), 2);
-        store.find(4).map(|_| ())
+        store.find(4).map(drop)
     });
     assert_eq!((visited, visits, store.careful_passes()), (Err(Error::Absent), 1, 1));
 
@@ -199,7 +217,7 @@ fn a_plain_pass_of_a_store_that_stays_as_it_is() {
         }
         assert_eq!(store.add(held, 1), Err(Error::Present));
         store.allow_resize(visited.len() % 2 == 0).unwrap();
-        store.careful_pass(|store, _| store.find(held).map(|_| ())).unwrap();
+        store.careful_pass(|store, _| store.find(held).map(drop)).unwrap();
     }
     assert_eq!(visited, map);
     assert_eq!(pass.end(&store), Ok(()));

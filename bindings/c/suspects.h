@@ -51,12 +51,16 @@
  *
  * Each slice is a pointer and a length in bytes.
  *
- *   - The pointer must be valid for that many bytes; it needs no alignment. With a length of 0 it may be null.
+ *   - The pointer must be valid for that many bytes, to be read and, where it is not one to const, to be written. It
+ *     needs no alignment. With a length of 0 it may be null.
  *   - Each byte lent must have been written once, whatever it is: clear fresh memory before suspects_init (static
  *     memory is clear, and so is calloc's).
  *   - The slices of one call must not overlap.
  *   - Two calls on one store must not run at the same time, unless both are of the functions whose store is const;
  *     each of the two then has an answer, and a list, of its own. Calls on different stores may.
+ *   - While a call runs, nothing else may write what it is lent, or read what it is lent as not const. It may store such
+ *     bytes anew also where they stay the same, and on a refusal too; "Writes", at each function, names those that may
+ *     become others.
  *   - A call must run to its end. One that is cut short, by a longjmp for instance, leaves the store half written.
  *
  * No more is asked. Any bytes, any lengths and any numbers are safe: a state that is no state, a chain that loops, a
@@ -69,8 +73,8 @@
  * state, the buffers and the list are what they were before. Where more than one number would apply, the one that is
  * named first at the function is given.
  *
- * 1 comes before all others. It says that the state is not one of a store with these buffers (docs/SPECIFICATION.md,
- * "Sound state"), or that a length or a flag is wrong:
+ * 1 comes before all others, but for a second one of suspects_init. It says that the state is not one of a store with
+ * these buffers (docs/SPECIFICATION.md, "Sound state"), or that a length or a flag is wrong:
  *
  *   - the state has another length than 44 bytes, or the answer another than 8;
  *   - a flag of the state is above 1 (suspects_init does not look), or the flag given as a number is;
@@ -122,8 +126,10 @@
  *
  * WHAT A CALL COSTS
  *
- * A call copies all three buffers, and a call that may change the store copies them back. So its time goes by the
- * lengths that are lent and not by the keys held: lend no more than the capacity needs.
+ * A call has room on its stack for the longest buffers. It clears that room and copies all three buffers there, and a
+ * call that may change the store copies them back. A walk call and a pass call do so with their list too, with up to
+ * 32,768 bytes of it. So a part of the time is the same for every call. The rest goes by the lengths that are lent, and
+ * by the keys held only where chains are long: lend no more than the capacity needs.
  *
  * @@COST@@
  *
@@ -170,8 +176,8 @@ extern "C" {
  * How many bytes to lend ("How much to lend" above), for a capacity of 1 to 4,096 cells and for a number of keys. Each
  * is a constant expression where its argument is one.
  */
-#define SUSPECTS_ENTRY_BYTES_FOR(capacity) ((size_t)12 * (capacity))
-#define SUSPECTS_LIST_BYTES_FOR(keys) ((size_t)8 * (keys))
+#define SUSPECTS_ENTRY_BYTES_FOR(capacity) ((size_t)12 * (size_t)(capacity))
+#define SUSPECTS_LIST_BYTES_FOR(keys) ((size_t)8 * (size_t)(keys))
 #define SUSPECTS_BUCKET_BYTES_FOR(capacity)                                                                            \
     ((size_t)4 * ((capacity) <= 2      ? 4                                                                             \
                   : (capacity) <= 4    ? 8                                                                             \
@@ -319,9 +325,9 @@ uint32_t suspects_update(uint8_t *state, size_t state_len, uint8_t *first, size_
 
 /*
  * Adds a key that is not held. During a move that is not paused it takes a step first. Behind it the table may grow, if
- * no move is under way then: where it has as many keys as buckets and growth is allowed, or more than five times as
- * many in any case, a move begins to the size that suspects_suggested_size answers for growing, if the other bucket
- * buffer has room for that.
+ * no move is under way then: where it has at least as many keys as buckets and growth is allowed, or more than five
+ * times as many in any case, a move begins to the size that suspects_suggested_size answers for growing, if the other
+ * bucket buffer has room for that.
  *
  * Numbers: 1; 2 for the step; 2 for the key's chains; 4 where it is held; 5 where the store is full; 2 for the free
  * chain. Growth has no number, and refuses nothing.
@@ -359,10 +365,11 @@ uint32_t suspects_resize(uint8_t *state, size_t state_len, uint8_t *first, size_
 
 /*
  * Takes one step of the move: moves the keys of the next filled bucket to the new table, or passes ten empty ones. The
- * step behind which the old table has no keys ends the move. A program with time to spare may call it until it says 0,
- * and then a move is over sooner than by adds and deletes alone.
+ * step behind which the old table has no keys ends the move. A program with time to spare may call it until its second
+ * result is 0, and then a move is over sooner than by adds and deletes alone.
  *
- * Numbers: 1; 8 with no move; 18 while the move is paused; 2 for the chain to be moved.
+ * Numbers: 1; 8 with no move; 18 while the move is paused; 2 for the chain to be moved, or where the old table has keys
+ * by its count and none in the buckets that are left.
  * Answer: the number of keys moved; 1 if the move goes on, 0 if it is over.
  * Writes, on 0: the state, and where keys are moved both bucket buffers and the links in the entry buffer.
  */
@@ -403,7 +410,8 @@ uint32_t suspects_allow_resize(uint8_t *state, size_t state_len, uint8_t *first,
  *
  * A refused call answers no cursor: go on with the one that it was given.
  *
- * Numbers: 1; 2 for the chains of the buckets that it hands out; 9 where the list is too short for their keys.
+ * Numbers: 1; 2 for the chains of the buckets that it hands out, each and all together; 9 where the list is too short
+ * for their keys.
  * Answer: the next cursor; the number of keys handed out, often 0. With 9: 0; the number of keys that need room.
  * Writes, on 0: the list, a key and its value for each key handed out, and nothing behind them.
  */
@@ -453,8 +461,9 @@ uint32_t suspects_end_iterator(const uint8_t *state, size_t state_len, const uin
 
 /*
  * Begins a careful pass. Until it has ended no key moves, so that each key that is held throughout comes exactly once,
- * whatever other calls come in between. A move that is under way, or that begins meanwhile, stands still: end the pass
- * soon. There may be several; the store only counts them.
+ * whatever other calls come in between; none comes twice unless it was deleted and added again. A move that is under
+ * way, or that begins meanwhile, stands still: end the pass soon. There may be several. The store only counts them, so
+ * that one end too many may end the pause of another pass; a suspects_init ends them all.
  *
  * Numbers: 1; 17 where 255 are under way.
  * Answer: zeros.

@@ -18,7 +18,7 @@
 //! | [`Store::walk`], an iterator | the store is borrowed | exactly once |
 //! | [`Walk`] | anything may happen to the store | at least once; exactly once while the table does not shrink |
 //! | [`PlainPass`] | the store should not change; its end notices some changes | exactly once, if nothing changed |
-//! | [`CarefulPass`], and [`Store::careful_pass`] with a closure | anything but a start; no key moves until it is ended | exactly once |
+//! | [`CarefulPass`], and [`Store::careful_pass`] with a closure | anything but a start or an end too many; no key moves until it is ended | exactly once |
 //!
 //! `docs/PASSES.md` says when to use which.
 //!
@@ -28,11 +28,18 @@
 //! code's names for the calls; [`Error`] has the numbers of its answers. The functions of [`raw`]
 //! are the exports one for one, and all that is `unsafe` is in that module.
 //!
+//! # What a call costs
+//!
+//! A call copies the three buffers of the store to the stack, and one that may change the store
+//! copies them back. So its time goes by their lengths, which [`Memory::zeroed`] can keep short. A
+//! thread that makes calls needs the stack for that; what Rust gives a thread by itself is enough.
+//! The head of `bindings/c/suspects.h` has the figures of both.
+//!
 //! # To build it
 //!
 //! The archive of the exports comes first: `rt staticlib exports` in the repository's folder. The
-//! variable `SUSPECTS_ARCHIVE_DIR` names its folder, where that is not the repository's
-//! `target/staticlib`.
+//! variable `SUSPECTS_ARCHIVE_DIR` names its folder, by an absolute path, where that is not the
+//! repository's `target/staticlib`.
 
 mod bytes;
 mod cell;

@@ -83,8 +83,9 @@ impl Store {
     /// An empty store for so many cells, with a table of so many buckets, at first.
     ///
     /// The buckets are a power of two. Both are at most 4,096, and the table can grow up to that
-    /// by itself or by a [`resize`](Store::resize). For a store whose table is to stay smaller,
-    /// see [`Memory::zeroed`].
+    /// by itself or by a [`resize`](Store::resize). The buffers have room for that, and each call
+    /// copies them. For a store whose table is to stay smaller, and whose calls are quicker, see
+    /// [`Memory::zeroed`].
     ///
     /// ```
     /// use suspects::{Error, Store};

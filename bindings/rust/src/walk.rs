@@ -15,8 +15,8 @@ use crate::{Error, Store, Suspect};
 /// - every cell that is held at each call of a walk comes, by the time that the walk has ended;
 /// - none comes twice as long as the table does not shrink; more exactly, as long as the smaller
 ///   live table is at no call smaller than at the call before;
-/// - a walk ends within as many calls as the largest size that the smaller live table had at any
-///   of them.
+/// - a walk ends within as many answered calls as the largest size that the smaller live table had
+///   at any of them.
 ///
 /// ```
 /// use suspects::{Error, Store, Walk};

@@ -1,7 +1,7 @@
 /*
  * Tries every function of suspects.h against the archive, so that the two agree on the arguments and their order, and
  * lengths and pointers at their edges. The answers that are due are those of docs/PASSES.md, "A pass, call by call",
- * and of docs/SPECIFICATION.md, "Calls over bytes" and "Cases".
+ * and of docs/SPECIFICATION.md, "Answers", "Calls over bytes" and "Cases".
  *
  * Status 0: all is as it should be. 1: something is not, and standard error says what.
  */
@@ -195,6 +195,28 @@ static void try_state(void)
     expect_state(at_rest);
 }
 
+/* ---- The numbers that no row above is answered ---- */
+
+static void expect_number(enum call call, const struct lent *lent, uint64_t a, uint32_t number, uint32_t two)
+{
+    if (make_call(call, lent, a, 0) != number) fail("it answers another number than is due", call);
+    if (suspects_get64(memory.answer) != (uint64_t)two << 32) fail("its answer is another than is due", call);
+}
+
+static void try_other_numbers(void)
+{
+    struct lent lent = lend();
+    must(INIT, 8, 4);
+    must(ADD, 1, 10);
+    for (int i = 0; i < SUSPECTS_MOST_CAREFUL_PASSES; i++) must(BEGIN_SAFE, 0, 0);
+    expect_number(BEGIN_SAFE, &lent, 0, SUSPECTS_TOO_MANY_CAREFUL_PASSES, 0);
+    lent.list_len = 4; /* a pair takes eight bytes */
+    expect_number(SCAN, &lent, 1, SUSPECTS_SHORT, 1);
+    expect_number(ITERATE, &lent, 0, SUSPECTS_SHORT, 1);
+    suspects_put32(memory.entries, 1); /* the link of entry 1 */
+    expect_number(FIND, &lent, 1, SUSPECTS_DAMAGED, 0);
+}
+
 /* ---- Lengths and pointers, on a new store ---- */
 
 /* A refusal by the first check leaves every slice as it was, but for an answer of eight bytes, which becomes zeros. */
@@ -290,11 +312,29 @@ static void try_header(void)
     }
 }
 
+/* The numbers that a function can answer have the names of docs/SPECIFICATION.md, "Answers", and no other has one. */
+static void try_names(void)
+{
+    static const char *const names[] = {
+        "done",       "bad state", "damaged", "absent", "present", "full", "bad size", "moving",
+        "not moving", "short",     NULL,      NULL,     NULL,      NULL,   NULL,       "changed",
+        "no careful pass", "too many careful passes", "paused", NULL,
+    };
+    for (uint32_t n = 0; n < sizeof names / sizeof *names; n++) {
+        const char *due = names[n] != NULL ? names[n] : "no number of the store";
+        if (strcmp(suspects_number_name(n), due) == 0) continue;
+        fprintf(stderr, "calls: the name of %" PRIu32 " is '%s', where '%s' is due\n", n, suspects_number_name(n), due);
+        exit(1);
+    }
+}
+
 int main(void)
 {
     try_header();
+    try_names();
     try_rows();
     try_state();
+    try_other_numbers();
     must(INIT, 8, 4);
     for (int call = 0; call < CALLS; call++) {
         try_wrong_lengths((enum call)call);

@@ -58,9 +58,9 @@
  *   - The slices of one call must not overlap.
  *   - Two calls on one store must not run at the same time, unless both are of the functions whose store is const;
  *     each of the two then has an answer, and a list, of its own. Calls on different stores may.
- *   - While a call runs, nothing else may write what it is lent, or read what it is lent as not const. It may store such
- *     bytes anew also where they stay the same, and on a refusal too; "Writes", at each function, names those that may
- *     become others.
+ *   - While a call runs, nothing else may write what it is lent, or read what it is lent as not const. It may store
+ *     such bytes anew also where they stay the same, and on a refusal too; "Writes", at each function, names those that
+ *     may become others.
  *   - A call must run to its end. One that is cut short, by a longjmp for instance, leaves the store half written.
  *
  * No more is asked. Any bytes, any lengths and any numbers are safe: a state that is no state, a chain that loops, a

@@ -20,7 +20,8 @@
 //! | [`PlainPass`] | the store should not change; its end notices some changes | exactly once, if nothing changed |
 //! | [`CarefulPass`], and [`Store::careful_pass`] with a closure | anything but a start or an end too many; no key moves until it is ended | exactly once |
 //!
-//! `docs/PASSES.md` says when to use which.
+//! Each of the last three hands out group by group, by its `next`, or cell by cell, by the iterator
+//! `suspects`, which borrows the store. `docs/PASSES.md` says when to use which.
 //!
 //! # Where it is said
 //!
@@ -56,4 +57,4 @@ pub use error::Error;
 pub use memory::Memory;
 pub use passes::{CarefulPass, PlainPass};
 pub use store::{Step, Store};
-pub use walk::{Suspects, Walk};
+pub use walk::Walk;

@@ -1,5 +1,7 @@
 //! The list that walks and passes are lent.
 
+use std::iter::{self, FusedIterator};
+
 use crate::bytes::{self, Answer};
 use crate::{Cell, Error, Memory, Store, Suspect};
 
@@ -52,4 +54,31 @@ impl List {
         let Memory { state, first, second, entries } = store.memory();
         Answer::of(|answer| hand_out(state, first, second, entries, &mut self.bytes, answer, from))
     }
+}
+
+/// One by one what some calls hand out, until one hands out nothing more, or is refused. Behind a
+/// refusal the same would come again, as long as the store does not change.
+pub(crate) fn one_by_one(
+    mut call: impl FnMut() -> Result<Option<Vec<Suspect>>, Error>,
+) -> impl FusedIterator<Item = Result<Suspect, Error>> {
+    let mut group = Vec::new().into_iter();
+    let mut refused = false;
+    let suspects = iter::from_fn(move || {
+        loop {
+            if let Some(suspect) = group.next() {
+                return Some(Ok(suspect));
+            }
+            if refused {
+                return None;
+            }
+            match call() {
+                Ok(next) => group = next?.into_iter(),
+                Err(error) => {
+                    refused = true;
+                    return Some(Err(error));
+                }
+            }
+        }
+    });
+    suspects.fuse()
 }

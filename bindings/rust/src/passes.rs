@@ -1,6 +1,8 @@
 //! Plain passes and careful ones.
 
-use crate::list::List;
+use std::iter::FusedIterator;
+
+use crate::list::{List, one_by_one};
 use crate::raw;
 use crate::{Error, Store, Suspect};
 
@@ -21,6 +23,13 @@ impl Pass {
         // A filled bucket has a key. So no keys say that no filled bucket was left.
         let bucket = self.list.suspects();
         Ok((!bucket.is_empty()).then_some(bucket))
+    }
+
+    fn suspects<'a>(
+        &'a mut self,
+        store: &'a Store,
+    ) -> impl FusedIterator<Item = Result<Suspect, Error>> + 'a {
+        one_by_one(|| Ok(self.next(store)?.map(<[_]>::to_vec)))
     }
 }
 
@@ -95,6 +104,30 @@ impl PlainPass {
     /// written. The pass stays where it was, and may be tried again.
     pub fn next(&mut self, store: &Store) -> Result<Option<&[Suspect]>, Error> {
         self.pass.next(store)
+    }
+
+    /// The cells that the pass has yet to hand out, one by one, while the store is borrowed.
+    ///
+    /// ```
+    /// # use suspects::{Error, PlainPass, Store};
+    /// # let mut store = Store::new(8, 4)?;
+    /// # store.add(8, 40)?;
+    /// let mut pass = PlainPass::begin(&store)?;
+    /// for suspect in pass.suspects(&store) {
+    ///     let (cell, fails) = suspect?;
+    ///     println!("{cell}: {fails}");
+    /// }
+    /// pass.end(&store)?;
+    /// # Ok::<(), Error>(())
+    /// ```
+    ///
+    /// An item is an error only for memory that something else has written. It is the last one
+    /// then.
+    pub fn suspects<'a>(
+        &'a mut self,
+        store: &'a Store,
+    ) -> impl FusedIterator<Item = Result<Suspect, Error>> + 'a {
+        self.pass.suspects(store)
     }
 
     /// Ends the pass, wherever it has come to.
@@ -184,6 +217,30 @@ impl CarefulPass {
     /// written. The pass stays where it was, and may be tried again.
     pub fn next(&mut self, store: &Store) -> Result<Option<&[Suspect]>, Error> {
         self.pass.next(store)
+    }
+
+    /// The cells that the pass has yet to hand out, one by one, while the store is borrowed.
+    ///
+    /// ```
+    /// # use suspects::{Error, CarefulPass, Store};
+    /// # let mut store = Store::new(8, 4)?;
+    /// # store.add(8, 40)?;
+    /// let mut pass = CarefulPass::begin(&mut store)?;
+    /// for suspect in pass.suspects(&store) {
+    ///     let (cell, fails) = suspect?;
+    ///     println!("{cell}: {fails}");
+    /// }
+    /// pass.end(&mut store)?;
+    /// # Ok::<(), Error>(())
+    /// ```
+    ///
+    /// An item is an error only for memory that something else has written. It is the last one
+    /// then.
+    pub fn suspects<'a>(
+        &'a mut self,
+        store: &'a Store,
+    ) -> impl FusedIterator<Item = Result<Suspect, Error>> + 'a {
+        self.pass.suspects(store)
     }
 
     /// Ends the pass, wherever it has come to. Unless another is under way, keys may move again.

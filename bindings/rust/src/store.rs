@@ -1,11 +1,13 @@
 //! The store, and its calls.
 
 use std::fmt;
+use std::iter::FusedIterator;
 
 use crate::bytes::{self, Answer};
+use crate::list::one_by_one;
 use crate::memory::{BUCKET, ENTRY};
 use crate::raw::{self, MAX_BUCKET_BYTES, MAX_ENTRY_BYTES};
-use crate::{CarefulPass, Cell, Error, Memory, Suspect, Suspects};
+use crate::{CarefulPass, Cell, Error, Memory, Suspect, Walk};
 
 /// A store of suspect cells, each with its count of fails.
 ///
@@ -273,8 +275,12 @@ impl Store {
     /// assert!(held.into_iter().eq([(Cell::new(0, 2), 10), (Cell::new(1, 5), 3)]));
     /// # Ok::<(), Error>(())
     /// ```
-    pub fn walk(&self) -> Suspects<'_> {
-        Suspects::new(self)
+    ///
+    /// An item is an error only for memory that something else has written. It is the last one
+    /// then.
+    pub fn walk(&self) -> impl FusedIterator<Item = Result<Suspect, Error>> + '_ {
+        let mut walk = Walk::new();
+        one_by_one(move || Ok(walk.next(self)?.map(<[_]>::to_vec)))
     }
 
     /// Goes through the store by a careful pass, which has ended when this call returns, or when

@@ -2,7 +2,7 @@
 
 use std::iter::FusedIterator;
 
-use crate::list::List;
+use crate::list::{List, one_by_one};
 use crate::raw;
 use crate::{Error, Store, Suspect};
 
@@ -83,6 +83,17 @@ impl Walk {
         self.cursor = (next != 0).then_some(next);
         Ok(Some(self.list.suspects()))
     }
+
+    /// The cells that the walk has yet to hand out, one by one, while the store is borrowed.
+    ///
+    /// An item is an error only for memory that something else has written. It is the last one
+    /// then.
+    pub fn suspects<'a>(
+        &'a mut self,
+        store: &'a Store,
+    ) -> impl FusedIterator<Item = Result<Suspect, Error>> + 'a {
+        one_by_one(|| Ok(self.next(store)?.map(<[_]>::to_vec)))
+    }
 }
 
 impl Default for Walk {
@@ -90,44 +101,3 @@ impl Default for Walk {
         Walk::new()
     }
 }
-
-/// All cells of a store, each with its fail count: what [`Store::walk`] gives.
-///
-/// An item is an error only for memory that something else has written. It is the last one then.
-#[derive(Clone, Debug)]
-pub struct Suspects<'a> {
-    store: &'a Store,
-    walk: Walk,
-    /// How many cells of the walk's last group have been given.
-    given: usize,
-}
-
-impl<'a> Suspects<'a> {
-    pub(crate) fn new(store: &'a Store) -> Suspects<'a> {
-        Suspects { store, walk: Walk::new(), given: 0 }
-    }
-}
-
-impl Iterator for Suspects<'_> {
-    type Item = Result<Suspect, Error>;
-
-    fn next(&mut self) -> Option<Self::Item> {
-        loop {
-            if let Some(&suspect) = self.walk.list.suspects().get(self.given) {
-                self.given += 1;
-                return Some(Ok(suspect));
-            }
-            match self.walk.next(self.store) {
-                Ok(Some(_)) => self.given = 0,
-                Ok(None) => return None,
-                Err(error) => {
-                    // The store cannot change, so that to go on would give the same for ever.
-                    self.walk.cursor = None;
-                    return Some(Err(error));
-                }
-            }
-        }
-    }
-}
-
-impl FusedIterator for Suspects<'_> {}

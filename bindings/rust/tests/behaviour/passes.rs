@@ -4,7 +4,7 @@ use std::collections::{BTreeMap, BTreeSet};
 use std::panic::{AssertUnwindSafe, catch_unwind};
 
 use crate::changes::{Change, Pair, Random};
-use suspects::{CarefulPass, Cell, Error, PlainPass, Step, Store, Suspect};
+use suspects::{CarefulPass, Cell, Error, PlainPass, Step, Store, Suspect, Walk};
 
 fn store(keys: &[u32]) -> Store {
     let mut store = Store::new(8, 4).unwrap();
@@ -278,4 +278,34 @@ fn passes_go_on_from_their_place() {
     assert_eq!(forged.clone().next(&store), Ok(None));
     assert_eq!(forged.end(&store), Err(Error::Changed));
     careful.end(&mut store).unwrap();
+}
+
+/// A walk and both passes, cell by cell: what their calls hand out, from where they are.
+#[test]
+fn cell_by_cell() {
+    let mut store = store(&[1, 3, 6, 9]);
+    let sorted = |mut suspects: Vec<Suspect>| {
+        suspects.sort();
+        suspects
+    };
+    let held = sorted(bucket(&[1, 3, 6, 9]).unwrap());
+
+    let mut walk = Walk::new();
+    let mut handed_out = walk.next(&store).unwrap().unwrap().to_vec();
+    handed_out.extend(walk.suspects(&store).map(Result::unwrap));
+    assert_eq!((sorted(handed_out), walk.cursor()), (held.clone(), None));
+    assert!(walk.suspects(&store).next().is_none());
+
+    let mut plain = PlainPass::begin(&store).unwrap();
+    let handed_out = plain.suspects(&store).collect::<Result<Vec<_>, _>>().unwrap();
+    assert_eq!(sorted(handed_out), held);
+    assert!(plain.suspects(&store).next().is_none());
+    assert_eq!(plain.end(&store), Ok(()));
+
+    let mut careful = CarefulPass::begin(&mut store).unwrap();
+    let mut handed_out = careful.next(&store).unwrap().unwrap().to_vec();
+    assert!(handed_out.len() < held.len());
+    handed_out.extend(careful.suspects(&store).map(Result::unwrap));
+    assert_eq!(sorted(handed_out), held);
+    assert_eq!(careful.end(&mut store), Ok(()));
 }

@@ -12,7 +12,7 @@ use Rattle.little_endian.proofs.Laws.{encode-decode}
 use Rattle.model.specs.declared.State.{State}
 use Rattle.model.specs.Answers.{Reply, reply}
 use Rattle.model.specs.Sequences.{KeyCall, ReadCall, StateCall, Call, World, world, Outcome, kept, perform}
-use Rattle.lent_bytes.specs.Exports.{Lent, Done, stateNumbers, stateFrom, lengthsFit, stateBytes, flagsFit, refused, worldFrom, written, startedState, exported, exportedList, exportedFlag, exportedInit}
+use Rattle.lent_bytes.specs.Exports.{Lent, stateNumbers, stateFrom, lengthsFit, stateBytes, flagsFit, refused, worldFrom, written, startedState, exported, exportedList, exportedFlag, exportedInit}
 use Rattle.lent_bytes.specs.Checked.{Lengths, Checked}
 use Rattle.lent_bytes.proofs.Checks.{lengths, checked}
 use Rattle.lent_bytes.proofs.Undoing.{state-read}

@@ -7,7 +7,7 @@ use mathlib.Core.Bool.{Bool, true, _&&_}
 use mathlib.Core.List.{List, [], _∷_}
 use lib.Dec.{leb}
 use lib.ListN.{getD, set}
-use Rattle.model.proofs.Tests.{Tells, told, tells-le, tells-true, tells-and}
+use Rattle.model.proofs.Tests.{told, tells-le, tells-true, tells-and}
 use Rattle.model.specs.Sequences.{KeyCall}
 use Rattle.little_endian.specs.Words.{encode}
 use Rattle.lent_bytes.specs.Exports.{Lent}

@@ -3,8 +3,8 @@
 use Prim.Native.Nat.{ℕ}
 use mathlib.Core.Path.{_≡_}
 use mathlib.Core.Bool.{Bool, true, false}
-use mathlib.Core.List.{List, [], _∷_, _++_}
-use lib.ListN.{replicate, set, take}
+use mathlib.Core.List.{List, [], _∷_}
+use lib.ListN.{replicate, set}
 use Rattle.little_endian.specs.Words.{decode, encode}
 use Rattle.model.specs.Sequences.{KeyCall, ReadCall, StateCall, Call}
 use Rattle.lent_bytes.specs.Exports.{Lent, Done, lengthsFit, exported, exportedList, exportedFlag, exportedInit}

@@ -1,7 +1,5 @@
 -- Exports that the statement on refusals excludes: each does what ours do, and then changes what was lent.
-use Prim.Native.Nat.{ℕ}
 use mathlib.Core.Bool.{cond}
-use mathlib.Core.List.{List, []}
 use lib.ListN.{length, replicate}
 use lib.Dec.{eqb}
 use Rattle.little_endian.specs.Words.{decode, encode}

@@ -4,9 +4,9 @@ use Prim.Native.Nat.{ℕ, zero, suc, _+_, _*_, _-_, _/_, _≤_}
 use native.Mathlib.Omega.{arith}
 use mathlib.Core.Path.{_≡_, refl, sym, ap, _∙_}
 use mathlib.Core.List.{List, [], _∷_, _++_}
-use lib.ListN.{length, getD, take, drop, length-drop}
+use lib.ListN.{length, take, drop, length-drop}
 use lib.Seq.{getD-drop}
-use Rattle.little_endian.specs.Words.{word, decode, encode}
+use Rattle.little_endian.specs.Words.{decode, encode}
 use Rattle.little_endian.proofs.Laws.{Below, encode-decode}
 
 pub decode-length : (bytes : List ℕ) → length (decode bytes) ≡ length bytes / 4
@@ -30,7 +30,7 @@ decode-take (suc m) (a ∷ b ∷ []) = rw (four-more m)
 decode-take (suc m) (a ∷ b ∷ c ∷ []) = rw (four-more m)
 decode-take (suc m) (a ∷ b ∷ c ∷ d ∷ bytes) = rw (four-more m, decode-take m bytes)
 
-pub decode-drop : (m : ℕ) (bytes : List ℕ) → decode (drop (m * 4) bytes) ≡ drop m (decode bytes)
+decode-drop : (m : ℕ) (bytes : List ℕ) → decode (drop (m * 4) bytes) ≡ drop m (decode bytes)
 unfolding decode
 decode-drop zero bytes = refl
 decode-drop (suc m) [] = rw (four-more m)

@@ -11,7 +11,7 @@ use Rattle.little_endian.specs.Words.{decode, encode, Decoded, Fitting}
 use Rattle.little_endian.proofs.Laws.{encode-length}
 use Rattle.model.specs.declared.State.{State}
 use Rattle.model.specs.Sequences.{Call, World, world, Outcome, perform}
-use Rattle.lent_bytes.specs.Exports.{Lent, Done, stateNumbers, stateFrom, results, lengthsFit, flagsFit, cleared, refused, worldFrom, written, exportedList, exported}
+use Rattle.lent_bytes.specs.Exports.{Lent, Done, stateNumbers, results, lengthsFit, flagsFit, cleared, refused, worldFrom, written, exportedList, exported}
 use Rattle.lent_bytes.specs.Checked.{Whole, StateRead}
 use Rattle.export_calls.specs.declared.answers.Answer.{Answer}
 use Rattle.export_calls.specs.declared.calls.Read.{Read}

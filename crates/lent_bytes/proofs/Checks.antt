@@ -1,9 +1,9 @@
 -- The first check, the state and the answer: what the code tests, reads and writes, and what the check shows.
 -- Assumes nothing.
-use Prim.Native.Nat.{ℕ, _*_, _/_, _%_, _≤_}
+use Prim.Native.Nat.{ℕ, _*_, _/_, _%_}
 use native.Mathlib.Nat.{div-add-mod'}
 use native.Mathlib.Omega.{arith}
-use mathlib.Core.Path.{_≡_, refl, sym, ap, _∙_}
+use mathlib.Core.Path.{_≡_, sym, ap, _∙_}
 use mathlib.Core.Bool.{Bool, true, false, _&&_}
 use mathlib.Core.List.{List, [], _∷_}
 use lib.ListN.{length, getD}
@@ -12,7 +12,7 @@ use Rattle.little_endian.specs.Words.{decode, encode, Decoded}
 use Rattle.model.specs.declared.State.{State}
 use Rattle.model.proofs.Tests.{Tells, told, tested, tested-not, tells-true, tells-same, tells-and, tells-le, tells-eq}
 use Rattle.lent_bytes.specs.Exports.{flag, stateNumbers, results, stateBytes, answerBytes, mostBucketBytes, mostEntryBytes, wholeUpTo, lengthsFit, flagsFit, cleared}
-use Rattle.lent_bytes.specs.Checked.{Whole, Lengths, StateFits, Checked}
+use Rattle.lent_bytes.specs.Checked.{Whole, Lengths, Checked}
 
 -- What the check shows
 

@@ -1,7 +1,7 @@
 -- What bytes and numbers are to each other, and one turn of each loop.
 -- Assumes nothing.
-use Prim.Native.Nat.{ℕ, zero, suc, _+_, _*_, _/_, _%_, _^_, _<_, _≤_}
-use native.Mathlib.Nat.{div-add-mod', mod-lt, div-eq-of-lt, mod-eq-of-lt, not-suc-le-zero, div-div-eq-div-mul}
+use Prim.Native.Nat.{ℕ, zero, suc, _+_, _*_, _/_, _%_, _<_, _≤_}
+use native.Mathlib.Nat.{div-add-mod', mod-eq-of-lt, div-div-eq-div-mul}
 use native.Mathlib.Numerals.{add-one}
 use native.Mathlib.Omega.{arith}
 use mathlib.Core.Path.{_≡_, refl, sym, ap, _∙_}
@@ -9,7 +9,7 @@ use mathlib.Core.List.{List, [], _∷_, _++_, append-assoc, append-nil}
 use mir.Syntax.{w8}
 use mir.Val.{Fits}
 use lib.ListN.{length, getD, set, take, drop, length-set, drop-of-length-le}
-use lib.Seq.{drop-cons, take-suc-set, take-set-le, take-all, append-snoc, drop-length, take-length, length-take-le}
+use lib.Seq.{drop-cons, take-suc-set, take-all, append-snoc, length-take-le}
 use Rattle.little_endian.specs.Words.{word, decode, encode, wordAt, putWord, Decoded, Fitting}
 
 -- The lengths

@@ -4,7 +4,7 @@ use Prim.Native.Nat.{_*_, _-_, _≤_}
 use native.Mathlib.Omega.{arith}
 use mathlib.Core.Path.{_≡_, refl}
 use mathlib.Core.List.{_++_}
-use lib.ListN.{length, take, drop, length-set}
+use lib.ListN.{length, take, drop}
 use Rattle.little_endian.specs.Words.{encode}
 use Rattle.little_endian.proofs.Laws.{write-turn, write-end, put-length}
 use Rattle.little_endian.proofs.write_numbers.Statement.{statement}

@@ -16,7 +16,7 @@ ghost use Rattle.lent_bytes.specs.Exports.{exported, exportedFlag, exportedList
 ghost use Rattle.lent_bytes.specs.Exports.Lent.{lent};
 ghost use Rattle.lent_bytes.specs.Exports.Done.{done};
 
-// Makes an empty store. It reads no state.
+// Makes an empty store. It reads no state, and writes one only where it returns 0.
 #[no_mangle]
 pub extern "C" fn suspects_init(
     state: &mut [u8],

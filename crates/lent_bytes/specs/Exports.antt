@@ -72,7 +72,7 @@ mostBucketBytes = 16384
 unfoldable pub mostEntryBytes : ℕ
 mostEntryBytes = 49152
 
--- whole numbers, and at most so many bytes
+-- divisible by four, and at most so many bytes
 unfoldable pub wholeUpTo : ℕ → ℕ → Bool
 wholeUpTo most bytes = eqb (bytes % 4) 0 && leb bytes most
 
@@ -85,6 +85,7 @@ lengthsFit state first second entries list answer =
     && wholeUpTo mostEntryBytes entries
     && eqb (list % 4) 0
 
+-- of the state's numbers: second_is_current, rehashing, resize_allowed
 unfoldable pub flagsFit : List ℕ → Bool
 flagsFit ns = leb (getD ns 0 0) 1 && leb (getD ns 5 0) 1 && leb (getD ns 9 0) 1
 
@@ -125,7 +126,7 @@ exported call = exportedList (λ list. call)
 unfoldable pub exportedFlag : (Bool → Call) → ℕ → Lent → Done
 exportedFlag call on l = cond (leb on 1) (exported (call (eqb on 1)) l) (refused l)
 
--- A start reads no state, and writes one only where it is answered 0.
+-- A start reads no state (`perform` takes none at `Call.init`), and writes one only where it is answered 0.
 
 unfoldable pub startedState : ℕ → List ℕ → List ℕ → List ℕ
 startedState zero before after = after

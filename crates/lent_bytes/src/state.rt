@@ -10,7 +10,7 @@ ghost use Rattle.lent_bytes.specs.Checked.{StateFits, StateRead};
 
 const STATE_NUMBERS: usize = 11;
 
-// Whether no flag is above 1.
+// Whether no flag is above 1: second_is_current, rehashing, resize_allowed.
 pub fn do_flags_fit(state: &[u8]) -> bool
     requires { ⌜ length (now state) ≡ stateBytes ⌝ }
     ensures { λ r. ⌜ r ≡ flagsFit (decode (now (state .entry))) ⌝ }

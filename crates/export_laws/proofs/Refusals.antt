@@ -12,13 +12,13 @@ use Rattle.little_endian.proofs.Laws.{encode-decode}
 use Rattle.model.specs.declared.State.{State}
 use Rattle.model.specs.Answers.{Reply, reply}
 use Rattle.model.specs.Sequences.{KeyCall, ReadCall, StateCall, Call, World, world, Outcome, kept, perform}
-use Rattle.lent_bytes.specs.Exports.{Lent, stateNumbers, stateFrom, lengthsFit, stateBytes, flagsFit, refused, worldFrom, written, startedState, exported, exportedList, exportedFlag, exportedInit}
+use Rattle.lent_bytes.specs.Exports.{Lent, stateNumbers, stateFrom, lengthsFit, stateBytes, flagsFit, refused, worldFrom, written, startedState, exportedCall, exportedList, exportedFlag, exportedInit, Export, exported}
 use Rattle.lent_bytes.specs.Checked.{Lengths, Checked}
 use Rattle.lent_bytes.proofs.Checks.{lengths, checked}
 use Rattle.lent_bytes.proofs.Undoing.{state-read}
 use Rattle.refinement.specs.Demand1.{LeavesAll, LeavesList, Leaves}
 use Rattle.refinement.proofs.Demand1.{demand1}
-use Rattle.export_laws.specs.Refusals.{Export, ours, Slices, ListFor, Stays, Refusals}
+use Rattle.export_laws.specs.Refusals.{Slices, ListFor, Stays, Refusals}
 
 -- a call that, refused, hands back the state that it was given, and leaves that list
 abbrev Returns : Call → List ℕ → Type 0
@@ -99,8 +99,8 @@ module _ (state first second entries list answer : List ℕ) (b : Slices state f
 
   -- a call with no list, and one with a flag
   stays-plain : (c : Call) → Returns c [] → list ≡ []
-      → Stays state first second entries list (exported c (Lent.lent state first second entries list answer))
-  unfolding exported decode
+      → Stays state first second entries list (exportedCall c (Lent.lent state first second entries list answer))
+  unfolding exportedCall decode
   stays-plain c leaves l =
       stays-call (λ list. c) (λ w o h. let (values, e) = leaves w o h in (values, rw (ap decode l) e))
 
@@ -111,7 +111,7 @@ module _ (state first second entries list answer : List ℕ) (b : Slices state f
     where
       by : (t : Bool)
           → Stays state first second entries list
-          (cond t (exported (call (eqb on 1)) (Lent.lent state first second entries list answer))
+          (cond t (exportedCall (call (eqb on 1)) (Lent.lent state first second entries list answer))
           (refused (Lent.lent state first second entries list answer)))
       by true = stays-plain (call (eqb on 1)) (leaves (eqb on 1)) l
       by false = stays-refused
@@ -181,10 +181,13 @@ returns-iterate : (place : ℕ) (list : List ℕ) → Returns (Call.iterate plac
 unfolding LeavesAll LeavesList Leaves
 returns-iterate place list w o (count, due, l) = (_, l)
 
-pub refusals : Refusals ours
-unfolding ours ListFor
+pub refusals : Refusals exported
+unfolding ListFor
 refusals (Export.init capacity size) f g h i list a b l = stays-init f g h i list a b capacity size l
-refusals (Export.on key c) f g h i list a b l = stays-plain f g h i list a b (Call.on key c) (returns-on key c) l
+refusals (Export.find key) f g h i list a b l = stays-plain f g h i list a b (Call.on key KeyCall.find) (returns-on key KeyCall.find) l
+refusals (Export.update key value) f g h i list a b l = stays-plain f g h i list a b (Call.on key (KeyCall.update value)) (returns-on key (KeyCall.update value)) l
+refusals (Export.add key value) f g h i list a b l = stays-plain f g h i list a b (Call.on key (KeyCall.add value)) (returns-on key (KeyCall.add value)) l
+refusals (Export.delete key) f g h i list a b l = stays-plain f g h i list a b (Call.on key KeyCall.delete) (returns-on key KeyCall.delete) l
 refusals (Export.resize size) f g h i list a b l = stays-plain f g h i list a b (Call.resize size) (returns-resize size) l
 refusals Export.rehashStep f g h i list a b l = stays-plain f g h i list a b Call.rehashStep returns-step l
 refusals (Export.scan cursor) f g h i list a b l = stays-call f g h i list a b (Call.scan cursor) (returns-scan cursor (decode list))

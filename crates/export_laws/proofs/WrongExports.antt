@@ -8,12 +8,11 @@ use mathlib.Core.List.{List, [], _∷_}
 use lib.Dec.{leb}
 use lib.ListN.{getD, set}
 use Rattle.model.proofs.Tests.{told, tells-le, tells-true, tells-and}
-use Rattle.model.specs.Sequences.{KeyCall}
 use Rattle.little_endian.specs.Words.{encode}
-use Rattle.lent_bytes.specs.Exports.{Lent}
+use Rattle.lent_bytes.specs.Exports.{Lent, Export}
 use Rattle.export_laws.proofs.Computing.{exporting}
 use Rattle.export_laws.specs.Cases.{nines, heldState}
-use Rattle.export_laws.specs.Refusals.{Export, ours, Bytes, Slices, ListFor, Stays, Refusals}
+use Rattle.export_laws.specs.Refusals.{Bytes, Slices, ListFor, Stays, Refusals}
 use Rattle.export_laws.specs.WrongExports.{zeroed, rounded, clearing, clearingFirst, altered}
 
 allBytes : List ℕ → Bool
@@ -38,7 +37,7 @@ listAt i (Lent.lent state first second entries list answer) = getD list i 0
 
 -- a start with size 3 is refused with 6
 pub zeroed-excluded : Refusals (altered zeroed) → ⊥
-unfolding exporting nines ours zeroed altered Stays ListFor allBytes stateAt
+unfolding exporting nines zeroed altered Stays ListFor allBytes stateAt
 zeroed-excluded r =
     let b : Slices (nines 44) [] [] [] [] =
     record {
@@ -74,22 +73,22 @@ abbrev flagged : List ℕ
 flagged = set heldState 0 2
 
 pub rounded-excluded : Refusals (altered rounded) → ⊥
-unfolding exporting nines heldState heldFirst heldEntries ours rounded altered Stays ListFor allBytes stateAt
+unfolding exporting nines heldState heldFirst heldEntries rounded altered Stays ListFor allBytes stateAt
 rounded-excluded r =
     let b : Slices flagged heldFirst [] heldEntries [] = heldBytes flagged [] refl refl in
-    let e = ap (stateAt 0) (r (Export.on 7 KeyCall.find) flagged heldFirst [] heldEntries [] (nines 8) b refl (λ z. omega arith)) in
+    let e = ap (stateAt 0) (r (Export.find 7) flagged heldFirst [] heldEntries [] (nines 8) b refl (λ z. omega arith)) in
     omega arith
 
 pub clearing-first-excluded : Refusals (altered clearingFirst) → ⊥
-unfolding exporting nines heldState heldFirst heldEntries ours clearingFirst altered Stays ListFor allBytes firstAt
+unfolding exporting nines heldState heldFirst heldEntries clearingFirst altered Stays ListFor allBytes firstAt
 clearing-first-excluded r =
     let b : Slices flagged heldFirst [] heldEntries [] = heldBytes flagged [] refl refl in
-    let e = ap (firstAt 0) (r (Export.on 7 KeyCall.find) flagged heldFirst [] heldEntries [] (nines 8) b refl (λ z. omega arith)) in
+    let e = ap (firstAt 0) (r (Export.find 7) flagged heldFirst [] heldEntries [] (nines 8) b refl (λ z. omega arith)) in
     omega arith
 
 -- a walk call with a list of one number
 pub clearing-excluded : Refusals (altered clearing) → ⊥
-unfolding exporting nines heldState heldFirst heldEntries ours clearing altered Stays ListFor allBytes listAt
+unfolding exporting nines heldState heldFirst heldEntries clearing altered Stays ListFor allBytes listAt
 clearing-excluded r =
     let b : Slices heldState heldFirst [] heldEntries (nines 4) = heldBytes heldState (nines 4) refl refl in
     let e = ap (listAt 0) (r (Export.scan 0) heldState heldFirst [] heldEntries (nines 4) (nines 8) b tt (λ z. omega arith)) in

@@ -4,37 +4,7 @@ use Prim.Native.Nat.{ℕ, _<_}
 use mathlib.Core.Path.{_≡_}
 use mathlib.Core.List.{List, []}
 use lib.ListN.{getD}
-use Rattle.model.specs.Sequences.{KeyCall, ReadCall, StateCall, Call}
-use Rattle.lent_bytes.specs.Exports.{Lent, Done, exported, exportedList, exportedFlag, exportedInit}
-
--- The exports, with their numbers.
-pub data Export : Type 0 where
-  init : (capacity size : ℕ) → Export
-  on : (key : ℕ) → KeyCall → Export
-  resize : (size : ℕ) → Export
-  rehashStep : Export
-  scan : (cursor : ℕ) → Export
-  iterate : (place : ℕ) → Export
-  beginIterator : Export
-  endIterator : (fingerprint : ℕ) → Export
-  beginSafe : Export
-  endSafe : Export
-  suggestedSize : (growing : ℕ) → Export
-  allowResize : (allowed : ℕ) → Export
-
-unfoldable pub ours : Export → Lent → Done
-ours (Export.init capacity size) = exportedInit capacity size
-ours (Export.on key c) = exported (Call.on key c)
-ours (Export.resize size) = exported (Call.resize size)
-ours Export.rehashStep = exported Call.rehashStep
-ours (Export.scan cursor) = exportedList (Call.scan cursor)
-ours (Export.iterate place) = exportedList (Call.iterate place)
-ours Export.beginIterator = exported (Call.read ReadCall.beginIterator)
-ours (Export.endIterator fingerprint) = exported (Call.read (ReadCall.endIterator fingerprint))
-ours Export.beginSafe = exported (Call.note StateCall.beginSafe)
-ours Export.endSafe = exported (Call.note StateCall.endSafe)
-ours (Export.suggestedSize growing) = exportedFlag (λ on. Call.read (ReadCall.suggestedSize on)) growing
-ours (Export.allowResize allowed) = exportedFlag (λ on. Call.note (StateCall.allowResize on)) allowed
+use Rattle.lent_bytes.specs.Exports.{Lent, Done, Export}
 
 -- slices of bytes, and a list only for the exports that take one
 abbrev pub Bytes : List ℕ → Type 0
@@ -51,7 +21,10 @@ unfoldable pub ListFor : Export → List ℕ → Type 0
 ListFor (Export.scan cursor) list = Unit {0}
 ListFor (Export.iterate place) list = Unit {0}
 ListFor (Export.init capacity size) list = list ≡ []
-ListFor (Export.on key c) list = list ≡ []
+ListFor (Export.find key) list = list ≡ []
+ListFor (Export.update key value) list = list ≡ []
+ListFor (Export.add key value) list = list ≡ []
+ListFor (Export.delete key) list = list ≡ []
 ListFor (Export.resize size) list = list ≡ []
 ListFor Export.rehashStep list = list ≡ []
 ListFor Export.beginIterator list = list ≡ []

@@ -3,8 +3,7 @@ use mathlib.Core.Bool.{cond}
 use lib.ListN.{length, replicate}
 use lib.Dec.{eqb}
 use Rattle.little_endian.specs.Words.{decode, encode}
-use Rattle.lent_bytes.specs.Exports.{Lent, Done, stateNumbers, stateFrom, stateBytes}
-use Rattle.export_laws.specs.Refusals.{Export, ours}
+use Rattle.lent_bytes.specs.Exports.{Lent, Done, stateNumbers, stateFrom, stateBytes, Export, exported}
 
 -- a refused start writes the zeros that the plain call hands back
 unfoldable pub zeroed : Done → Done
@@ -27,4 +26,4 @@ clearingFirst (Done.done number (Lent.lent state first second entries list answe
     Done.done number (Lent.lent state (cond (eqb number 1) (replicate (length first) 0) first) second entries list answer)
 
 unfoldable pub altered : (Done → Done) → Export → Lent → Done
-altered change x l = change (ours x l)
+altered change x l = change (exported x l)

@@ -9,7 +9,7 @@ use Rattle.little_endian.specs.Words.{decode, encode, Decoded, Fitting}
 use Rattle.model.specs.declared.State.{State}
 use Rattle.model.specs.Sequences.{Call, World, world, Outcome, perform}
 use Rattle.model.proofs.Tests.{told, tells-true, tells-and}
-use Rattle.lent_bytes.specs.Exports.{Lent, Done, stateNumbers, stateFrom, mostBucketBytes, mostEntryBytes, lengthsFit, flagsFit, cleared, refused, worldFrom, written, startedState, exported, exportedInit}
+use Rattle.lent_bytes.specs.Exports.{Lent, Done, stateNumbers, stateFrom, mostBucketBytes, mostEntryBytes, lengthsFit, flagsFit, cleared, refused, worldFrom, written, startedState, exportedCall, exportedInit}
 use Rattle.lent_bytes.specs.Checked.{Whole, Lengths, StateFits}
 use Rattle.lent_bytes.proofs.Checks.{tells-lengths}
 use Rattle.export_calls.specs.declared.answers.Answer.{Answer}
@@ -134,7 +134,7 @@ module _ (state first second entries answer : List ℕ) (t : Bool) where
         → x
         ≡ leaves (Change.Call call) state
         (perform (numbersFrom state (decode first) (decode second) (decode entries)) (changeCall (Change.Call call)))
-        → x ≡ exported (writeCall call) (Lent.lent state first second entries [] answer)
+        → x ≡ exportedCall (writeCall call) (Lent.lent state first second entries [] answer)
     unfolding leaves changeCall numbersFrom worldFrom
     call-done x d = passed state first second entries answer t q x (writeCall call) h d
 

@@ -11,7 +11,7 @@ use Rattle.little_endian.specs.Words.{decode, encode, Decoded, Fitting}
 use Rattle.little_endian.proofs.Laws.{encode-length}
 use Rattle.model.specs.declared.State.{State}
 use Rattle.model.specs.Sequences.{Call, World, world, Outcome, perform}
-use Rattle.lent_bytes.specs.Exports.{Lent, Done, stateNumbers, results, lengthsFit, flagsFit, cleared, refused, worldFrom, written, exportedList, exported}
+use Rattle.lent_bytes.specs.Exports.{Lent, Done, stateNumbers, results, lengthsFit, flagsFit, cleared, refused, worldFrom, written, exportedList, exportedCall}
 use Rattle.lent_bytes.specs.Checked.{Whole, StateRead}
 use Rattle.export_calls.specs.declared.answers.Answer.{Answer}
 use Rattle.export_calls.specs.declared.calls.Read.{Read}
@@ -44,13 +44,13 @@ module _ (state first second entries list answer : List ℕ) (t : Bool)
 module _ (state first second entries answer : List ℕ) (t : Bool)
     (q : t ≡ (lengthsFit (length state) (length first) (length second) (length entries) 0 (length answer) && flagsFit (decode state))) where
   pub passed : (x : Done) (call : Call) → t ≡ true → x ≡ performed (perform (worldFrom state first second entries) call)
-      → x ≡ exported call (Lent.lent state first second entries [] answer)
-  unfolding exported
+      → x ≡ exportedCall call (Lent.lent state first second entries [] answer)
+  unfolding exportedCall
   passed x call h d = list-passed state first second entries [] answer t q x (λ list. call) h d
 
   pub not-passed : (r : ℕ) (out : List ℕ) (call : Call) → t ≡ false → (r ≡ 1) × (out ≡ cleared answer)
-      → Done.done r (Lent.lent state first second entries [] out) ≡ exported call (Lent.lent state first second entries [] answer)
-  unfolding exported
+      → Done.done r (Lent.lent state first second entries [] out) ≡ exportedCall call (Lent.lent state first second entries [] answer)
+  unfolding exportedCall
   not-passed r out call h d = list-refused state first second entries [] answer t q r out (λ list. call) h d
 
 -- An answer in numbers, and what the call leaves, as bytes

@@ -13,7 +13,7 @@ ghost use mathlib.Core.List.{[]};
 ghost use lib.ListN.{length};
 ghost use Rattle.little_endian.specs.Words.{encode};
 ghost use Rattle.model.specs.Sequences.{perform};
-ghost use Rattle.lent_bytes.specs.Exports.{worldFrom, exported};
+ghost use Rattle.lent_bytes.specs.Exports.{worldFrom, exportedCall};
 ghost use Rattle.lent_bytes.specs.Exports.Lent.{lent};
 ghost use Rattle.lent_bytes.specs.Exports.Done.{done};
 ghost use Rattle.lent_bytes.specs.Checked.{Checked};
@@ -70,7 +70,7 @@ pub fn run_read(
     call: Read,
 ) -> u32
     ensures { λ r. ⌜ done r (lent (now (state .entry)) (now (first .entry)) (now (second .entry)) (now (entries .entry)) [] (now (answer .exit)))
-        ≡ exported (readCall call) (lent (now (state .entry)) (now (first .entry)) (now (second .entry)) (now (entries .entry)) [] (now (answer .entry))) ⌝ }
+        ≡ exportedCall (readCall call) (lent (now (state .entry)) (now (first .entry)) (now (second .entry)) (now (entries .entry)) [] (now (answer .entry))) ⌝ }
 {
     if is_well_formed(
         state,

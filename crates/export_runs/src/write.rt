@@ -16,7 +16,7 @@ ghost use mathlib.Core.List.{[]};
 ghost use lib.ListN.{length};
 ghost use Rattle.little_endian.specs.Words.{decode, encode};
 ghost use Rattle.model.specs.Sequences.{perform};
-ghost use Rattle.lent_bytes.specs.Exports.{mostBucketBytes, mostEntryBytes, exported, exportedInit};
+ghost use Rattle.lent_bytes.specs.Exports.{mostBucketBytes, mostEntryBytes, exportedCall, exportedInit};
 ghost use Rattle.lent_bytes.specs.Exports.Lent.{lent};
 ghost use Rattle.lent_bytes.specs.Exports.Done.{done};
 ghost use Rattle.lent_bytes.specs.Checked.{Whole};
@@ -94,7 +94,7 @@ pub fn run_write(
     call: Write,
 ) -> u32
     ensures { λ r. ⌜ done r (lent (now (state .exit)) (now (first .exit)) (now (second .exit)) (now (entries .exit)) [] (now (answer .exit)))
-        ≡ exported (writeCall call) (lent (now (state .entry)) (now (first .entry)) (now (second .entry)) (now (entries .entry)) [] (now (answer .entry))) ⌝ }
+        ≡ exportedCall (writeCall call) (lent (now (state .entry)) (now (first .entry)) (now (second .entry)) (now (entries .entry)) [] (now (answer .entry))) ⌝ }
 {
     if is_well_formed(
         state,

@@ -11,8 +11,7 @@ use export_runs::write::run_write;
 use lent_bytes::answer::refuse;
 ghost use mathlib.Core.Path.{_≡_};
 ghost use mathlib.Core.List.{[]};
-ghost use Rattle.model.specs.Sequences.{Call, KeyCall, ReadCall, StateCall};
-ghost use Rattle.lent_bytes.specs.Exports.{exported, exportedFlag, exportedList, exportedInit};
+ghost use Rattle.lent_bytes.specs.Exports.{Export, exported};
 ghost use Rattle.lent_bytes.specs.Exports.Lent.{lent};
 ghost use Rattle.lent_bytes.specs.Exports.Done.{done};
 
@@ -28,7 +27,7 @@ pub extern "C" fn suspects_init(
     size: u32,
 ) -> u32
     ensures { λ r. ⌜ done r (lent (now (state .exit)) (now (first .exit)) (now (second .exit)) (now (entries .exit)) [] (now (answer .exit)))
-        ≡ exportedInit capacity size (lent (now (state .entry)) (now (first .entry)) (now (second .entry)) (now (entries .entry)) [] (now (answer .entry))) ⌝ }
+        ≡ exported (Export.init capacity size) (lent (now (state .entry)) (now (first .entry)) (now (second .entry)) (now (entries .entry)) [] (now (answer .entry))) ⌝ }
 {
     run_init(state, first, second, entries, answer, capacity, size)
 }
@@ -44,7 +43,7 @@ pub extern "C" fn suspects_find(
     key: u32,
 ) -> u32
     ensures { λ r. ⌜ done r (lent (now (state .entry)) (now (first .entry)) (now (second .entry)) (now (entries .entry)) [] (now (answer .exit)))
-        ≡ exported (Call.on key KeyCall.find) (lent (now (state .entry)) (now (first .entry)) (now (second .entry)) (now (entries .entry)) [] (now (answer .entry))) ⌝ }
+        ≡ exported (Export.find key) (lent (now (state .entry)) (now (first .entry)) (now (second .entry)) (now (entries .entry)) [] (now (answer .entry))) ⌝ }
 {
     run_read(state, first, second, entries, answer, Read::Find(key))
 }
@@ -60,7 +59,7 @@ pub extern "C" fn suspects_update(
     value: u32,
 ) -> u32
     ensures { λ r. ⌜ done r (lent (now (state .exit)) (now (first .exit)) (now (second .exit)) (now (entries .exit)) [] (now (answer .exit)))
-        ≡ exported (Call.on key (KeyCall.update value)) (lent (now (state .entry)) (now (first .entry)) (now (second .entry)) (now (entries .entry)) [] (now (answer .entry))) ⌝ }
+        ≡ exported (Export.update key value) (lent (now (state .entry)) (now (first .entry)) (now (second .entry)) (now (entries .entry)) [] (now (answer .entry))) ⌝ }
 {
     run_write(
         state,
@@ -83,7 +82,7 @@ pub extern "C" fn suspects_add(
     value: u32,
 ) -> u32
     ensures { λ r. ⌜ done r (lent (now (state .exit)) (now (first .exit)) (now (second .exit)) (now (entries .exit)) [] (now (answer .exit)))
-        ≡ exported (Call.on key (KeyCall.add value)) (lent (now (state .entry)) (now (first .entry)) (now (second .entry)) (now (entries .entry)) [] (now (answer .entry))) ⌝ }
+        ≡ exported (Export.add key value) (lent (now (state .entry)) (now (first .entry)) (now (second .entry)) (now (entries .entry)) [] (now (answer .entry))) ⌝ }
 {
     run_write(
         state,
@@ -105,7 +104,7 @@ pub extern "C" fn suspects_delete(
     key: u32,
 ) -> u32
     ensures { λ r. ⌜ done r (lent (now (state .exit)) (now (first .exit)) (now (second .exit)) (now (entries .exit)) [] (now (answer .exit)))
-        ≡ exported (Call.on key KeyCall.delete) (lent (now (state .entry)) (now (first .entry)) (now (second .entry)) (now (entries .entry)) [] (now (answer .entry))) ⌝ }
+        ≡ exported (Export.delete key) (lent (now (state .entry)) (now (first .entry)) (now (second .entry)) (now (entries .entry)) [] (now (answer .entry))) ⌝ }
 {
     run_write(state, first, second, entries, answer, Write::Delete(key))
 }
@@ -120,7 +119,7 @@ pub extern "C" fn suspects_resize(
     size: u32,
 ) -> u32
     ensures { λ r. ⌜ done r (lent (now (state .exit)) (now (first .exit)) (now (second .exit)) (now (entries .exit)) [] (now (answer .exit)))
-        ≡ exported (Call.resize size) (lent (now (state .entry)) (now (first .entry)) (now (second .entry)) (now (entries .entry)) [] (now (answer .entry))) ⌝ }
+        ≡ exported (Export.resize size) (lent (now (state .entry)) (now (first .entry)) (now (second .entry)) (now (entries .entry)) [] (now (answer .entry))) ⌝ }
 {
     run_write(state, first, second, entries, answer, Write::Resize(size))
 }
@@ -135,7 +134,7 @@ pub extern "C" fn suspects_rehash_step(
     answer: &mut [u8],
 ) -> u32
     ensures { λ r. ⌜ done r (lent (now (state .exit)) (now (first .exit)) (now (second .exit)) (now (entries .exit)) [] (now (answer .exit)))
-        ≡ exported Call.rehashStep (lent (now (state .entry)) (now (first .entry)) (now (second .entry)) (now (entries .entry)) [] (now (answer .entry))) ⌝ }
+        ≡ exported Export.rehashStep (lent (now (state .entry)) (now (first .entry)) (now (second .entry)) (now (entries .entry)) [] (now (answer .entry))) ⌝ }
 {
     run_write(state, first, second, entries, answer, Write::RehashStep)
 }
@@ -152,7 +151,7 @@ pub extern "C" fn suspects_scan(
     cursor: u32,
 ) -> u32
     ensures { λ r. ⌜ done r (lent (now (state .entry)) (now (first .entry)) (now (second .entry)) (now (entries .entry)) (now (list .exit)) (now (answer .exit)))
-        ≡ exportedList (Call.scan cursor) (lent (now (state .entry)) (now (first .entry)) (now (second .entry)) (now (entries .entry)) (now (list .entry)) (now (answer .entry))) ⌝ }
+        ≡ exported (Export.scan cursor) (lent (now (state .entry)) (now (first .entry)) (now (second .entry)) (now (entries .entry)) (now (list .entry)) (now (answer .entry))) ⌝ }
 {
     run_list(
         state,
@@ -177,7 +176,7 @@ pub extern "C" fn suspects_iterate(
     place: u32,
 ) -> u32
     ensures { λ r. ⌜ done r (lent (now (state .entry)) (now (first .entry)) (now (second .entry)) (now (entries .entry)) (now (list .exit)) (now (answer .exit)))
-        ≡ exportedList (Call.iterate place) (lent (now (state .entry)) (now (first .entry)) (now (second .entry)) (now (entries .entry)) (now (list .entry)) (now (answer .entry))) ⌝ }
+        ≡ exported (Export.iterate place) (lent (now (state .entry)) (now (first .entry)) (now (second .entry)) (now (entries .entry)) (now (list .entry)) (now (answer .entry))) ⌝ }
 {
     run_list(
         state,
@@ -200,7 +199,7 @@ pub extern "C" fn suspects_begin_iterator(
     answer: &mut [u8],
 ) -> u32
     ensures { λ r. ⌜ done r (lent (now (state .entry)) (now (first .entry)) (now (second .entry)) (now (entries .entry)) [] (now (answer .exit)))
-        ≡ exported (Call.read ReadCall.beginIterator) (lent (now (state .entry)) (now (first .entry)) (now (second .entry)) (now (entries .entry)) [] (now (answer .entry))) ⌝ }
+        ≡ exported Export.beginIterator (lent (now (state .entry)) (now (first .entry)) (now (second .entry)) (now (entries .entry)) [] (now (answer .entry))) ⌝ }
 {
     run_read(state, first, second, entries, answer, Read::BeginIterator)
 }
@@ -215,7 +214,7 @@ pub extern "C" fn suspects_end_iterator(
     fingerprint: u64,
 ) -> u32
     ensures { λ r. ⌜ done r (lent (now (state .entry)) (now (first .entry)) (now (second .entry)) (now (entries .entry)) [] (now (answer .exit)))
-        ≡ exported (Call.read (ReadCall.endIterator fingerprint)) (lent (now (state .entry)) (now (first .entry)) (now (second .entry)) (now (entries .entry)) [] (now (answer .entry))) ⌝ }
+        ≡ exported (Export.endIterator fingerprint) (lent (now (state .entry)) (now (first .entry)) (now (second .entry)) (now (entries .entry)) [] (now (answer .entry))) ⌝ }
 {
     run_read(
         state,
@@ -236,7 +235,7 @@ pub extern "C" fn suspects_begin_safe(
     answer: &mut [u8],
 ) -> u32
     ensures { λ r. ⌜ done r (lent (now (state .exit)) (now (first .exit)) (now (second .exit)) (now (entries .exit)) [] (now (answer .exit)))
-        ≡ exported (Call.note StateCall.beginSafe) (lent (now (state .entry)) (now (first .entry)) (now (second .entry)) (now (entries .entry)) [] (now (answer .entry))) ⌝ }
+        ≡ exported Export.beginSafe (lent (now (state .entry)) (now (first .entry)) (now (second .entry)) (now (entries .entry)) [] (now (answer .entry))) ⌝ }
 {
     run_write(state, first, second, entries, answer, Write::BeginSafe)
 }
@@ -250,7 +249,7 @@ pub extern "C" fn suspects_end_safe(
     answer: &mut [u8],
 ) -> u32
     ensures { λ r. ⌜ done r (lent (now (state .exit)) (now (first .exit)) (now (second .exit)) (now (entries .exit)) [] (now (answer .exit)))
-        ≡ exported (Call.note StateCall.endSafe) (lent (now (state .entry)) (now (first .entry)) (now (second .entry)) (now (entries .entry)) [] (now (answer .entry))) ⌝ }
+        ≡ exported Export.endSafe (lent (now (state .entry)) (now (first .entry)) (now (second .entry)) (now (entries .entry)) [] (now (answer .entry))) ⌝ }
 {
     run_write(state, first, second, entries, answer, Write::EndSafe)
 }
@@ -266,7 +265,7 @@ pub extern "C" fn suspects_suggested_size(
     growing: u32,
 ) -> u32
     ensures { λ r. ⌜ done r (lent (now (state .entry)) (now (first .entry)) (now (second .entry)) (now (entries .entry)) [] (now (answer .exit)))
-        ≡ exportedFlag (λ on. Call.read (ReadCall.suggestedSize on)) growing (lent (now (state .entry)) (now (first .entry)) (now (second .entry)) (now (entries .entry)) [] (now (answer .entry))) ⌝ }
+        ≡ exported (Export.suggestedSize growing) (lent (now (state .entry)) (now (first .entry)) (now (second .entry)) (now (entries .entry)) [] (now (answer .entry))) ⌝ }
 {
     if growing > 1 {
         refuse(answer)
@@ -292,7 +291,7 @@ pub extern "C" fn suspects_allow_resize(
     allowed: u32,
 ) -> u32
     ensures { λ r. ⌜ done r (lent (now (state .exit)) (now (first .exit)) (now (second .exit)) (now (entries .exit)) [] (now (answer .exit)))
-        ≡ exportedFlag (λ on. Call.note (StateCall.allowResize on)) allowed (lent (now (state .entry)) (now (first .entry)) (now (second .entry)) (now (entries .entry)) [] (now (answer .entry))) ⌝ }
+        ≡ exported (Export.allowResize allowed) (lent (now (state .entry)) (now (first .entry)) (now (second .entry)) (now (entries .entry)) [] (now (answer .entry))) ⌝ }
 {
     if allowed > 1 {
         refuse(answer)

@@ -6,7 +6,7 @@ use lib.ListN.{length, getD}
 use lib.Dec.{leb, eqb}
 use Rattle.little_endian.specs.Words.{decode, encode}
 use Rattle.model.specs.declared.State.{State}
-use Rattle.model.specs.Sequences.{Call, World, world, Outcome, perform}
+use Rattle.model.specs.Sequences.{KeyCall, ReadCall, StateCall, Call, World, world, Outcome, perform}
 
 -- the bytes lent to an export; the list is empty where a call takes none
 pub data Lent : Type 0 where
@@ -119,12 +119,12 @@ exportedList call (Lent.lent state first second entries list answer) =
     (written (encode (stateNumbers (o .reply .state))) o)
     (refused (Lent.lent state first second entries list answer))
 
-unfoldable pub exported : Call → Lent → Done
-exported call = exportedList (λ list. call)
+unfoldable pub exportedCall : Call → Lent → Done
+exportedCall call = exportedList (λ list. call)
 
 -- a call that takes a flag, given as a number
 unfoldable pub exportedFlag : (Bool → Call) → ℕ → Lent → Done
-exportedFlag call on l = cond (leb on 1) (exported (call (eqb on 1)) l) (refused l)
+exportedFlag call on l = cond (leb on 1) (exportedCall (call (eqb on 1)) l) (refused l)
 
 -- A start reads no state (`perform` takes none at `Call.init`), and writes one only where it is answered 0.
 
@@ -138,3 +138,39 @@ exportedInit capacity size (Lent.lent state first second entries list answer) =
     cond (lengthsFit (length state) (length first) (length second) (length entries) (length list) (length answer))
     (written (startedState (o .reply .number) state (encode (stateNumbers (o .reply .state)))) o)
     (refused (Lent.lent state first second entries list answer))
+
+-- The exports, with their numbers, and what each is.
+
+pub data Export : Type 0 where
+  init : (capacity size : ℕ) → Export
+  find : (key : ℕ) → Export
+  update : (key value : ℕ) → Export
+  add : (key value : ℕ) → Export
+  delete : (key : ℕ) → Export
+  resize : (size : ℕ) → Export
+  rehashStep : Export
+  scan : (cursor : ℕ) → Export
+  iterate : (place : ℕ) → Export
+  beginIterator : Export
+  endIterator : (fingerprint : ℕ) → Export
+  beginSafe : Export
+  endSafe : Export
+  suggestedSize : (growing : ℕ) → Export
+  allowResize : (allowed : ℕ) → Export
+
+abbrev pub exported : Export → Lent → Done
+exported (Export.init capacity size) = exportedInit capacity size
+exported (Export.find key) = exportedCall (Call.on key KeyCall.find)
+exported (Export.update key value) = exportedCall (Call.on key (KeyCall.update value))
+exported (Export.add key value) = exportedCall (Call.on key (KeyCall.add value))
+exported (Export.delete key) = exportedCall (Call.on key KeyCall.delete)
+exported (Export.resize size) = exportedCall (Call.resize size)
+exported Export.rehashStep = exportedCall Call.rehashStep
+exported (Export.scan cursor) = exportedList (Call.scan cursor)
+exported (Export.iterate place) = exportedList (Call.iterate place)
+exported Export.beginIterator = exportedCall (Call.read ReadCall.beginIterator)
+exported (Export.endIterator fingerprint) = exportedCall (Call.read (ReadCall.endIterator fingerprint))
+exported Export.beginSafe = exportedCall (Call.note StateCall.beginSafe)
+exported Export.endSafe = exportedCall (Call.note StateCall.endSafe)
+exported (Export.suggestedSize growing) = exportedFlag (λ on. Call.read (ReadCall.suggestedSize on)) growing
+exported (Export.allowResize allowed) = exportedFlag (λ on. Call.note (StateCall.allowResize on)) allowed

@@ -131,10 +131,13 @@
  * 32,768 bytes of it. So a part of the time is the same for every call. The rest goes by the lengths that are lent, and
  * by the keys held only where chains are long: lend no more than the capacity needs.
  *
- * @@COST@@
+ * Measured by cost.c on one machine, the least of three runs: with buffers, and a list, for 4,096 cells a suspects_find
+ * took 4.6 microseconds, a suspects_update or a suspects_add 5.7, and a suspects_scan or a suspects_iterate 6.8; with
+ * those for 16 cells 1.9, and 2.6 with a list.
  *
- * A call needs a stack of its own for these copies: @@STACK@@ This does not depend on the lengths lent. See to it that
- * a thread that makes calls has as much.
+ * A call needs a stack of its own for these copies. Measured by cost.c, 115,520 bytes for suspects_scan and
+ * suspects_iterate at most, and 82,920 for any other function, whatever the lengths that are lent. See to it that a
+ * thread that makes calls has as much.
  */
 #ifndef SUSPECTS_H
 #define SUSPECTS_H

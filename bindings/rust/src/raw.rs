@@ -54,7 +54,7 @@
 //!
 //! An export works on copies of the buffers that it is lent, as numbers, so that its time goes by
 //! their lengths, used or not. With buffers of the greatest lengths a find was measured at 5
-//! microseconds and an add at 6; with those of 100 entries and 256 buckets each at 2.
+//! microseconds and an add at 6; with those of 16 entries each at 2.
 //!
 //! The copies lie on the stack: 112 KiB for a walk call or a pass call and 80 KiB for any other,
 //! whatever the lengths are. A thread of Rust has 2 MiB, if it is not told otherwise. Where there

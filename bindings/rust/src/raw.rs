@@ -52,11 +52,12 @@
 //!
 //! # What a call costs
 //!
-//! An export works on copies of the buffers that it is lent, as numbers, so that its time goes by
-//! their lengths, used or not. With buffers of the greatest lengths a find was measured at 5
-//! microseconds and an add at 6; with those of 16 entries each at 2.
+//! An export works on copies of the buffers that it is lent, as numbers, in room for the longest
+//! ones. So a part of its time is the same for every call, and the rest goes by the lengths, used
+//! or not. With buffers of the greatest lengths a find was measured at 5 microseconds and an add at
+//! 6; with those of 16 entries each at 2.
 //!
-//! The copies lie on the stack: 112 KiB for a walk call or a pass call and 80 KiB for any other,
+//! The copies lie on the stack: 113 KiB for a walk call or a pass call and 81 KiB for any other,
 //! whatever the lengths are. A thread of Rust has 2 MiB, if it is not told otherwise. Where there
 //! is too little, the process ends as it does for a function of Rust, since an export too touches
 //! its stack page by page, and so meets the guard page.

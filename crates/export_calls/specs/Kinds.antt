@@ -22,7 +22,7 @@ answerOf r =
       state = r .state;
     }
 
--- what a call answers, in numbers, by the definition of its reply
+-- what a call answers, in numbers, by the definition of its reply; a record, so that a search tells which reply it is about
 pub record InNumbers {A : Type 0} (r : Answer) (f : A → Reply State) (a : A) : Type 0 where
   pub numbers : r ≡ answerOf (f a)
 

@@ -31,7 +31,7 @@ unfoldable pub passes : Change → (state first second entries answer : List ℕ
 passes change state first second entries answer =
     lengthsFit (length state) (length first) (length second) (length entries) 0 (length answer) && flagsAsked change state
 
--- what it has shown of the state and the answer
+-- what it has shown of the state and the answer: of a call what `Opened` says, of a start no flags
 pub record Ready (change : Change) (state answer : List ℕ) : Type 0 where
   pub state-bytes : length state ≡ stateBytes
   pub answer-bytes : length answer ≡ answerBytes

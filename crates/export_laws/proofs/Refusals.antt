@@ -7,7 +7,8 @@ use mathlib.Core.Bool.{Bool, true, false, _&&_, cond}
 use mathlib.Core.List.{List, []}
 use lib.ListN.{length}
 use lib.Dec.{leb, eqb}
-use Rattle.little_endian.specs.Words.{decode, encode, Decoded}
+use Rattle.little_endian.specs.Words.{decode, encode}
+use Rattle.little_endian.specs.Reading.{Decoded}
 use Rattle.little_endian.proofs.Laws.{encode-decode}
 use Rattle.model.specs.declared.State.{State}
 use Rattle.model.specs.Answers.{Reply, reply}

@@ -8,7 +8,8 @@ use mir.Syntax.{w8}
 use mir.Val.{Fits}
 use lib.ListN.{length, getD, take, drop}
 use lib.Seq.{length-take-le}
-use Rattle.little_endian.specs.Words.{decode, encode, Decoded}
+use Rattle.little_endian.specs.Words.{decode, encode}
+use Rattle.little_endian.specs.Reading.{Decoded}
 use Rattle.little_endian.proofs.Laws.{encode-length}
 use Rattle.model.specs.declared.State.{State}
 use Rattle.model.specs.Sequences.{World, Outcome, world, perform}

@@ -5,7 +5,8 @@ use mathlib.Core.Path.{_≡_, refl, sym, ap, _∙_}
 use mathlib.Core.Bool.{Bool, true, false, _&&_}
 use mathlib.Core.List.{List, [], _∷_}
 use lib.ListN.{length}
-use Rattle.little_endian.specs.Words.{decode, encode, Decoded, Fitting}
+use Rattle.little_endian.specs.Words.{decode, encode}
+use Rattle.little_endian.specs.Reading.{Decoded, Fitting}
 use Rattle.model.specs.declared.State.{State}
 use Rattle.model.specs.Sequences.{Call, World, world, Outcome, perform}
 use Rattle.model.proofs.Tests.{told, tells-true, tells-and}

@@ -8,7 +8,8 @@ use mathlib.Core.Bool.{Bool, true, false, _&&_}
 use mathlib.Core.List.{List, [], _∷_}
 use lib.ListN.{length, getD}
 use lib.Dec.{leb, eqb}
-use Rattle.little_endian.specs.Words.{decode, encode, Decoded}
+use Rattle.little_endian.specs.Words.{decode, encode}
+use Rattle.little_endian.specs.Reading.{Decoded}
 use Rattle.model.specs.declared.State.{State}
 use Rattle.model.proofs.Tests.{Tells, told, tested, tested-not, tells-true, tells-same, tells-and, tells-le, tells-eq}
 use Rattle.lent_bytes.specs.Exports.{flag, stateNumbers, results, stateBytes, answerBytes, mostBucketBytes, mostEntryBytes, wholeUpTo, lengthsFit, flagsFit, cleared}

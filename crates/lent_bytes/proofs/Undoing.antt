@@ -8,7 +8,8 @@ use mathlib.Core.Bool.{Bool, true, false}
 use mathlib.Core.List.{List, [], _∷_}
 use lib.ListN.{length, getD}
 use lib.Dec.{leb, eqb}
-use Rattle.little_endian.specs.Words.{encode, Decoded}
+use Rattle.little_endian.specs.Words.{encode}
+use Rattle.little_endian.specs.Reading.{Decoded}
 use Rattle.little_endian.proofs.Laws.{encode-length}
 use Rattle.model.specs.declared.State.{State}
 use Rattle.model.proofs.Tests.{Tells, told, tells-true, tells-and, tells-le}

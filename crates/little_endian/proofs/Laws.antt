@@ -10,7 +10,8 @@ use mir.Syntax.{w8}
 use mir.Val.{Fits}
 use lib.ListN.{length, getD, set, take, drop, length-set, drop-of-length-le}
 use lib.Seq.{drop-cons, take-suc-set, take-all, append-snoc, length-take-le}
-use Rattle.little_endian.specs.Words.{word, decode, encode, wordAt, putWord, Decoded, Fitting}
+use Rattle.little_endian.specs.Words.{word, decode, encode}
+use Rattle.little_endian.specs.Reading.{wordAt, putWord, Decoded, Fitting}
 
 -- The lengths
 

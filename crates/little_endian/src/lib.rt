@@ -2,7 +2,8 @@
 ghost use mathlib.Core.Path.{_≡_};
 ghost use Prim.Native.Nat.{_+_, _*_, _≤_};
 ghost use lib.ListN.{length};
-ghost use Rattle.little_endian.specs.Words.{encode, word, wordAt, putWord, Decoded, Fitting};
+ghost use Rattle.little_endian.specs.Words.{encode, word};
+ghost use Rattle.little_endian.specs.Reading.{wordAt, putWord, Decoded, Fitting};
 
 // The number of four bytes.
 fn word_of(a: u8, b: u8, c: u8, d: u8) -> u32

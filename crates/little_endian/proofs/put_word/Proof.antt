@@ -2,7 +2,7 @@
 use native.Mathlib.Omega.{arith}
 use lib.ListN.{length-set}
 use borrow.Author.Needs.{needs}
-use Rattle.little_endian.specs.Words.{putWord}
+use Rattle.little_endian.specs.Reading.{putWord}
 use Rattle.little_endian.proofs.put_word.Statement.{statement}
 use Rattle.little_endian.proofs.put_word.Tie as tie
 

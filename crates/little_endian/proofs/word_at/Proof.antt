@@ -1,6 +1,6 @@
 -- `little_endian::word_at` meets its contract. Assumes nothing.
 use borrow.Author.Needs.{needs}
-use Rattle.little_endian.specs.Words.{wordAt}
+use Rattle.little_endian.specs.Reading.{wordAt}
 use Rattle.little_endian.proofs.word_at.Statement.{statement}
 use Rattle.little_endian.proofs.word_at.Tie as tie
 

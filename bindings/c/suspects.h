@@ -132,7 +132,7 @@
  * by the keys held only where chains are long: lend no more than the capacity needs.
  *
  * Measured by cost.c on one machine, the least of three runs: with buffers, and a list, for 4,096 cells a suspects_find
- * took 4.6 microseconds, a suspects_update or a suspects_add 5.7, and a suspects_scan or a suspects_iterate 6.8; with
+ * took 4.6 microseconds, a suspects_update or a suspects_add 5.7, and a suspects_scan or a suspects_iterate 6.9; with
  * those for 16 cells 1.9, and 2.6 with a list.
  *
  * A call needs a stack of its own for these copies. Measured by cost.c, 115,520 bytes for suspects_scan and

@@ -36,6 +36,12 @@
 //! thread that makes calls needs the stack for that; what Rust gives a thread by itself is enough.
 //! The head of `bindings/c/suspects.h` has the figures of both.
 //!
+//! # What is proved
+//!
+//! Each export is proved, for any bytes, to answer and to leave the memory as the call below it does
+//! on the same numbers. What walks and passes hand out over many calls is proved of those calls. It
+//! is not stated once more of sequences of exports: `docs/PROMISES.md`, "Calls over bytes".
+//!
 //! # To build it
 //!
 //! The archive of the exports comes first: `rt staticlib exports` in the repository's folder. The

@@ -145,8 +145,9 @@ impl PlainPass {
 ///
 /// Each [`next`](CarefulPass::next) is one pass call: it hands out the cells of the next filled
 /// bucket, with their fail counts. Between two calls cells may be added and deleted, and a move may
-/// begin, but it stands still. It is proved that every cell that is held all the time comes exactly
-/// once, and that none comes twice unless it was deleted and added again.
+/// begin, but it stands still. It is proved of the calls below the exports that every cell that is
+/// held all the time comes exactly once, and that none comes twice unless it was deleted and added
+/// again.
 ///
 /// ```
 /// use suspects::{CarefulPass, Error, Store};

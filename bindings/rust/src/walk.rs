@@ -10,7 +10,8 @@ use crate::{Error, Store, Suspect};
 ///
 /// Each [`next`](Walk::next) is one walk call: it hands out the cells of a few buckets, with their
 /// fail counts. The walk borrows nothing, and the store keeps nothing about it. Cells may be added
-/// and deleted meanwhile, and the table may grow, move and shrink. It is proved that
+/// and deleted meanwhile, and the table may grow, move and shrink. It is proved of the calls below
+/// the exports that
 ///
 /// - every cell that is held at each call of a walk comes, by the time that the walk has ended;
 /// - none comes twice as long as the table does not shrink; more exactly, as long as the smaller

@@ -22,14 +22,17 @@ use Rattle.memory.specs.Lent.{soundLent}
 use Rattle.memory.proofs.Orientation.{writing-sound}
 use Rattle.search.specs.Tables.{lookupLent, Readable}
 use Rattle.dict_rehash.specs.declared.rehash.Progress.{Progress}
-use Rattle.dict_rehash.specs.Progress.{stepAnswer}
+use Rattle.dict_rehash.specs.Progress.{stepAnswer, stepRoom}
 use Rattle.dict_rehash.proofs.Due.{due-rehashing, due-unpaused, due-stepped}
+use Rattle.dict_rehash.proofs.Stepping.{moved-old, moved-new}
 use Rattle.after_step.specs.declared.presence.Presence.{Presence}
 use Rattle.after_step.specs.Presence.{presence, presenceAfter, presenceThen, entriesAfter}
+use Rattle.after_step.specs.declared.course.Course.{Course}
 use Rattle.after_step.specs.Planned.{Planned}
 use Rattle.after_step.proofs.StepFirst.{is-absent, StepTaken, then-damaged, step-taken, first-done, first-refused}
 use Rattle.add_stepping.specs.Counts.{oneMore}
-use Rattle.add_stepping.specs.Moving.{firstOf, secondOf, addMoving, movedState, Plan, Room, Takes}
+use Rattle.add_stepping.specs.declared.moving.Taken.{Taken}
+use Rattle.add_stepping.specs.Moving.{firstOf, secondOf, addMoving, movedState, takenAnswer, takenRoom, Comes, Plan, Room, Takes}
 use Rattle.add_stepping.proofs.Taking.{taken}
 use Rattle.add_stepping.proofs.Answering.{addAnswer, alone-answer, told-damaged, told-held, absent-full, absent-bad, none-free, bad-link, good-link, pushedLent, alone-pushes}
 
@@ -112,35 +115,39 @@ module _ (s : State) (current other entries : List ℕ) (key value : ℕ) where
       → (v ≡ Presence.Damaged → error ≡ Error.Damaged)
       → ((t : State) (z : List ℕ) (l : Lookup) → Follows s t → z ≡ entriesAfter (stepTaken s current other entries) → v ≡ presence l
       → addAnswer t z l ≡ AddAnswer.Refused error)
-      → After.after (AddAnswer.Refused error) current other entries ≡ addMoving s current other entries key value
-  unfolding addMoving addAfterStep isAdded presenceThen
+      → Comes s current other entries key value (Taken.Refused error) current other entries
+  unfolding takenAnswer takenRoom addMoving addAfterStep isAdded presenceThen
   refuses-with h e v k error damaged each =
-      lent-back (s .«second_is_current») (AddAnswer.Refused error) current other entries
-      ∙ ap (back (s .«second_is_current»))
-      (first-refused AddAnswer.Refused isAdded (λ t x y z. addAlone t x y z key value) s (first s current other entries)
-      (second s current other entries) entries e key v (AddAnswer.Refused error) (lent s current other entries h)
-      (k ∙ ap (presenceAfter key) (lent-step s current other entries h e)) (λ d. ap AddAnswer.Refused (damaged d)) refl
-      (λ t x y z p o q w.
-      alone-answer t x y z key value p ∙ each t z (lookupLent t x y z key) o (q ∙ lent-entries s current other entries h e) w))
+      record {
+        same =
+            lent-back (s .«second_is_current») (AddAnswer.Refused error) current other entries
+            ∙ ap (back (s .«second_is_current»))
+            (first-refused AddAnswer.Refused isAdded (λ t x y z. addAlone t x y z key value) s (first s current other entries)
+            (second s current other entries) entries e key v (AddAnswer.Refused error) (lent s current other entries h)
+            (k ∙ ap (presenceAfter key) (lent-step s current other entries h e)) (λ d. ap AddAnswer.Refused (damaged d)) refl
+            (λ t x y z p o q w.
+            alone-answer t x y z key value p ∙ each t z (lookupLent t x y z key) o (q ∙ lent-entries s current other entries h e) w));
+        room = tt;
+      }
 
   module _ (h : Sound s (length current) (length other) (length entries)) (e : stepDue s ≡ true) (v : Presence)
       (k : v ≡ presenceThen key (s .«second_is_current») (stepTaken s current other entries)) where
     pub add-damaged : v ≡ Presence.Damaged
-        → After.after (AddAnswer.Refused Error.Damaged) current other entries ≡ addMoving s current other entries key value
+        → Comes s current other entries key value (Taken.Refused Error.Damaged) current other entries
     add-damaged d = refuses-with h e v k Error.Damaged (λ f. refl) (λ t z l o q w. told-damaged t z l (sym d ∙ w))
 
     pub add-present : v ≡ Presence.Held
-        → After.after (AddAnswer.Refused Error.Present) current other entries ≡ addMoving s current other entries key value
+        → Comes s current other entries key value (Taken.Refused Error.Present) current other entries
     add-present d =
         refuses-with h e v k Error.Present (λ f. let z : _≡_ {A = ℕ} 0 1 = cc in absurd (omega arith))
         (λ t z l o q w. told-held t z l (sym d ∙ w))
 
-  module _ (k : Plan s current other entries key) where
+  module _ (course : Course) (k : Plan s current other entries key course) where
     -- for what the step keeps, or for the link that it leaves
     refuses : (error : Error)
         → ((t : State) → Follows s t
         → addAnswer t (entriesAfter (stepTaken s current other entries)) Lookup.Absent ≡ AddAnswer.Refused error)
-        → After.after (AddAnswer.Refused error) current other entries ≡ addMoving s current other entries key value
+        → Comes s current other entries key value (Taken.Refused error) current other entries
     refuses error each =
         refuses-with (k .sound) (k .due) Presence.Absent (k .absent) error
         (λ f. let z : _≡_ {A = ℕ} 0 1 = cc in absurd (omega arith))
@@ -148,28 +155,22 @@ module _ (s : State) (current other entries : List ℕ) (key value : ℕ) where
         ap (addAnswer t z) (is-absent l w) ∙ ap (λ (y : List ℕ). addAnswer t y Lookup.Absent) q ∙ each t o)
 
     pub add-full : s .«old_used» + s .«new_used» ≡ s .capacity
-        → After.after (AddAnswer.Refused Error.Full) current other entries ≡ addMoving s current other entries key value
+        → Comes s current other entries key value (Taken.Refused Error.Full) current other entries
     unfolding keysHeld
     add-full e = refuses Error.Full (λ t o. absent-full t _ (o .keys ∙ e ∙ sym (o .capacity)))
 
     pub add-none-free : (s .«old_used» + s .«new_used» ≡ s .capacity → ⊥) → s .«free_head» ≡ 0
-        → After.after (AddAnswer.Refused Error.Damaged) current other entries ≡ addMoving s current other entries key value
+        → Comes s current other entries key value (Taken.Refused Error.Damaged) current other entries
     add-none-free room e = refuses Error.Damaged (λ t o. absent-bad t _ (room-then s room t o) (none-free t _ (o .free ∙ e)))
 
-  pub add-bad-link : Room s current other entries key → (link : ℕ)
+  pub add-bad-link : (course : Course) → Room s current other entries key course → (link : ℕ)
       → link ≡ linkOf (entriesAfter (stepTaken s current other entries)) (s .«free_head») → s .capacity < link
-      → After.after (AddAnswer.Refused Error.Damaged) current other entries ≡ addMoving s current other entries key value
-  add-bad-link k link e l =
-      refuses (k .plan) Error.Damaged
+      → Comes s current other entries key value (Taken.Refused Error.Damaged) current other entries
+  add-bad-link course k link e l =
+      refuses course (k .plan) Error.Damaged
       (λ t o. absent-bad t _ (room-then s (k .not-full) t o) (bad-link t _ (rw (o .capacity, o .free, ← e) l)))
 
 -- ---- the entry in the other buffer
-
--- (what was told stands first: a search that knows it compares less)
-pub plan-of : (s : State) (current other entries : List ℕ) (key : ℕ) (v : Presence) → v ≡ Presence.Absent
-    → v ≡ presenceThen key (s .«second_is_current») (stepTaken s current other entries) → stepDue s ≡ true
-    → Sound s (length current) (length other) (length entries) → Plan s current other entries key
-plan-of s current other entries key v d k e h = record { sound = h; due = e; absent = sym d ∙ k }
 
 -- By the flag before the step and the new table's size: the rehash goes on, or it is over and the flag is turned.
 data Targets (f : Bool) (size : ℕ) (t : State) : Type 0 where
@@ -247,10 +248,6 @@ state-then s count next link t u te ue = ue ∙ ap (λ (v : State). oneMore v (t
 pub counts-sound : (s : State) (current other entries : ℕ) → Sound s current other entries → Counted s
 counts-sound s current other entries h = record { held-fit = h .used-fits; capacity-limit = h .capacity-limit }
 
-pub counts-before : (s : State) (current other entries : List ℕ) (key link : ℕ) → Takes s current other entries key link → Counted s
-counts-before s current other entries key link k =
-    counts-sound s (length current) (length other) (length entries) (k .room .plan .sound)
-
 pub counts-then : (s : State) (count next : ℕ) (t : State) → Counted s → count ≤ s .«old_used»
     → t ≡ settled (advanced s count next) → Counted t
 unfolding settled finished advanced retabled stateOf oldNew
@@ -260,9 +257,10 @@ counts-then s count next t h l e = subst Counted (sym e) (by (eqb (advanced s co
     by true = record { held-fit = omega (arith, h .held-fit); capacity-limit = h .capacity-limit }
     by false = record { held-fit = omega (arith, h .held-fit); capacity-limit = h .capacity-limit }
 
-module _ (s : State) (current other entries : List ℕ) (key value link : ℕ) (k : Takes s current other entries key link) (r : Progress)
-    (c o z : List ℕ) (taken-step : After.after (stepAnswer s r) c o z ≡ stepTaken s current other entries) where
-  abbrev plan : Plan s current other entries key
+module _ (s : State) (current other entries : List ℕ) (key value link : ℕ) (course : Course)
+    (k : Takes s current other entries key course link) (r : Progress) (c o z : List ℕ)
+    (taken-step : After.after (stepAnswer s r) c o z ≡ stepTaken s current other entries) where
+  abbrev plan : Plan s current other entries key course
   plan = k .room .plan
 
   -- the same on the lent buffers
@@ -289,15 +287,14 @@ module _ (s : State) (current other entries : List ℕ) (key value link : ℕ) (
       ∙ lent-step s current other entries (plan .sound) (plan .due)
 
   -- no step refuses a key that was told to be absent
-  pub add-stopped : (error : Error) (a : After AddAnswer) → r ≡ Progress.Refused error
-      → a ≡ addMoving s current other entries key value
+  pub add-stopped : (error : Error) → r ≡ Progress.Refused error → ⊥
   unfolding stepAnswer
-  add-stopped error a d =
+  add-stopped error d =
       let none =
       then-damaged s (first s current other entries) (second s current other entries) entries key Presence.Absent planned
       (stepAnswer s r) x y z lent-taken error (ap (stepAnswer s) d) in
       let z : _≡_ {A = ℕ} 0 1 = cc in
-      absurd (omega arith)
+      omega arith
 
   module _ (count next : ℕ) (d : r ≡ Progress.Moved count next) where
     pub other-readable : Readable (s .«new_size») (length o) (s .«free_head») (length z)
@@ -341,19 +338,23 @@ module _ (s : State) (current other entries : List ℕ) (key value link : ℕ) (
         alone-pushes t x y z key value (world .sound) (is-absent (lookupLent t x y z key) (world .told))
         (room-then s (k .room .not-full) t (world .follows)) takes
 
-    pub add-taken : (u : State) (b w : List ℕ) → u ≡ movedState s count next link
-        → b ≡ set o (bucketOf key (s .«new_size»)) (s .«free_head»)
+    pub add-taken : stepRoom s r → (b w : List ℕ) → b ≡ set o (bucketOf key (s .«new_size»)) (s .«free_head»)
         → w ≡ setEntry z (s .«free_head») (getD o (bucketOf key (s .«new_size»)) 0) key value
-        → After.after (AddAnswer.Added u) c b w ≡ addMoving s current other entries key value
-    unfolding addMoving movedState addAfterStep isAdded
-    add-taken u b w ue be we =
+        → Comes s current other entries key value (Taken.Stepped count next link) c b w
+    unfolding takenAnswer takenRoom addMoving movedState addAfterStep isAdded
+    add-taken fits b w be we =
         let f = s .«second_is_current» in
-        let here : After.after (AddAnswer.Added u) c b w ≡ back f (pushedLent t x y z key value) =
-        rw (ue, be, we)
+        let a = AddAnswer.Added (movedState s count next link) in
+        let here : After.after a c b w ≡ back f (pushedLent t x y z key value) =
+        rw (be, we)
         (pushed-with t c o z key value f (s .«new_size») (s .«free_head») link (settled-targets s count next) (sym (world .follows .free)) link-then) in
-        let there = sym (lent-of f (AddAnswer.Added u) c b w) ∙ ap (back f) here ∙ twice-back f (pushedLent t x y z key value) in
-        lent-back f (AddAnswer.Added u) c b w
-        ∙ ap (back f)
-        (first-done AddAnswer.Refused isAdded (λ t x y z. addAlone t x y z key value) s (first s current other entries)
-        (second s current other entries) entries (plan .due) count t x y z (AddAnswer.Added u) (firstOf f c b) (secondOf f c b) w
-        (world .step) (there ∙ alone) refl)
+        let there = sym (lent-of f a c b w) ∙ ap (back f) here ∙ twice-back f (pushedLent t x y z key value) in
+        record {
+          same =
+              lent-back f a c b w
+              ∙ ap (back f)
+              (first-done AddAnswer.Refused isAdded (λ t x y z. addAlone t x y z key value) s (first s current other entries)
+              (second s current other entries) entries (plan .due) count t x y z a (firstOf f c b) (secondOf f c b) w (world .step)
+              (there ∙ alone) refl);
+          room = (moved-old s r count next d fits, moved-new s r count next d fits);
+        }

@@ -1,118 +1,287 @@
-// An add that takes a step first (SPECIFICATION, "The step that comes first"): all that can refuse is asked before the step.
-use crate::entry::one_more;
+// An add that takes a step first (SPECIFICATION, "The step that comes first"): all that can refuse is asked before the step, from
+// one look ahead and one pass over the chain that will move, and the step goes by what was told then. Where a chain moves, and
+// where none does, there are functions apart, so that no tag of the way is kept and tested again.
 use crate::entry::push_entry;
-use after_step::link::link_after_step;
+use after_step::course::ChainSight;
+use after_step::course::foresee_chain;
+use after_step::course::link_beside;
 use after_step::presence::Presence;
-use after_step::presence::presence_in;
+use after_step::presence::presence_of;
 use dict_rehash::rehash::Progress;
-use dict_rehash::rehash::state_after;
-use dict_rehash::rehash::take_step;
-use model::AddAnswer;
+use dict_rehash::rehash::look_ahead;
+use dict_rehash::rehash::move_counted;
+use memory::entry::link_of;
+use model::Ahead;
 use model::Error;
 use model::State;
+use search::found::entry_in;
+use search::found::entry_in_both;
 ghost use mathlib.Core.Path.{_≡_};
 ghost use mathlib.Core.Bool.{true};
-ghost use Prim.Native.Nat.{_≤_, _<_};
-ghost use lib.ListN.{length, getD, set};
-ghost use Rattle.model.specs.Keys.{bucketOf};
-ghost use Rattle.model.specs.Memory.{setEntry};
+ghost use Prim.Native.Nat.{_<_};
+ghost use lib.ListN.{length};
 ghost use Rattle.model.specs.Calls as calls;
-ghost use Rattle.model.specs.Calls.After.{after};
 ghost use Rattle.model.proofs.Soundness.{Sound, Counted};
-ghost use Rattle.search.specs.Tables.{Readable};
-ghost use Rattle.add_stepping.specs.Moving.{addMoving, movedState, Plan, Room, Takes};
+ghost use Rattle.after_step.specs.declared.course.Course.the-variants as course;
+ghost use Rattle.after_step.specs.Course.{sight, Foreseen};
+ghost use Rattle.add_stepping.specs.Moving.{verdictOf, Comes, Room, Takes, FilledFirst};
 
-// The first free entry into what a step leaves that moved so many keys: into the new table, which lies in the other buffer
-// whether the rehash goes on or is over.
-fn push_moved(
-    other: &mut [u32],
-    entries: &mut [u32],
-    s: State,
-    count: u32,
-    next: u32,
-    key: u32,
-    value: u32,
-    link: u32,
-) -> State
-    requires { ⌜ Readable (s .«new_size») (length (now other)) (s .«free_head») (length (now entries)) ⌝ }
-    requires { ⌜ (0 < s .«free_head») × (count ≤ s .«old_used») ⌝ }
-    requires { ⌜ Counted s ⌝ }
-    ensures { λ r. ⌜ r ≡ movedState s count next link ⌝ }
-    ensures { λ _. ⌜ now (other .exit) ≡ set (now (other .entry)) (bucketOf key (s .«new_size»)) (s .«free_head») ⌝ }
-    ensures { λ _. ⌜ now (entries .exit) ≡ setEntry (now (entries .entry)) (s .«free_head»)
-        (getD (now (other .entry)) (bucketOf key (s .«new_size»)) 0) key value ⌝ }
-{
-    push_entry(other, entries, s.new_size, s.free_head, key, value);
-    one_more(state_after(s, count, next), link)
+// What happened to the buffers, in numbers: a state that is handed up costs more than all that is read of the tables. The
+// caller has the state before, and makes the answer.
+pub enum Taken {
+    Refused(Error),
+    // The first free entry is taken, and this is the free list's next one.
+    Pushed(u32),
+    // So it is, behind a step that moved so many keys; that bucket is the next one.
+    Stepped { count: u32, next: u32, free: u32 },
 }
 
-// The step for real, and the entry. What was told says that no test of either fails.
-fn step_and_push(
-    current: &mut [u32],
-    other: &mut [u32],
-    entries: &mut [u32],
-    s: State,
-    key: u32,
-    value: u32,
-    link: u32,
-) -> AddAnswer
-    requires { ⌜ Takes s (now current) (now other) (now entries) key link ⌝ }
-    ensures { λ r. ⌜ after r (now (current .exit)) (now (other .exit)) (now (entries .exit))
-        ≡ addMoving s (now (current .entry)) (now (other .entry)) (now (entries .entry)) key value ⌝ }
+// Whether the first free entry may be taken.
+enum Verdict {
+    Refused(Error),
+    Room,
+}
+
+// By what a lookup answers once the step is taken, in the order of the answers. The step keeps the keys held, the capacity and
+// the free head.
+fn verdict_of(s: State, presence: Presence) -> Verdict
+    requires { ⌜ Counted s ⌝ }
+    ensures { λ r. ⌜ r ≡ verdictOf s presence ⌝ }
 {
-    let progress = take_step(current, other, entries, s);
-    match progress {
-        Progress::Refused(e) => AddAnswer::Refused(e),
-        Progress::Moved(count, next) => {
-            AddAnswer::Added(push_moved(other, entries, s, count, next, key, value, link))
+    match presence {
+        Presence::Damaged => Verdict::Refused(Error::Damaged),
+        Presence::Held => Verdict::Refused(Error::Present),
+        Presence::Absent => {
+            if s.old_used + s.new_used == s.capacity {
+                Verdict::Refused(Error::Full)
+            } else if s.free_head == 0 {
+                Verdict::Refused(Error::Damaged)
+            } else {
+                Verdict::Room
+            }
         }
     }
 }
 
-// There is room: the link of the first free entry decides. In damaged memory the step may change it.
-fn take_free(
-    current: &mut [u32],
+// No chain moves: the link of the first free entry decides, and the entry goes into the new table, which lies in the other
+// buffer whether the rehash goes on or is over. (The current buffer is there for the contracts to speak of.)
+fn push_still(
+    current: &[u32],
     other: &mut [u32],
     entries: &mut [u32],
     s: State,
     key: u32,
     value: u32,
-) -> AddAnswer
-    requires { ⌜ Room s (now current) (now other) (now entries) key ⌝ }
-    ensures { λ r. ⌜ after r (now (current .exit)) (now (other .exit)) (now (entries .exit))
-        ≡ addMoving s (now (current .entry)) (now (other .entry)) (now (entries .entry)) key value ⌝ }
+    next: u32,
+) -> Taken
+    requires { ⌜ Room s (now current) (now other) (now entries) key (course.Still next) ⌝ }
+    ensures { λ r. ⌜ Comes s (now (current .entry)) (now (other .entry)) (now (entries .entry)) key value r
+        (now (current .entry)) (now (other .exit)) (now (entries .exit)) ⌝ }
 {
-    let link = link_after_step(current, other, entries, s, s.free_head);
+    let free = s.free_head;
+    let link = link_of(entries, free);
     if link <= s.capacity {
-        step_and_push(current, other, entries, s, key, value, link)
+        push_entry(other, entries, s.new_size, free, key, value);
+        Taken::Stepped {
+            count: 0,
+            next,
+            free: link,
+        }
     } else {
-        AddAnswer::Refused(Error::Damaged)
+        Taken::Refused(Error::Damaged)
     }
 }
 
-// The key is on no chain once the step is taken. The step keeps the keys held, the capacity and the free head.
-fn add_absent(
+fn add_still(
+    current: &[u32],
+    other: &mut [u32],
+    entries: &mut [u32],
+    s: State,
+    key: u32,
+    value: u32,
+    next: u32,
+    presence: Presence,
+) -> Taken
+    requires { ⌜ Sound s (length (now current)) (length (now other)) (length (now entries)) ⌝ }
+    requires { ⌜ calls.stepDue s ≡ true ⌝ }
+    requires { ⌜ Foreseen s (now current) (now other) (now entries) key (s .«free_head»)
+        (calls.stepTaken s (now current) (now other) (now entries)) (sight presence (course.Still next)) ⌝ }
+    ensures { λ r. ⌜ Comes s (now (current .entry)) (now (other .entry)) (now (entries .entry)) key value r
+        (now (current .entry)) (now (other .exit)) (now (entries .exit)) ⌝ }
+{
+    let verdict = verdict_of(s, presence);
+    match verdict {
+        Verdict::Refused(e) => Taken::Refused(e),
+        Verdict::Room => push_still(current, other, entries, s, key, value, next),
+    }
+}
+
+// The chain of bucket b moves for real, and the first free entry goes into what that leaves. What was told says that no test of
+// either fails.
+fn move_and_push(
     current: &mut [u32],
     other: &mut [u32],
     entries: &mut [u32],
     s: State,
     key: u32,
     value: u32,
-) -> AddAnswer
-    requires { ⌜ Plan s (now current) (now other) (now entries) key ⌝ }
-    ensures { λ r. ⌜ after r (now (current .exit)) (now (other .exit)) (now (entries .exit))
-        ≡ addMoving s (now (current .entry)) (now (other .entry)) (now (entries .entry)) key value ⌝ }
+    b: u32,
+    count: u32,
+    meets: bool,
+    link: u32,
+) -> Taken
+    requires { ⌜ Takes s (now current) (now other) (now entries) key (course.Moving b count meets) link ⌝ }
+    ensures { λ r. ⌜ Comes s (now (current .entry)) (now (other .entry)) (now (entries .entry)) key value r
+        (now (current .exit)) (now (other .exit)) (now (entries .exit)) ⌝ }
 {
-    if s.old_used + s.new_used == s.capacity {
-        return AddAnswer::Refused(Error::Full);
+    let progress = move_counted(current, other, entries, s, b, count);
+    match progress {
+        Progress::Refused(e) => Taken::Refused(e),
+        Progress::Moved(moved, next) => {
+            push_entry(other, entries, s.new_size, s.free_head, key, value);
+            Taken::Stepped {
+                count: moved,
+                next,
+                free: link,
+            }
+        }
     }
-    if s.free_head == 0 {
-        return AddAnswer::Refused(Error::Damaged);
-    }
-    take_free(current, other, entries, s, key, value)
 }
 
-// A step comes first, and a refusal leaves all as it was: what is told of the memory after the step decides.
+// That chain moves, and there is room: the link of the first free entry decides. In damaged memory the move may change it.
+fn push_chain(
+    current: &mut [u32],
+    other: &mut [u32],
+    entries: &mut [u32],
+    s: State,
+    key: u32,
+    value: u32,
+    b: u32,
+    count: u32,
+    meets: bool,
+) -> Taken
+    requires { ⌜ Room s (now current) (now other) (now entries) key (course.Moving b count meets) ⌝ }
+    ensures { λ r. ⌜ Comes s (now (current .entry)) (now (other .entry)) (now (entries .entry)) key value r
+        (now (current .exit)) (now (other .exit)) (now (entries .exit)) ⌝ }
+{
+    let link = link_beside(current, other, entries, s, b, count, meets, s.free_head);
+    if link <= s.capacity {
+        move_and_push(
+            current,
+            other,
+            entries,
+            s,
+            key,
+            value,
+            b,
+            count,
+            meets,
+            link,
+        )
+    } else {
+        Taken::Refused(Error::Damaged)
+    }
+}
+
+fn add_chain(
+    current: &mut [u32],
+    other: &mut [u32],
+    entries: &mut [u32],
+    s: State,
+    key: u32,
+    value: u32,
+    b: u32,
+    count: u32,
+    meets: bool,
+    presence: Presence,
+) -> Taken
+    requires { ⌜ Sound s (length (now current)) (length (now other)) (length (now entries)) ⌝ }
+    requires { ⌜ calls.stepDue s ≡ true ⌝ }
+    requires { ⌜ Foreseen s (now current) (now other) (now entries) key (s .«free_head»)
+        (calls.stepTaken s (now current) (now other) (now entries)) (sight presence (course.Moving b count meets)) ⌝ }
+    ensures { λ r. ⌜ Comes s (now (current .entry)) (now (other .entry)) (now (entries .entry)) key value r
+        (now (current .exit)) (now (other .exit)) (now (entries .exit)) ⌝ }
+{
+    let verdict = verdict_of(s, presence);
+    match verdict {
+        Verdict::Refused(error) => Taken::Refused(error),
+        Verdict::Room => push_chain(current, other, entries, s, key, value, b, count, meets),
+    }
+}
+
+// Bucket b of the old table is the next one that is filled.
+fn add_filled(
+    current: &mut [u32],
+    other: &mut [u32],
+    entries: &mut [u32],
+    s: State,
+    key: u32,
+    value: u32,
+    b: u32,
+) -> Taken
+    requires { ⌜ FilledFirst s (now current) (now other) (now entries) b ⌝ }
+    ensures { λ r. ⌜ Comes s (now (current .entry)) (now (other .entry)) (now (entries .entry)) key value r
+        (now (current .exit)) (now (other .exit)) (now (entries .exit)) ⌝ }
+{
+    let chain = foresee_chain(current, other, entries, s, b, key, s.free_head);
+    match chain {
+        ChainSight::Unsound => Taken::Refused(Error::Damaged),
+        ChainSight::Sound {
+            presence,
+            count,
+            meets,
+        } => add_chain(
+            current,
+            other,
+            entries,
+            s,
+            key,
+            value,
+            b,
+            count,
+            meets,
+            presence,
+        ),
+    }
+}
+
+// The old table holds keys: what comes from its next bucket on decides, as in the step.
+fn add_ahead(
+    current: &mut [u32],
+    other: &mut [u32],
+    entries: &mut [u32],
+    s: State,
+    key: u32,
+    value: u32,
+) -> Taken
+    requires { ⌜ Sound s (length (now current)) (length (now other)) (length (now entries)) ⌝ }
+    requires { ⌜ calls.stepDue s ≡ true ⌝ }
+    requires { ⌜ 0 < s .«old_used» ⌝ }
+    ensures { λ r. ⌜ Comes s (now (current .entry)) (now (other .entry)) (now (entries .entry)) key value r
+        (now (current .exit)) (now (other .exit)) (now (entries .exit)) ⌝ }
+{
+    let ahead = look_ahead(current, s.rehash_index, s.old_size);
+    match ahead {
+        Ahead::Filled(b) => add_filled(current, other, entries, s, key, value, b),
+        Ahead::Empty(b) => {
+            let presence = presence_of(entry_in_both(
+                current,
+                other,
+                entries,
+                s.capacity,
+                s.old_used,
+                s.new_used,
+                s.old_size,
+                s.new_size,
+                key,
+            ));
+            add_still(current, other, entries, s, key, value, b, presence)
+        }
+        Ahead::End => Taken::Refused(Error::Damaged),
+    }
+}
+
+// A step comes first, and a refusal leaves all as it was. With no keys in the old table the step only ends the rehash.
 pub fn add_moving(
     current: &mut [u32],
     other: &mut [u32],
@@ -120,16 +289,32 @@ pub fn add_moving(
     s: State,
     key: u32,
     value: u32,
-) -> AddAnswer
+) -> Taken
     requires { ⌜ Sound s (length (now current)) (length (now other)) (length (now entries)) ⌝ }
     requires { ⌜ calls.stepDue s ≡ true ⌝ }
-    ensures { λ r. ⌜ after r (now (current .exit)) (now (other .exit)) (now (entries .exit))
-        ≡ addMoving s (now (current .entry)) (now (other .entry)) (now (entries .entry)) key value ⌝ }
+    ensures { λ r. ⌜ Comes s (now (current .entry)) (now (other .entry)) (now (entries .entry)) key value r
+        (now (current .exit)) (now (other .exit)) (now (entries .exit)) ⌝ }
 {
-    let presence = presence_in(current, other, entries, s, key);
-    match presence {
-        Presence::Damaged => AddAnswer::Refused(Error::Damaged),
-        Presence::Held => AddAnswer::Refused(Error::Present),
-        Presence::Absent => add_absent(current, other, entries, s, key, value),
+    if s.old_used == 0 {
+        let presence = presence_of(entry_in(
+            entries,
+            s.capacity,
+            s.new_used,
+            other,
+            s.new_size,
+            key,
+        ));
+        add_still(
+            current,
+            other,
+            entries,
+            s,
+            key,
+            value,
+            s.rehash_index,
+            presence,
+        )
+    } else {
+        add_ahead(current, other, entries, s, key, value)
     }
 }

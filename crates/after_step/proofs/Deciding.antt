@@ -35,7 +35,7 @@ use Rattle.dict_rehash.proofs.Due.{due-stepped}
 use Rattle.after_step.specs.declared.presence.Presence.{Presence}
 use Rattle.after_step.specs.declared.presence.Survey.{Survey}
 use Rattle.after_step.specs.Presence.{presence, presenceAfter, presenceThen}
-use Rattle.after_step.specs.Told.{ofBucket, howMany, has, surveyed, foundPresence, heldIf, either, newThen, oldThen, tablesThen, Moves}
+use Rattle.after_step.specs.Told.{ofBucket, howMany, has, among, surveyed, foundPresence, heldIf, either, newThen, oldThen, tablesThen, Moves}
 use Rattle.after_step.proofs.Presences.{presence-found}
 use Rattle.after_step.proofs.PresenceAfter.{then-refused, then-still, then-ended, then-moved}
 use Rattle.after_step.proofs.Surveying.{howMany-fits, surveyed-none, surveyed-some}
@@ -43,7 +43,8 @@ use Rattle.after_step.proofs.Surveying.{howMany-fits, surveyed-none, su
 -- ---- in the new table
 
 module _ (entries : List ℕ) (capacity budget : ℕ) (buckets : List ℕ) (size key last : ℕ) (moves : Bool) (b : ℕ)
-    (at : b ≡ bucketOf key size) (r : Survey) (e : r ≡ surveyed entries size b key (bucketChain size entries capacity budget buckets b)) where
+    (at : b ≡ bucketOf key size) (r : Survey) (n : ℕ)
+    (e : r ≡ surveyed entries size b key n (bucketChain size entries capacity budget buckets b)) where
   abbrev meant : Presence
   meant = newThen entries key last moves (bucketChain size entries capacity budget buckets (bucketOf key size))
 
@@ -54,13 +55,13 @@ module _ (entries : List ℕ) (capacity budget : ℕ) (buckets : List ℕ) (size
   pub new-unsound : r ≡ Survey.Unsound
       → Presence.Damaged ≡ newThen entries key last moves (bucketChain size entries capacity budget buckets (bucketOf key size))
   unfolding newThen
-  new-unsound u = by-read none (surveyed-none r entries size b key _ e u)
+  new-unsound u = by-read none (surveyed-none r entries size b key n _ e u)
 
-  module _ (count end joining : ℕ) (held : Bool) (s : r ≡ Survey.Sound count end joining held) where
+  module _ (count end joining : ℕ) (held meets : Bool) (s : r ≡ Survey.Sound count end joining held meets) where
     ends : (t : Bool) → eqb end last ≡ t → cond t Presence.Damaged (heldIf (moves || held)) ≡ meant
     unfolding newThen
     ends t f =
-        let (ns, read, n, l, m, h) = surveyed-some r entries size b key _ e count end joining held s in
+        let (ns, read, c, l, m, h, t) = surveyed-some r entries size b key n _ e count end joining held meets s in
         (rw (← l, ← h, f) refl) ∙ by-read (some ns) read
 
     pub new-shared : end ≡ last
@@ -110,20 +111,24 @@ pub new-legal : (s : State) (current other entries : List ℕ) (b : ℕ) → Mov
     → legalSize (s .«new_size») ≡ true
 new-legal s current other entries b h = h .sound .rehashing (h .rehashing) .new-legal
 
-module _ (s : State) (current other entries : List ℕ) (b key c : ℕ) (r : Survey)
-    (e : r ≡ surveyed entries (s .«new_size») c key (oldChain s current entries b)) where
+module _ (s : State) (current other entries : List ℕ) (b key c n : ℕ) (r : Survey)
+    (e : r ≡ surveyed entries (s .«new_size») c key n (oldChain s current entries b)) where
   pub moving-unsound : r ≡ Survey.Unsound
       → Presence.Damaged
       ≡ presenceThen key (s .«second_is_current») (movedChain s current other entries b (oldChain s current entries b))
   unfolding movedChain
   moving-unsound u =
-      rw (surveyed-none r entries (s .«new_size») c key (oldChain s current entries b) e u)
+      rw (surveyed-none r entries (s .«new_size») c key n (oldChain s current entries b) e u)
       (sym (then-refused key current other entries (s .«second_is_current») Error.Damaged))
 
-  module _ (count last joining : ℕ) (held : Bool) (t : r ≡ Survey.Sound count last joining held) where
+  module _ (count last joining : ℕ) (held meets : Bool) (t : r ≡ Survey.Sound count last joining held meets) where
+    abbrev read-so : (ns : List ℕ) × (oldChain s current entries b ≡ some ns) × (count ≡ length ns) × (last ≡ lastOr 0 ns)
+        × (joining ≡ howMany (ofBucket (s .«new_size») c entries) ns) × (held ≡ has entries key ns) × (meets ≡ among n ns)
+    read-so = surveyed-some r entries (s .«new_size») c key n (oldChain s current entries b) e count last joining held meets t
+
     moving-fits : (count ≤ s .«old_used») × (joining ≤ count)
     moving-fits =
-        let (ns, read, n, l, m, h) = surveyed-some r entries (s .«new_size») c key (oldChain s current entries b) e count last joining held t in
+        let (ns, read, k, l, m, h, g) = read-so in
         let short = read-sound _ entries (s .capacity) (s .«old_used») (getD current b 0) ns read .1 in
         (omega arith, omega (arith, howMany-fits (ofBucket (s .«new_size») c entries) ns))
 
@@ -140,7 +145,7 @@ module _ (s : State) (current other entries : List ℕ) (b key c : ℕ) (r : Sur
         → x ≡ tablesThen s current other entries b key (s .«old_used» - count) (s .«new_used» + count - joining) last held
         → x ≡ presenceThen key (s .«second_is_current») (movedChain s current other entries b (oldChain s current entries b))
     moving-sound ce moves x xe =
-        let (ns, read, n, l, m, h) = surveyed-some r entries (s .«new_size») c key (oldChain s current entries b) e count last joining held t in
+        let (ns, read, k, l, m, h, g) = read-so in
         let fits = new-enough in
         let counts : s .«new_used» + count - joining + howMany (ofBucket (s .«new_size») (bucketOf key (s .«new_size»)) entries) ns
         ≡ s .«new_used» + length ns =
@@ -182,12 +187,6 @@ module _ (s : State) (key : ℕ) (current other entries : List ℕ) (r o : Ahead
   unfolding movedFrom
   ahead-end e = rw (← f, e) (sym (then-refused key current other entries (s .«second_is_current») Error.Damaged))
 
-  pub ahead-filled : (b : ℕ) → r ≡ Ahead.Filled b → (x : Presence)
-      → x ≡ presenceThen key (s .«second_is_current») (movedChain s current other entries b (oldChain s current entries b))
-      → x ≡ presenceThen key (s .«second_is_current») (movedFrom s current other entries o)
-  unfolding movedFrom chainAt headAt budgetAt belongs sizeOf usedOf bucketsOf
-  ahead-filled b e x h = rw (← f, e) h
-
   pub ahead-empty : (b : ℕ) → r ≡ Ahead.Empty b → 0 < s .«old_used» → (y : Found) (x : Presence)
       → y ≡ foundOf (both
       (searchedIn entries (s .capacity) (s .«old_used») current (s .«old_size») key Table.Old)
@@ -212,36 +211,3 @@ module _ (s : State) (key : ℕ) (current other entries : List ℕ) where
       presence-entry y entries (s .capacity) (s .«new_used») other (s .«new_size») key x g h Table.New
       ∙ sym (then-ended s key current other entries z (s .«rehash_index») Table.New)
       ∙ (rw (eq-eqb (s .«old_used») 0 z) refl)
-
-  pub step-ahead : (s .«old_used» ≡ 0 → ⊥) → (x : Presence)
-      → x ≡ presenceThen key (s .«second_is_current») (movedFrom s current other entries (aheadOf s current))
-      → x ≡ presenceThen key (s .«second_is_current») (stepTaken s current other entries)
-  unfolding stepTaken
-  step-ahead z x h = rw (ne-eqb (s .«old_used») 0 z) h
-
--- on the lent buffers, where a step is due
-
-module _ (s : State) (key : ℕ) (first second entries : List ℕ)
-    (h : soundLent (length first) (length second) (length entries) s ≡ true) (d : stepDue s ≡ true) where
-  abbrev step : List ℕ → List ℕ → After StepAnswer
-  step current other = stepped s current other entries (s .rehashing)
-
-  lent : (current other : List ℕ) → step current other ≡ oriented (s .«second_is_current») step first second → (x : Presence)
-      → x ≡ presenceThen key (s .«second_is_current») (stepTaken s current other entries)
-      → x ≡ presenceAfter key (rehashStep s first second entries)
-  unfolding presenceThen rehashStep
-  lent current other o x e =
-      e
-      ∙ ap (λ (a : After StepAnswer). presenceAfter key (back (s .«second_is_current») a)) (due-stepped s d current other entries ∙ o)
-      ∙ ap (presenceAfter key)
-      (writing-sound s first second entries true (sym h) (StepAnswer.Refused Error.BadState) step _ refl refl)
-
-  pub lent-first-step : s .«second_is_current» ≡ false → (x : Presence)
-      → x ≡ presenceThen key (s .«second_is_current») (stepTaken s first second entries)
-      → x ≡ presenceAfter key (rehashStep s first second entries)
-  lent-first-step f x e = lent first second (read-first _ step first second _ f refl) x e
-
-  pub lent-second-step : s .«second_is_current» ≡ true → (x : Presence)
-      → x ≡ presenceThen key (s .«second_is_current») (stepTaken s second first entries)
-      → x ≡ presenceAfter key (rehashStep s first second entries)
-  lent-second-step f x e = lent second first (read-second _ step first second _ f refl) x e

@@ -6,7 +6,7 @@ mod ChainsAfter
 mod Presences
 mod PresenceAfter
 mod Surveying
-mod Deciding
+pub mod Deciding
 mod LinkAfter
-mod LinkTold
+pub mod Courses
 pub mod StepFirst

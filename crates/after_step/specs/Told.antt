@@ -35,10 +35,15 @@ unfoldable pub has : List ℕ → ℕ → List ℕ → Bool
 has entries key [] = false
 has entries key (n ∷ ns) = eqb (keyOf entries n) key || has entries key ns
 
-unfoldable pub surveyed : List ℕ → ℕ → ℕ → ℕ → Option (List ℕ) → Survey
-surveyed entries size c key none = Survey.Unsound
-surveyed entries size c key (some ns) =
-    Survey.Sound (length ns) (lastOr 0 ns) (howMany (ofBucket size c entries) ns) (has entries key ns)
+-- whether entry n is one of these
+unfoldable pub among : ℕ → List ℕ → Bool
+among n [] = false
+among n (m ∷ ms) = eqb m n || among n ms
+
+unfoldable pub surveyed : List ℕ → (size c key n : ℕ) → Option (List ℕ) → Survey
+surveyed entries size c key n none = Survey.Unsound
+surveyed entries size c key n (some ns) =
+    Survey.Sound (length ns) (lastOr 0 ns) (howMany (ofBucket size c entries) ns) (has entries key ns) (among n ns)
 
 -- Presences.
 

@@ -1,4 +1,5 @@
-// What a call would find in the memory after a rehash step, told before it: nothing is written here.
+// What a call would find in the memory after a rehash step, told before it, and the step itself once it is told.
 
+pub mod course;
 pub mod link;
 pub mod presence;

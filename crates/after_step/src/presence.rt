@@ -1,28 +1,22 @@
-// Whether a key is held in the memory after a rehash step, told before the step from what is read of the memory as it is.
-use dict_rehash::rehash::look_ahead;
+// Whether a key is held in the memory after a rehash step that moves a chain, told before the step from what is read of the
+// memory as it is. `course` asks it, and says what the step does besides.
 use memory::entry::key_of;
 use memory::entry::link_of;
 use memory::state::bucket_index;
-use model::Ahead;
 use model::State;
 use search::found::Found;
 use search::found::entry_in;
-use search::found::entry_in_both;
 ghost use mathlib.Core.Path.{_≡_};
 ghost use mathlib.Core.Bool.{true};
-ghost use Prim.Native.Nat.{_*_, _≤_, _<_};
+ghost use Prim.Native.Nat.{_*_, _≤_};
 ghost use lib.ListN.{length};
 ghost use Rattle.model.specs.Keys.{bucketOf};
 ghost use Rattle.model.specs.Limits.{legalSize};
 ghost use Rattle.model.specs.Memory.{chain, inBucket};
-ghost use Rattle.model.specs.Calls as calls;
 ghost use Rattle.model.proofs.Soundness.{Sound};
 ghost use Rattle.memory.specs.Length.{bucketChain};
-ghost use Rattle.memory.specs.Lent.{soundLent};
 ghost use Rattle.search.specs.Tables.{Readable};
-ghost use Rattle.dict_rehash.specs.Progress.{oldChain};
-ghost use Rattle.after_step.specs.Presence.{presenceAfter, presenceThen};
-ghost use Rattle.after_step.specs.Told.{surveyed, foundPresence, heldIf, either, newThen, oldThen, tablesThen, Moves};
+ghost use Rattle.after_step.specs.Told.{surveyed, foundPresence, heldIf, either, newThen, oldThen, tablesThen};
 
 // What a lookup would answer, without the entry.
 pub enum Presence {
@@ -35,7 +29,7 @@ pub enum Presence {
 }
 
 // What one pass over a chain tells.
-enum Survey {
+pub enum Survey {
     Unsound,
     Sound {
         // How many entries.
@@ -46,12 +40,14 @@ enum Survey {
         joining: u32,
         // Whether one has the key.
         held: bool,
+        // Whether one is the entry asked for.
+        meets: bool,
     },
 }
 
 // The chain of bucket b in a table of that size, read to its end as every chain is. The bucket asked for is bucket c in a
-// table of size new_size.
-fn survey_chain(
+// table of size new_size, the entry asked for is entry n.
+pub fn survey_chain(
     entries: &[u32],
     capacity: u32,
     budget: u32,
@@ -61,10 +57,11 @@ fn survey_chain(
     new_size: u32,
     c: usize,
     key: u32,
+    n: u32,
 ) -> Survey
     requires { ⌜ capacity * 3 ≤ length (now entries) ⌝ }
     requires { ⌜ (legalSize size ≡ true) × (legalSize «new_size» ≡ true) ⌝ }
-    ensures { λ r. ⌜ r ≡ surveyed (now (entries .entry)) «new_size» c key
+    ensures { λ r. ⌜ r ≡ surveyed (now (entries .entry)) «new_size» c key n
         (chain (inBucket size b) (now (entries .entry)) capacity budget head) ⌝ }
 {
     let mut at = head;
@@ -72,6 +69,7 @@ fn survey_chain(
     let mut last = 0;
     let mut joining = 0;
     let mut held = false;
+    let mut meets = false;
     while at != 0 {
         if (left == 0) | (capacity < at) {
             return Survey::Unsound;
@@ -84,6 +82,7 @@ fn survey_chain(
         last = at;
         joining += (bucket_index(met, new_size) == c) as u32;
         held = held | (met == key);
+        meets = meets | (at == n);
         at = link_of(entries, at);
     }
     Survey::Sound {
@@ -91,6 +90,7 @@ fn survey_chain(
         last,
         joining,
         held,
+        meets,
     }
 }
 
@@ -100,7 +100,7 @@ fn held_if(t: bool) -> Presence
     if t { Presence::Held } else { Presence::Absent }
 }
 
-fn presence_of(found: Found) -> Presence
+pub fn presence_of(found: Found) -> Presence
     ensures { λ r. ⌜ r ≡ foundPresence found ⌝ }
 {
     match found {
@@ -142,7 +142,19 @@ fn new_then(
         (bucketChain size (now (entries .entry)) capacity budget (now (buckets .entry)) (bucketOf key size)) ⌝ }
 {
     let b = bucket_index(key, size);
-    let there = survey_chain(entries, capacity, budget, buckets[b], size, b, size, b, key);
+    // No entry is numbered 0.
+    let there = survey_chain(
+        entries,
+        capacity,
+        budget,
+        buckets[b],
+        size,
+        b,
+        size,
+        b,
+        key,
+        0,
+    );
     match there {
         Survey::Unsound => Presence::Damaged,
         Survey::Sound {
@@ -150,6 +162,7 @@ fn new_then(
             last: end,
             joining: _,
             held,
+            meets: _,
         } => {
             if end == last {
                 Presence::Damaged
@@ -182,7 +195,7 @@ fn old_then(
 }
 
 // In both tables then: in the old one with so many keys left, less bucket b, and in the new one.
-fn tables_then(
+pub fn tables_then(
     current: &[u32],
     other: &[u32],
     entries: &[u32],
@@ -210,116 +223,4 @@ fn tables_then(
     );
     let old = old_then(entries, s.capacity, left, current, s.old_size, b, key);
     either_of(old, new)
-}
-
-// The chain of bucket b of the old table moves, if it is sound: all of its keys leave that table. Those of the key's bucket in
-// the new table come before the chain that is there, and take so much of the budget.
-fn presence_moving(
-    current: &[u32],
-    other: &[u32],
-    entries: &[u32],
-    s: State,
-    b: u32,
-    key: u32,
-) -> Presence
-    requires { ⌜ Moves s (now current) (now other) (now entries) b ⌝ }
-    ensures { λ r. ⌜ r ≡ presenceThen key (s .«second_is_current») (calls.movedChain s (now (current .entry)) (now (other .entry))
-        (now (entries .entry)) b (oldChain s (now (current .entry)) (now (entries .entry)) b)) ⌝ }
-{
-    let from = b as usize;
-    let to = bucket_index(key, s.new_size);
-    let moving = survey_chain(
-        entries,
-        s.capacity,
-        s.old_used,
-        current[from],
-        s.old_size,
-        from,
-        s.new_size,
-        to,
-        key,
-    );
-    match moving {
-        Survey::Unsound => Presence::Damaged,
-        Survey::Sound {
-            count,
-            last,
-            joining,
-            held,
-        } => {
-            let left = s.old_used - count;
-            let budget = s.new_used + count - joining;
-            tables_then(
-                current,
-                other,
-                entries,
-                s,
-                from,
-                key,
-                left,
-                budget,
-                last,
-                held,
-            )
-        }
-    }
-}
-
-// What comes from the next bucket on decides, as in the step.
-fn presence_ahead(current: &[u32], other: &[u32], entries: &[u32], s: State, key: u32) -> Presence
-    requires { ⌜ Sound s (length (now current)) (length (now other)) (length (now entries)) ⌝ }
-    requires { ⌜ (s .rehashing ≡ true) × (0 < s .«old_used») ⌝ }
-    ensures { λ r. ⌜ r ≡ presenceThen key (s .«second_is_current») (calls.movedFrom s (now (current .entry)) (now (other .entry))
-        (now (entries .entry)) (calls.aheadOf s (now (current .entry)))) ⌝ }
-{
-    let ahead = look_ahead(current, s.rehash_index, s.old_size);
-    match ahead {
-        Ahead::Filled(b) => presence_moving(current, other, entries, s, b, key),
-        // No chain moves.
-        Ahead::Empty(_) => presence_of(entry_in_both(
-            current,
-            other,
-            entries,
-            s.capacity,
-            s.old_used,
-            s.new_used,
-            s.old_size,
-            s.new_size,
-            key,
-        )),
-        Ahead::End => Presence::Damaged,
-    }
-}
-
-// On the current and the other bucket buffer. With no keys in the old table the step only ends the rehash.
-pub fn presence_in(current: &[u32], other: &[u32], entries: &[u32], s: State, key: u32) -> Presence
-    requires { ⌜ Sound s (length (now current)) (length (now other)) (length (now entries)) ⌝ }
-    requires { ⌜ s .rehashing ≡ true ⌝ }
-    ensures { λ r. ⌜ r ≡ presenceThen key (s .«second_is_current»)
-        (calls.stepTaken s (now (current .entry)) (now (other .entry)) (now (entries .entry))) ⌝ }
-{
-    if s.old_used == 0 {
-        presence_of(entry_in(entries, s.capacity, s.new_used, other, s.new_size, key))
-    } else {
-        presence_ahead(current, other, entries, s, key)
-    }
-}
-
-// Whether the key is held once a step was taken. The flag says which of the lent buffers is the current one.
-pub fn presence_after_step(
-    first: &[u32],
-    second: &[u32],
-    entries: &[u32],
-    s: State,
-    key: u32,
-) -> Presence
-    requires { ⌜ soundLent (length (now first)) (length (now second)) (length (now entries)) s ≡ true ⌝ }
-    requires { ⌜ calls.stepDue s ≡ true ⌝ }
-    ensures { λ r. ⌜ r ≡ presenceAfter key (calls.rehashStep s (now (first .entry)) (now (second .entry)) (now (entries .entry))) ⌝ }
-{
-    if s.second_is_current {
-        presence_in(second, first, entries, s, key)
-    } else {
-        presence_in(first, second, entries, s, key)
-    }
 }

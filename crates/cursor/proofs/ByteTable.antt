@@ -56,3 +56,13 @@ unfolding rev
 four-bytes bytes rule x first second third fourth e f g h =
     let more = byte-more bytes rule x in
     more 24 _ fourth (more 16 _ third (more 8 first second (looked-up bytes rule x first e) f) g) h
+
+-- its two lowest bytes
+pub two-bytes :
+    (bytes : List ℕ)
+    → ReversesBytes bytes
+    → (x first second : ℕ)
+    → first ≡ getD bytes (x % 256) 0
+    → second ≡ getD bytes (x / 2 ^ 8 % 256) 0
+    → first * 256 + second ≡ reverse 16 x
+two-bytes bytes rule x first second e f = byte-more bytes rule x 8 first second (looked-up bytes rule x first e) f

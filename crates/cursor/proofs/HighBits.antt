@@ -23,6 +23,12 @@ or-high d b v h =
 pub exponent-le : (b n : ℕ) → 2 ^ b ≤ 2 ^ n → b ≤ n
 exponent-le b n h = le-of-suc-le-suc (lt-of-not-le (λ l. omega (arith, pow-lt l)))
 
+-- `|` with the negative of a size
+pub high-set : (b v : ℕ) → b ≤ 32 → v < 2 ^ 32 → bitOr v (2 ^ 32 - 2 ^ b) ≡ v % 2 ^ b + (2 ^ 32 - 2 ^ b)
+high-set b v h k =
+    let (d, g) = le-dest h in
+    subst (λ w. v < 2 ^ w → bitOr v (2 ^ w - 2 ^ b) ≡ v % 2 ^ b + (2 ^ w - 2 ^ b)) (add-comm d b ∙ g) (or-high d b v) k
+
 -- the steps of the code, one after the other, give the next cursor
 pub next-computed :
     (size cursor negative first counted r : ℕ)

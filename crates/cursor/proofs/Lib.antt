@@ -4,6 +4,8 @@ pub mod Reversal
 pub mod NextCursor
 pub mod ByteTable
 pub mod HighBits
+pub mod QuickStep
+pub mod HalfWord
 pub mod Interval
 pub mod Sweep
 pub mod LargeBuckets

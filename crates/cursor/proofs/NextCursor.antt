@@ -1,5 +1,5 @@
 -- The next cursor of a table of size 2 ^ b, with no word size: one more, counted in the reversed lowest b bits.
-use mathlib.Core.Path.{_≡_, ap, subst}
+use mathlib.Core.Path.{_≡_, sym, ap, _∙_, subst}
 use mathlib.Core.Logic.{_⊎_, inl, inr, ⊎-elim, _≢_}
 use Prim.Native.Nat.{ℕ, suc, _+_, _-_, _*_, _%_, _^_, _<_, _≤_}
 use native.Mathlib.Nat.{add-comm, suc-mul, mod-lt, mod-mod, mod-self, mod-eq-of-lt, le-dest, eq-or-lt-of-le}
@@ -30,6 +30,14 @@ next-at b d v =
 pub next-short : (b v : ℕ) → b ≤ 32 → next (2 ^ b) v ≡ reverse b (suc (reverse b v) % 2 ^ b)
 unfolding nextAt next setHigh addOne rev
 next-short b v h = let (d, e) = le-dest h in subst (λ n. nextAt n (2 ^ b) v ≡ reverse b (suc (reverse b v) % 2 ^ b)) e (next-at b d v)
+
+-- for a table of at most 2^16 buckets the rule at 16 bits gives the same
+pub next-sixteen : (b v : ℕ) → b ≤ 16 → next (2 ^ b) v ≡ reverse 16 ((reverse 16 (v % 2 ^ b + (2 ^ 16 - 2 ^ b)) + 1) % 2 ^ 16)
+unfolding nextAt
+next-sixteen b v h =
+    let (d, e) = le-dest h in
+    let short = next-short b v (omega arith) in
+    short ∙ sym (subst (λ n. nextAt n (2 ^ b) v ≡ reverse b (suc (reverse b v) % 2 ^ b)) e (next-at b d v))
 
 -- it is a bucket of the table
 pub next-lt : (b v : ℕ) → b ≤ 32 → next (2 ^ b) v < 2 ^ b

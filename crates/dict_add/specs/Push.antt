@@ -12,6 +12,7 @@ use Rattle.model.specs.Keys.{bucketOf}
 use Rattle.model.specs.Memory.{linkOf, setEntry}
 use Rattle.model.specs.Calls.{target}
 use Rattle.search.specs.declared.found.Found.{Found}
+use Rattle.add_stepping.specs.declared.moving.Taken.{Taken}
 use Rattle.add_stepping.specs.Counts.{oneMore}
 use Rattle.dict_add.specs.declared.add.Push.{Push}
 
@@ -38,3 +39,8 @@ pushFound buckets entries absent (Found.At n) = Left.left (Push.Refused Error.Pr
 unfoldable pub pushAnswer : State → Push → AddAnswer
 pushAnswer s (Push.Refused e) = AddAnswer.Refused e
 pushAnswer s (Push.Done free) = AddAnswer.Added (oneMore s (target (s .rehashing)) free)
+
+-- the same in the words of an add during a rehash
+unfoldable pub takenOf : Push → Taken
+takenOf (Push.Refused e) = Taken.Refused e
+takenOf (Push.Done free) = Taken.Pushed free

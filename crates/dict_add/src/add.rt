@@ -4,7 +4,9 @@
 // is asked before it; `add_during` has two callers, and so stays a call of its own, off the quick path.
 use add_stepping::entry::one_more;
 use add_stepping::entry::push_entry;
+use add_stepping::moving::Taken;
 use add_stepping::moving::add_moving;
+use dict_rehash::rehash::state_after;
 use memory::entry::link_of;
 use memory::state::is_sound_lent;
 use model::AddAnswer;
@@ -24,9 +26,10 @@ ghost use Rattle.model.proofs.Soundness.{Sound, Counted};
 ghost use Rattle.memory.specs.Lent.{soundLent};
 ghost use Rattle.search.specs.Tables.{searchedIn, Readable};
 ghost use Rattle.search.specs.Found.{foundOf};
-ghost use Rattle.add_stepping.specs.Moving.{addMoving};
-ghost use Rattle.dict_add.specs.Push.{pushFree, pushFound, pushAnswer};
+ghost use Rattle.add_stepping.specs.Moving.{takenAnswer, takenRoom, Comes};
+ghost use Rattle.dict_add.specs.Push.{pushFree, pushFound, pushAnswer, takenOf};
 ghost use Rattle.dict_add.specs.Push.Left.{left};
+ghost use Rattle.dict_add.specs.During.{moving};
 
 // What happened to the buffers, in numbers: the public call makes the answer of it.
 enum Push {
@@ -204,25 +207,60 @@ fn push_paused(
     )
 }
 
-// On the current and the other bucket buffer: with a step first, unless safe iterators hold it up.
+fn taken_of(pushed: Push) -> Taken
+    ensures { λ r. ⌜ r ≡ takenOf pushed ⌝ }
+{
+    match pushed {
+        Push::Refused(e) => Taken::Refused(e),
+        Push::Done(free) => Taken::Pushed(free),
+    }
+}
+
+// On the current and the other bucket buffer: with a step first, unless safe iterators hold it up. It is given the state's numbers
+// and answers numbers: as a function with two callers it would else hand the state over, and back, through memory.
 fn add_during(
     current: &mut [u32],
     other: &mut [u32],
     entries: &mut [u32],
-    s: State,
+    second_is_current: bool,
+    old_size: u32,
+    new_size: u32,
+    old_used: u32,
+    new_used: u32,
+    rehash_index: u32,
+    free_head: u32,
+    capacity: u32,
+    resize_allowed: bool,
+    safe_iterators: u32,
     key: u32,
     value: u32,
-) -> AddAnswer
-    requires { ⌜ Sound s (length (now current)) (length (now other)) (length (now entries)) ⌝ }
-    requires { ⌜ s .rehashing ≡ true ⌝ }
-    ensures { λ r. ⌜ after r (now (current .exit)) (now (other .exit)) (now (entries .exit))
-        ≡ addMoving s (now (current .entry)) (now (other .entry)) (now (entries .entry)) key value ⌝ }
+) -> Taken
+    requires { ⌜ Sound
+        (moving «second_is_current» «old_size» «new_size» «old_used» «new_used» «rehash_index» «free_head» capacity «resize_allowed» «safe_iterators»)
+        (length (now current)) (length (now other)) (length (now entries)) ⌝ }
+    ensures { λ r. ⌜ Comes
+        (moving «second_is_current» «old_size» «new_size» «old_used» «new_used» «rehash_index» «free_head» capacity «resize_allowed» «safe_iterators»)
+        (now (current .entry)) (now (other .entry)) (now (entries .entry)) key value r
+        (now (current .exit)) (now (other .exit)) (now (entries .exit)) ⌝ }
 {
-    if s.safe_iterators == 0 {
+    let s = State {
+        second_is_current,
+        old_size,
+        new_size,
+        old_used,
+        new_used,
+        rehashing: true,
+        rehash_index,
+        free_head,
+        capacity,
+        resize_allowed,
+        safe_iterators,
+    };
+    if safe_iterators == 0 {
         add_moving(current, other, entries, s, key, value)
     } else {
         let pushed = push_paused(current, other, entries, s, key, value);
-        answer_of(s, pushed)
+        taken_of(pushed)
     }
 }
 
@@ -234,16 +272,65 @@ fn add_rehashing(
     s: State,
     key: u32,
     value: u32,
-) -> AddAnswer
+) -> Taken
     requires { ⌜ soundLent (length (now first)) (length (now second)) (length (now entries)) s ≡ true ⌝ }
     requires { ⌜ s .rehashing ≡ true ⌝ }
-    ensures { λ r. ⌜ after r (now (first .exit)) (now (second .exit)) (now (entries .exit))
+    ensures { λ r. ⌜ after (takenAnswer s r) (now (first .exit)) (now (second .exit)) (now (entries .exit))
         ≡ calls.addAfterStep s (now (first .entry)) (now (second .entry)) (now (entries .entry)) key value ⌝ }
+    ensures { λ r. ⌜ takenRoom s r ⌝ }
 {
     if s.second_is_current {
-        add_during(second, first, entries, s, key, value)
+        add_during(
+            second,
+            first,
+            entries,
+            s.second_is_current,
+            s.old_size,
+            s.new_size,
+            s.old_used,
+            s.new_used,
+            s.rehash_index,
+            s.free_head,
+            s.capacity,
+            s.resize_allowed,
+            s.safe_iterators,
+            key,
+            value,
+        )
     } else {
-        add_during(first, second, entries, s, key, value)
+        add_during(
+            first,
+            second,
+            entries,
+            s.second_is_current,
+            s.old_size,
+            s.new_size,
+            s.old_used,
+            s.new_used,
+            s.rehash_index,
+            s.free_head,
+            s.capacity,
+            s.resize_allowed,
+            s.safe_iterators,
+            key,
+            value,
+        )
+    }
+}
+
+// The answer, of what happened to the buffers during a rehash.
+fn answer_taken(s: State, taken: Taken) -> AddAnswer
+    requires { ⌜ Counted s ⌝ }
+    requires { ⌜ takenRoom s taken ⌝ }
+    ensures { λ r. ⌜ r ≡ takenAnswer s taken ⌝ }
+{
+    match taken {
+        Taken::Refused(e) => AddAnswer::Refused(e),
+        Taken::Pushed(free) => AddAnswer::Added(one_more(s, free)),
+        Taken::Stepped { count, next, free } => {
+            let t = state_after(s, count, next);
+            AddAnswer::Added(one_more(t, free))
+        }
     }
 }
 
@@ -261,7 +348,8 @@ pub fn add_after_step(
 {
     if is_sound_lent(first.len(), second.len(), entries.len(), s) {
         if s.rehashing {
-            add_rehashing(first, second, entries, s, key, value)
+            let taken = add_rehashing(first, second, entries, s, key, value);
+            answer_taken(s, taken)
         } else {
             let pushed = push_resting(first, second, entries, s, key, value);
             answer_of(s, pushed)

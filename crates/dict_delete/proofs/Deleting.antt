@@ -18,8 +18,10 @@ use Rattle.memory.specs.Lent.{soundLent}
 use Rattle.memory.proofs.Orientation.{written-first, written-second, writing-refused, writing-sound}
 use Rattle.search.specs.Tables.{lookupLent}
 use Rattle.after_step.specs.declared.presence.Presence.{Presence}
+use Rattle.after_step.specs.declared.course.Foresight.{Foresight}
 use Rattle.after_step.specs.Presence.{presence, presenceAfter}
 use Rattle.after_step.specs.Planned.{Planned}
+use Rattle.after_step.specs.Course.{ForeseenLent}
 use Rattle.after_step.proofs.StepFirst.{answerOf, answer-by, is-damaged, is-absent, is-held, then-damaged, step-taken, first-alone, first-unsound, first-done, first-refused}
 
 -- Alone, on the lent buffers.
@@ -126,3 +128,9 @@ module _ (s : State) (first second entries : List ℕ) (key : ℕ) where
         t x y z a p q w (then .step) g
         (ap isDeleted (ap answerOf g ∙ alone-answer t x y z key (then .sound))
         ∙ told-held t (lookupLent t x y z key) (then .told))
+
+-- (what was told stands first: a search that knows it compares less)
+pub planned-of : (s : State) (first second entries : List ℕ) (key : ℕ) (f : Foresight) → f .presence ≡ Presence.Held
+    → ForeseenLent s first second entries key f → stepDue s ≡ true
+    → soundLent (length first) (length second) (length entries) s ≡ true → Planned s first second entries key Presence.Held
+planned-of s first second entries key f d k e h = record { sound = h; due = e; told = sym d ∙ k .told }

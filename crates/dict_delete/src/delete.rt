@@ -1,9 +1,10 @@
 // Delete a held key (SPECIFICATION, "Delete"). The state is tested on the lent lengths, then whether a step is due: during a
 // rehash that no safe iterator holds up one comes first. Then the flag is read once, and below that every function knows the
 // current and the other buffer.
+use after_step::course::Course;
+use after_step::course::foresee_lent;
+use after_step::course::step_lent;
 use after_step::presence::Presence;
-use after_step::presence::presence_after_step;
-use dict_rehash::rehash::rehash_step;
 use memory::entry::link_of;
 use memory::entry::set_entry;
 use memory::entry::set_link;
@@ -30,6 +31,7 @@ ghost use Rattle.memory.specs.Lent.{soundLent};
 ghost use Rattle.search.specs.Tables.{Readable};
 ghost use Rattle.after_step.specs.declared.presence.Presence.the-variants as told;
 ghost use Rattle.after_step.specs.Planned.{Planned};
+ghost use Rattle.after_step.specs.Course.{GoesLent};
 
 // Entry n off its chain, where it stands behind another entry or at the head of the key's bucket.
 fn unlink(buckets: &mut [u32], entries: &mut [u32], size: u32, key: u32, before: u32, n: u32)
@@ -152,12 +154,14 @@ fn step_and_delete(
     entries: &mut [u32],
     s: State,
     key: u32,
+    course: Course,
 ) -> DeleteAnswer
     requires { ⌜ Planned s (now first) (now second) (now entries) key told.Held ⌝ }
+    requires { ⌜ GoesLent s (now first) (now second) (now entries) course ⌝ }
     ensures { λ r. ⌜ after r (now (first .exit)) (now (second .exit)) (now (entries .exit))
         ≡ calls.delete s (now (first .entry)) (now (second .entry)) (now (entries .entry)) key ⌝ }
 {
-    let stepped = rehash_step(first, second, entries, s);
+    let stepped = step_lent(first, second, entries, s, course);
     match stepped {
         StepAnswer::Refused(e) => DeleteAnswer::Refused(e),
         StepAnswer::Stepped(_, t) => delete_alone(first, second, entries, t, key),
@@ -177,11 +181,13 @@ fn delete_after_step(
     ensures { λ r. ⌜ after r (now (first .exit)) (now (second .exit)) (now (entries .exit))
         ≡ calls.delete s (now (first .entry)) (now (second .entry)) (now (entries .entry)) key ⌝ }
 {
-    let presence = presence_after_step(first, second, entries, s, key);
+    let told = foresee_lent(first, second, entries, s, key);
+    let presence = told.presence;
+    let course = told.course;
     match presence {
         Presence::Damaged => DeleteAnswer::Refused(Error::Damaged),
         Presence::Absent => DeleteAnswer::Refused(Error::Absent),
-        Presence::Held => step_and_delete(first, second, entries, s, key),
+        Presence::Held => step_and_delete(first, second, entries, s, key, course),
     }
 }
 

@@ -25,7 +25,7 @@ use Rattle.memory.specs.declared.chain.ChainLength.{ChainLength}
 use Rattle.memory.specs.Length.{lengthOf}
 use Rattle.memory.proofs.Counted.{counted, uncounted}
 use Rattle.dict_rehash.specs.declared.rehash.Progress.{Progress}
-use Rattle.dict_rehash.specs.Progress.{stepAnswer, stepRoom, oldChain, chains, ChainOf, ChainMoved}
+use Rattle.dict_rehash.specs.Progress.{stepAnswer, stepRoom, oldChain, OldChain, chains, ChainOf, ChainMoved}
 use Rattle.dict_rehash.proofs.Due.{is-paused, due-of, stepped-by, due-stepped}
 
 -- what a sound state says of the two tables during a rehash
@@ -48,20 +48,24 @@ unfolding room
 read-linked test entries capacity budget head ns e fits =
     linked-wider entries capacity (room entries) head ns (omega arith) (read-sound test entries capacity budget head ns e .0)
 
+-- the chain of a bucket of the old table, once its entries were counted
 -- (the count stands first: where a search has no such count, it ends there)
-module _ (r : ChainLength) (count : ℕ) (c : r ≡ ChainLength.Sound count) (test : ℕ → Bool) (entries : List ℕ) (capacity budget head : ℕ)
-    (e : r ≡ lengthOf (chain test entries capacity budget head)) where
-  pub chain-of : capacity * 3 ≤ length entries → ChainOf entries head count
-  chain-of fits =
-      let o = chain test entries capacity budget head in
-      let (read, n) = counted r count o c e in
-      record { ns = listed o; linked = read-linked test entries capacity budget head (listed o) read fits; counted = n }
+pub old-counted : (r : ChainLength) (count : ℕ) → r ≡ ChainLength.Sound count → (s : State) (current entries : List ℕ) (b : ℕ)
+    → r ≡ lengthOf (oldChain s current entries b) → OldChain s current entries b count
+old-counted r count c s current entries b e =
+    let o = oldChain s current entries b in
+    let (read, n) = counted r count o c e in
+    record { ns = listed o; read = read; counted = n }
 
-  count-fits : count ≤ budget
-  count-fits =
-      let o = chain test entries capacity budget head in
-      let (read, n) = counted r count o c e in
-      omega (arith, read-sound test entries capacity budget head (listed o) read .1)
+module _ (s : State) (current entries : List ℕ) (b count : ℕ) (k : OldChain s current entries b count) where
+  pub old-linked : s .capacity * 3 ≤ length entries → Linked entries (room entries) (getD current b 0) (k .ns)
+  old-linked fits = read-linked _ entries (s .capacity) (s .«old_used») (getD current b 0) (k .ns) (k .read) fits
+
+  pub chain-of : s .capacity * 3 ≤ length entries → ChainOf entries (getD current b 0) count
+  chain-of fits = record { ns = k .ns; linked = old-linked fits; counted = k .counted }
+
+  count-fits : count ≤ s .«old_used»
+  count-fits = omega (arith, k .counted, read-sound _ entries (s .capacity) (s .«old_used») (getD current b 0) (k .ns) (k .read) .1)
 
 -- ---- the chain of a bucket of the old table
 
@@ -73,29 +77,24 @@ module _ (s : State) (current other entries : List ℕ) (b : ℕ) where
   unfolding movedChain stepAnswer
   moved-by c ns count then ce n t = rw (ce, t, ← n, add-one)
 
-  module _ (r : ChainLength) (e : r ≡ lengthOf (oldChain s current entries b)) where
-    pub bucket-unsound : r ≡ ChainLength.Unsound
-        → After.after (stepAnswer s (Progress.Refused Error.Damaged)) current other entries
+  pub bucket-unsound : (r : ChainLength) → r ≡ lengthOf (oldChain s current entries b) → r ≡ ChainLength.Unsound
+      → After.after (stepAnswer s (Progress.Refused Error.Damaged)) current other entries
+      ≡ movedChain s current other entries b (oldChain s current entries b)
+  unfolding movedChain stepAnswer
+  bucket-unsound r e u = rw (uncounted r (oldChain s current entries b) u e)
+
+  module _ (count : ℕ) (k : OldChain s current entries b count) (h : Sound s (length current) (length other) (length entries)) where
+    pub bucket-moved : (other′ entries′ : List ℕ)
+        → ChainMoved (s .«new_size») (getD current b 0) (chains other entries) (chains other′ entries′)
+        → After.after (stepAnswer s (Progress.Moved count (b + 1))) (set current b 0) other′ entries′
         ≡ movedChain s current other entries b (oldChain s current entries b)
-    unfolding movedChain stepAnswer
-    bucket-unsound u = rw (uncounted r (oldChain s current entries b) u e)
+    bucket-moved other′ entries′ m =
+        moved-by (oldChain s current entries b) (k .ns) count (chains other′ entries′) (k .read) (k .counted)
+        (m .each (k .ns) (old-linked s current entries b count k (h .entries-fit)))
 
-    module _ (count : ℕ) (c : r ≡ ChainLength.Sound count) (h : Sound s (length current) (length other) (length entries)) where
-      pub bucket-moved : (other′ entries′ : List ℕ)
-          → ChainMoved (s .«new_size») (getD current b 0) (chains other entries) (chains other′ entries′)
-          → After.after (stepAnswer s (Progress.Moved count (b + 1))) (set current b 0) other′ entries′
-          ≡ movedChain s current other entries b (oldChain s current entries b)
-      bucket-moved other′ entries′ m =
-          let o = oldChain s current entries b in
-          let (read, n) = counted r count o c e in
-          let linked = read-linked _ entries (s .capacity) (s .«old_used») (getD current b 0) (listed o) read (h .entries-fit) in
-          moved-by o (listed o) count (chains other′ entries′) read n (m .each (listed o) linked)
-
-      pub bucket-room : (next : ℕ) → stepRoom s (Progress.Moved count next)
-      unfolding stepRoom
-      bucket-room next =
-          let short = count-fits r count c _ entries (s .capacity) (s .«old_used») (getD current b 0) e in
-          (short, omega (arith, h .used-fits))
+    pub bucket-room : (next : ℕ) → stepRoom s (Progress.Moved count next)
+    unfolding stepRoom
+    bucket-room next = let short = count-fits s current entries b count k in (short, omega (arith, h .used-fits))
 
   -- the number of the bucket behind it
   pub bucket-behind : b < s .«old_size» → Fits w32 (s .«old_size») → Fits w32 (b + 1)

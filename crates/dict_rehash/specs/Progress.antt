@@ -2,7 +2,7 @@
 use Prim.Native.Nat.{ℕ, _+_, _≤_}
 use mathlib.Core.Path.{_≡_}
 use mathlib.Core.List.{List}
-use mathlib.Core.Option.{Option}
+use mathlib.Core.Option.{Option, some}
 use lib.ListN.{length}
 use Rattle.model.specs.declared.State.{State}
 use Rattle.model.specs.declared.StepAnswer.{StepAnswer}
@@ -25,6 +25,12 @@ stepRoom s (Progress.Moved count next) = (count ≤ s .«old_used») × (s .«ne
 -- the chain of bucket b of the old table
 abbrev pub oldChain : State → List ℕ → List ℕ → ℕ → Option (List ℕ)
 oldChain s current entries b = bucketChain (s .«old_size») entries (s .capacity) (s .«old_used») current b
+
+-- it was read, and has that many entries
+pub record OldChain (s : State) (current entries : List ℕ) (b count : ℕ) : Type 0 where
+  pub ns : List ℕ
+  pub read : oldChain s current entries b ≡ some ns
+  pub counted : length ns ≡ count
 
 abbrev pub chains : List ℕ → List ℕ → Chains
 chains buckets entries = record { buckets = buckets; entries = entries }

@@ -21,9 +21,9 @@ ghost use Rattle.model.specs.Limits.{legalSize, emptyVisits};
 ghost use Rattle.model.specs.Calls as calls;
 ghost use Rattle.model.specs.Calls.After.{after};
 ghost use Rattle.model.proofs.Soundness.{Sound};
-ghost use Rattle.dict_rehash.specs.Progress.{stepAnswer, stepRoom, oldChain, chains, ChainOf, ChainMoved, EntryMoved};
+ghost use Rattle.dict_rehash.specs.Progress.{stepAnswer, stepRoom, oldChain, chains, OldChain, ChainOf, ChainMoved, EntryMoved};
 
-// What happened to the buffers, in numbers: the public call makes the answer of it, and an add makes its own.
+// What happened to the buffers, in numbers: the public call makes the answer of it, and a call that takes a step first its own.
 pub enum Progress {
     Refused(Error),
     // So many keys have moved, and this bucket is the next one.
@@ -82,6 +82,32 @@ fn move_chain(buckets: &mut [u32], entries: &mut [u32], size: u32, head: u32, co
     }
 }
 
+// The chain of bucket b of the old table, which was read before and has so many entries. (Public for those who have asked what
+// a step would do.)
+pub fn move_counted(
+    current: &mut [u32],
+    other: &mut [u32],
+    entries: &mut [u32],
+    s: State,
+    b: u32,
+    count: u32,
+) -> Progress
+    requires { ⌜ Sound s (length (now current)) (length (now other)) (length (now entries)) ⌝ }
+    requires { ⌜ (s .rehashing ≡ true) × (b < s .«old_size») ⌝ }
+    requires { ⌜ OldChain s (now current) (now entries) b count ⌝ }
+    ensures { λ r. ⌜ after (stepAnswer s r) (now (current .exit)) (now (other .exit)) (now (entries .exit))
+        ≡ calls.movedChain s (now (current .entry)) (now (other .entry)) (now (entries .entry)) b
+        (oldChain s (now (current .entry)) (now (entries .entry)) b) ⌝ }
+    ensures { λ r. ⌜ stepRoom s r ⌝ }
+{
+    let index = b as usize;
+    let head = current[index];
+    move_chain(other, entries, s.new_size, head, count);
+    current[index] = 0;
+    let next = b + 1;
+    Progress::Moved(count, next)
+}
+
 // The chain of bucket b of the old table. It is read once to test it, so that a refusal leaves the buffers as they were, and
 // once to move it.
 fn move_bucket(
@@ -103,12 +129,7 @@ fn move_bucket(
     let length = chain_length(entries, s.capacity, s.old_used, head, s.old_size, index);
     match length {
         ChainLength::Unsound => Progress::Refused(Error::Damaged),
-        ChainLength::Sound(count) => {
-            move_chain(other, entries, s.new_size, head, count);
-            current[index] = 0;
-            let next = b + 1;
-            Progress::Moved(count, next)
-        }
+        ChainLength::Sound(count) => move_counted(current, other, entries, s, b, count),
     }
 }
 
@@ -130,9 +151,8 @@ fn move_next(current: &mut [u32], other: &mut [u32], entries: &mut [u32], s: Sta
     }
 }
 
-// During a rehash that no safe iterator holds up. With no keys in the old table the step only ends the rehash. (Public for an
-// add, which has made the tests by then.)
-pub fn take_step(current: &mut [u32], other: &mut [u32], entries: &mut [u32], s: State) -> Progress
+// During a rehash that no safe iterator holds up. With no keys in the old table the step only ends the rehash.
+fn take_step(current: &mut [u32], other: &mut [u32], entries: &mut [u32], s: State) -> Progress
     requires { ⌜ Sound s (length (now current)) (length (now other)) (length (now entries)) ⌝ }
     requires { ⌜ s .rehashing ≡ true ⌝ }
     ensures { λ r. ⌜ after (stepAnswer s r) (now (current .exit)) (now (other .exit)) (now (entries .exit))

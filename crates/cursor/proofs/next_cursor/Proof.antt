@@ -1,18 +1,20 @@
--- `cursor::next_cursor` meets its contract: what its steps give are the premises of one law. At each of the two calls that are
--- lent the list of reversed bytes antt computes the test of the whole list. The number after `fits` lets the search try every
--- way, so that a refusal of other code says that none is left. Assumes nothing.
-use mathlib.Core.Path.{refl}
+-- `cursor::next_cursor` meets its contract: where the highest bit is 0 by one law, elsewhere by its callees. Assumes nothing.
 use borrow.Author.Needs.{needs}
-use Rattle.cursor.specs.Reverse.{reverse}
-use Rattle.cursor.proofs.ByteTable.{tested}
-use Rattle.cursor.proofs.HighBits.{next-computed}
+use Rattle.cursor.proofs.QuickStep.{quick-computed}
 use Rattle.cursor.proofs.next_cursor.Statement.{statement}
 use Rattle.cursor.proofs.next_cursor.Tie as tie
 
 returns : tie.Need-returns
-returns c = search next-computed fits 20000
+returns c = search quick-computed
 
 pub next-cursor-spec : {M : Type 1} → statement M
-unfolding reverse
 next-cursor-spec =
-    tie.close (tie.spec (search needs) (λ c κs. tested _ refl) (search needs) (λ c κs. tested _ refl) returns)
+    tie.close
+    (tie.spec
+    (λ c κs. search needs)
+    (λ c. search needs)
+    (λ c κs. search needs)
+    (λ c κs. search needs)
+    returns
+    (λ c. search needs)
+    (λ c. search needs))

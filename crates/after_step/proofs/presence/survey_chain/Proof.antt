@@ -10,11 +10,11 @@ use Rattle.after_step.proofs.presence.survey_chain.Statement.{statement
 use Rattle.after_step.proofs.presence.survey_chain.Tie as tie
 
 abbrev Inv-loop : tie.InvT-loop
-Inv-loop entries capacity budget head size b new-size c key at₀ left₀ last₀ joining₀ held₀ at left last joining held =
-    Surveying (inBucket size b) entries capacity budget head new-size c key at left last joining held
+Inv-loop entries capacity budget head size b new-size c key n at₀ left₀ last₀ joining₀ held₀ meets₀ at left last joining held meets =
+    Surveying (inBucket size b) entries capacity budget head new-size c key n at left last joining held meets
 
 abbrev μ-loop : tie.MeasureT-loop
-μ-loop entries capacity budget head size b new-size c key at₀ left₀ last₀ joining₀ held₀ at left last joining held = left
+μ-loop entries capacity budget head size b new-size c key n at₀ left₀ last₀ joining₀ held₀ meets₀ at left last joining held meets = left
 
 returns-2 : tie.Need-returns-2 Inv-loop μ-loop
 returns-2 c = search (surveying-stray, bucket-other)

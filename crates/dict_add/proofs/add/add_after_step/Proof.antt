@@ -1,9 +1,10 @@
--- `dict_add::add::add_after_step` meets its contract: a rehash is under way, or the answer is made of what happened to the
--- buffers.
+-- `dict_add::add::add_after_step` meets its contract: a rehash is under way or not, and the answer is made of what
+-- happened to the buffers.
 -- Assumes nothing.
 use borrow.Author.Needs.{needs}
 use Rattle.memory.proofs.Tested.{tested-lent}
 use Rattle.dict_add.proofs.Adding.{counted, add-unsound, answered-by}
+use Rattle.dict_add.proofs.During.{taken-by}
 use Rattle.dict_add.proofs.add.add_after_step.Statement.{statement}
 use Rattle.dict_add.proofs.add.add_after_step.Tie as tie
 
@@ -13,12 +14,13 @@ add-after-step-spec =
     (tie.spec
     (λ c κs. search needs)
     (λ c κs. (search tested-lent, search needs))
+    (λ c κs. (search counted, search needs))
     (λ c κs. (search tested-lent, search needs))
     (λ c κs. search counted)
     (λ c. search needs)
     (λ c. search needs)
     (λ c. search needs)
-    (λ c. search needs)
+    (λ c. search taken-by)
     (λ c. search needs)
     (λ c. search needs)
     (λ c. search needs)

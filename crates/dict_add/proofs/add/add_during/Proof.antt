@@ -1,15 +1,11 @@
--- `dict_add::add::add_during` meets its contract: a step comes first, or safe iterators hold it up and the call is an add alone.
+-- `dict_add::add::add_during` meets its contract: a step comes first, or safe iterators hold it up and the
+-- call is an add alone.
 -- Assumes nothing.
 use borrow.Author.Needs.{needs}
 use Rattle.dict_rehash.proofs.Due.{due-of}
-use Rattle.add_stepping.proofs.AddingAfter.{counts-sound}
 use Rattle.dict_add.proofs.During.{moving-alone}
 use Rattle.dict_add.proofs.add.add_during.Statement.{statement}
 use Rattle.dict_add.proofs.add.add_during.Tie as tie
-
--- the step and the add are the answer
-returns : tie.Need-returns
-returns c = search needs
 
 -- an add alone
 returns-2 : tie.Need-returns-2
@@ -21,11 +17,11 @@ add-during-spec =
     (tie.spec
     (λ c κs. (search needs, search due-of))
     (λ c κs. search needs)
-    (λ c κs. search counts-sound)
+    (λ c κs. search needs)
     (λ c. search needs)
     (λ c. search needs)
     (λ c. search needs)
-    returns
+    (λ c. search needs)
     (λ c. search needs)
     (λ c. search needs)
     (λ c. search needs)

@@ -1,7 +1,7 @@
 -- `dict_delete::delete::delete_after_step` meets its contract: what is told of the memory after the step decides.
 -- Assumes nothing.
 use borrow.Author.Needs.{needs}
-use Rattle.dict_delete.proofs.Deleting.{delete-damaged, delete-absent}
+use Rattle.dict_delete.proofs.Deleting.{delete-damaged, delete-absent, planned-of}
 use Rattle.dict_delete.proofs.delete.delete_after_step.Statement.{statement}
 use Rattle.dict_delete.proofs.delete.delete_after_step.Tie as tie
 
@@ -21,7 +21,7 @@ delete-after-step-spec =
     (λ c. search needs)
     (λ c. search needs)
     (λ c. search needs)
-    (λ c κs. record { sound = search needs; due = search needs; told = cc })
+    (λ c κs. (search planned-of, search needs))
     (λ c. search needs)
     (λ c. search needs)
     (λ c. search needs)

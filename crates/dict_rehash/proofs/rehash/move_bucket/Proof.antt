@@ -2,22 +2,13 @@
 -- Assumes nothing.
 use borrow.Author.Needs.{needs}
 use Rattle.dict_rehash.specs.Progress.{stepRoom}
-use Rattle.dict_rehash.proofs.Stepping.{target-legal, target-fits, chain-of, bucket-unsound, bucket-moved, bucket-room, bucket-behind}
+use Rattle.dict_rehash.proofs.Stepping.{old-counted, bucket-unsound}
 use Rattle.dict_rehash.proofs.rehash.move_bucket.Statement.{statement}
 use Rattle.dict_rehash.proofs.rehash.move_bucket.Tie as tie
-
-move-chain-requires : tie.Need-move-chain-requires
-move-chain-requires c κs = ((search target-legal, search target-fits), search chain-of)
-
-add-next : tie.Need-add-next
-add-next c = search bucket-behind
 
 returns : tie.Need-returns
 unfolding stepRoom
 returns c = (search bucket-unsound, tt)
-
-returns-2 : tie.Need-returns-2
-returns-2 c = (search bucket-moved, search bucket-room)
 
 pub move-bucket-spec : {M : Type 1} → statement M
 move-bucket-spec =
@@ -28,13 +19,10 @@ move-bucket-spec =
     (λ c κs. search needs)
     (λ c. search needs)
     (λ c. search needs)
-    move-chain-requires
-    (λ c. search needs)
-    (λ c. search needs)
-    add-next
+    (λ c κs. (search needs, (search needs, search old-counted)))
     (λ c. search needs)
     returns
     (λ c. search needs)
     (λ c. search needs)
     (λ c. search needs)
-    returns-2)
+    (λ c. search needs))

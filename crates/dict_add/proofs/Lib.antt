@@ -1,4 +1,3 @@
--- What the steps of add come to in numbers, and from there to the definition: with no rehash, and during one.
-mod Pushing
+-- What an add comes to, from the functions of numbers to the definition: with no rehash, and during one.
 mod Adding
 mod During

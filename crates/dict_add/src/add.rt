@@ -2,19 +2,18 @@
 // lengths, then whether a rehash is under way, then which buffer is current. With no rehash there are functions of numbers below
 // that. During one a step comes first ("The step that comes first"), unless safe iterators hold it up, and all that can refuse
 // is asked before it; `add_during` has two callers, and so stays a call of its own, off the quick path.
-use add_stepping::entry::one_more;
-use add_stepping::entry::push_entry;
-use add_stepping::moving::Taken;
-use add_stepping::moving::add_moving;
 use dict_rehash::rehash::state_after;
-use memory::entry::link_of;
+use during_rehash::during::during;
+use during_rehash::entry::one_more;
+use during_rehash::moving::Purpose;
+use during_rehash::moving::Taken;
+use during_rehash::push::Push;
+use during_rehash::push::push_found;
 use memory::state::is_sound_lent;
 use model::AddAnswer;
 use model::Error;
 use model::State;
-use search::found::Found;
 use search::found::entry_in;
-use search::found::entry_in_both;
 ghost use mathlib.Core.Path.{_≡_};
 ghost use mathlib.Core.Bool.{true, false};
 ghost use Prim.Native.Nat.{_≤_};
@@ -26,74 +25,9 @@ ghost use Rattle.model.proofs.Soundness.{Sound, Counted};
 ghost use Rattle.memory.specs.Lent.{soundLent};
 ghost use Rattle.search.specs.Tables.{searchedIn, Readable};
 ghost use Rattle.search.specs.Found.{foundOf};
-ghost use Rattle.add_stepping.specs.Moving.{takenAnswer, takenRoom, Comes};
-ghost use Rattle.dict_add.specs.Push.{pushFree, pushFound, pushAnswer, takenOf};
-ghost use Rattle.dict_add.specs.Push.Left.{left};
-ghost use Rattle.dict_add.specs.During.{moving};
-
-// What happened to the buffers, in numbers: the public call makes the answer of it.
-enum Push {
-    Refused(Error),
-    // The first free entry is taken, and this is the free list's next one.
-    Done(u32),
-}
-
-// The key is on no chain: take the first free entry. Only it and its link are read of the free list, and nothing is
-// written before the last test.
-fn push_free(
-    buckets: &mut [u32],
-    entries: &mut [u32],
-    size: u32,
-    capacity: u32,
-    held: u32,
-    free: u32,
-    key: u32,
-    value: u32,
-) -> Push
-    requires { ⌜ Readable size (length (now buckets)) capacity (length (now entries)) ⌝ }
-    requires { ⌜ free ≤ capacity ⌝ }
-    ensures { λ r. ⌜ left r (now (buckets .exit)) (now (entries .exit))
-        ≡ pushFree (now (buckets .entry)) (now (entries .entry)) size capacity held free key value ⌝ }
-{
-    if held == capacity {
-        return Push::Refused(Error::Full);
-    }
-    if free == 0 {
-        return Push::Refused(Error::Damaged);
-    }
-    let next = link_of(entries, free);
-    if next <= capacity {
-        push_entry(buckets, entries, size, free, key, value);
-        Push::Done(next)
-    } else {
-        Push::Refused(Error::Damaged)
-    }
-}
-
-// What the search found decides.
-fn push_found(
-    buckets: &mut [u32],
-    entries: &mut [u32],
-    size: u32,
-    capacity: u32,
-    held: u32,
-    free: u32,
-    key: u32,
-    value: u32,
-    at: Found,
-) -> Push
-    requires { ⌜ Readable size (length (now buckets)) capacity (length (now entries)) ⌝ }
-    requires { ⌜ free ≤ capacity ⌝ }
-    ensures { λ r. ⌜ left r (now (buckets .exit)) (now (entries .exit))
-        ≡ pushFound (now (buckets .entry)) (now (entries .entry))
-        (pushFree (now (buckets .entry)) (now (entries .entry)) size capacity held free key value) at ⌝ }
-{
-    match at {
-        Found::Damaged => Push::Refused(Error::Damaged),
-        Found::Absent => push_free(buckets, entries, size, capacity, held, free, key, value),
-        Found::At(_) => Push::Refused(Error::Present),
-    }
-}
+ghost use Rattle.during_rehash.specs.Moving.{takenAnswer, takenRoom};
+ghost use Rattle.during_rehash.specs.Push.{pushFree, pushFound, pushAnswer};
+ghost use Rattle.during_rehash.specs.Push.Left.{left};
 
 // Into the only table.
 fn push_one(
@@ -167,103 +101,6 @@ fn answer_of(s: State, pushed: Push) -> AddAnswer
     }
 }
 
-// While safe iterators hold up the rehash: the key is looked for in both tables as they are, and the entry goes into the new one.
-fn push_paused(
-    current: &[u32],
-    other: &mut [u32],
-    entries: &mut [u32],
-    s: State,
-    key: u32,
-    value: u32,
-) -> Push
-    requires { ⌜ Sound s (length (now current)) (length (now other)) (length (now entries)) ⌝ }
-    requires { ⌜ s .rehashing ≡ true ⌝ }
-    ensures { λ r. ⌜ after (pushAnswer s r) (now (current .entry)) (now (other .exit)) (now (entries .exit))
-        ≡ calls.added s (now (current .entry)) (now (other .entry)) (now (entries .entry)) key value
-        (calls.lookup s (now (current .entry)) (now (other .entry)) (now (entries .entry)) key) ⌝ }
-{
-    let at = entry_in_both(
-        current,
-        other,
-        entries,
-        s.capacity,
-        s.old_used,
-        s.new_used,
-        s.old_size,
-        s.new_size,
-        key,
-    );
-    let held = s.old_used + s.new_used;
-    push_found(
-        other,
-        entries,
-        s.new_size,
-        s.capacity,
-        held,
-        s.free_head,
-        key,
-        value,
-        at,
-    )
-}
-
-fn taken_of(pushed: Push) -> Taken
-    ensures { λ r. ⌜ r ≡ takenOf pushed ⌝ }
-{
-    match pushed {
-        Push::Refused(e) => Taken::Refused(e),
-        Push::Done(free) => Taken::Pushed(free),
-    }
-}
-
-// On the current and the other bucket buffer: with a step first, unless safe iterators hold it up. It is given the state's numbers
-// and answers numbers: as a function with two callers it would else hand the state over, and back, through memory.
-fn add_during(
-    current: &mut [u32],
-    other: &mut [u32],
-    entries: &mut [u32],
-    second_is_current: bool,
-    old_size: u32,
-    new_size: u32,
-    old_used: u32,
-    new_used: u32,
-    rehash_index: u32,
-    free_head: u32,
-    capacity: u32,
-    resize_allowed: bool,
-    safe_iterators: u32,
-    key: u32,
-    value: u32,
-) -> Taken
-    requires { ⌜ Sound
-        (moving «second_is_current» «old_size» «new_size» «old_used» «new_used» «rehash_index» «free_head» capacity «resize_allowed» «safe_iterators»)
-        (length (now current)) (length (now other)) (length (now entries)) ⌝ }
-    ensures { λ r. ⌜ Comes
-        (moving «second_is_current» «old_size» «new_size» «old_used» «new_used» «rehash_index» «free_head» capacity «resize_allowed» «safe_iterators»)
-        (now (current .entry)) (now (other .entry)) (now (entries .entry)) key value r
-        (now (current .exit)) (now (other .exit)) (now (entries .exit)) ⌝ }
-{
-    let s = State {
-        second_is_current,
-        old_size,
-        new_size,
-        old_used,
-        new_used,
-        rehashing: true,
-        rehash_index,
-        free_head,
-        capacity,
-        resize_allowed,
-        safe_iterators,
-    };
-    if safe_iterators == 0 {
-        add_moving(current, other, entries, s, key, value)
-    } else {
-        let pushed = push_paused(current, other, entries, s, key, value);
-        taken_of(pushed)
-    }
-}
-
 // The flag says which lent buffer is the current one.
 fn add_rehashing(
     first: &mut [u32],
@@ -280,7 +117,7 @@ fn add_rehashing(
     ensures { λ r. ⌜ takenRoom s r ⌝ }
 {
     if s.second_is_current {
-        add_during(
+        during(
             second,
             first,
             entries,
@@ -295,10 +132,10 @@ fn add_rehashing(
             s.resize_allowed,
             s.safe_iterators,
             key,
-            value,
+            Purpose::Add(value),
         )
     } else {
-        add_during(
+        during(
             first,
             second,
             entries,
@@ -313,7 +150,7 @@ fn add_rehashing(
             s.resize_allowed,
             s.safe_iterators,
             key,
-            value,
+            Purpose::Add(value),
         )
     }
 }

@@ -1,7 +1,8 @@
 -- `dict_add::add::add_rehashing` meets its contract: the flag says which lent buffer is current.
 -- Assumes nothing.
 use borrow.Author.Needs.{needs}
-use Rattle.dict_add.proofs.During.{sound-first, sound-second, moving-first, moving-second, moving-room}
+use Rattle.during_rehash.proofs.Numbered.{sound-first, sound-second}
+use Rattle.dict_add.proofs.During.{moving-first, moving-second, moving-room}
 use Rattle.dict_add.proofs.add.add_rehashing.Statement.{statement}
 use Rattle.dict_add.proofs.add.add_rehashing.Tie as tie
 

@@ -1,7 +1,7 @@
 -- `dict_add::add::answer_taken` meets its contract: each way out is a case of what is meant.
 -- Assumes nothing.
 use borrow.Author.Needs.{needs}
-use Rattle.add_stepping.proofs.AddingAfter.{counts-then}
+use Rattle.during_rehash.proofs.AddingAfter.{counts-then}
 use Rattle.dict_add.proofs.During.{taken-refused, taken-pushed, taken-stepped, room-old, room-new}
 use Rattle.dict_add.proofs.add.answer_taken.Statement.{statement}
 use Rattle.dict_add.proofs.add.answer_taken.Tie as tie

@@ -1,7 +1,7 @@
 -- `dict_add::add::push_one` meets its contract: the key is looked for in the only table.
 -- Assumes nothing.
 use borrow.Author.Needs.{needs}
-use Rattle.dict_add.proofs.Pushing.{found-one}
+use Rattle.during_rehash.proofs.Pushing.{found-one}
 use Rattle.dict_add.proofs.add.push_one.Statement.{statement}
 use Rattle.dict_add.proofs.add.push_one.Tie as tie
 

@@ -1,73 +1,96 @@
--- Searching a chain for a key, one entry a turn.
+-- Searching a chain for the way to a key's entry, one entry a turn.
 -- Assumes nothing.
-use Prim.Native.Nat.{ℕ, _-_}
+use Prim.Native.Nat.{ℕ, zero, suc, _-_}
 use mathlib.Core.Path.{_≡_, refl, sym, ap, _∙_}
-use mathlib.Core.Bool.{Bool, true, false, _||_}
-use mathlib.Core.List.{List, _∷_}
+use mathlib.Core.Bool.{Bool, true, false, _||_, _&&_, cond}
+use mathlib.Core.List.{List, [], _∷_}
 use mathlib.Core.Option.{Option, none, some, Option·map}
-use lib.Dec.{ltb, eqb}
-use borrow.Author.Tests.{eq-eqb, ne-eqb}
+use lib.Dec.{ltb, eqb, eqb·suc-zero}
 use Rattle.model.specs.declared.Table.{Table}
 use Rattle.model.specs.declared.Lookup.{Lookup}
 use Rattle.model.specs.Memory.{linkOf, keyOf, chain}
 use Rattle.model.specs.Calls.{searched, firstWith}
 use Rattle.model.proofs.Chains.{chain-end, chain-bad, chain-stray, chain-good}
-use Rattle.memory.specs.declared.chain.ChainLength.{ChainLength}
-use Rattle.memory.specs.Length.{lengthOf}
-use Rattle.memory.proofs.Counted.{counted, uncounted}
+
+-- what comes of the chain from here: the entry found so far, or where that is 0 the first one with the key
+pub resumed : List ℕ → ℕ → Table → (last before entry : ℕ) → Option (List ℕ) → Lookup
+resumed entries key table last before zero o = searched entries key table last o
+resumed entries key table last before (suc n) none = Lookup.Damaged
+resumed entries key table last before (suc n) (some ns) = Lookup.At table before (suc n)
 
 -- the search from here is the search from the head
-pub record Searching (test : ℕ → Bool) (entries : List ℕ) (capacity budget head key : ℕ) (table : Table) (at before left : ℕ) : Type 0 where
-  pub same : searched entries key table before (chain test entries capacity left at)
+pub record Searching (test : ℕ → Bool) (entries : List ℕ) (capacity budget head key : ℕ) (table : Table)
+    (at last before entry left : ℕ) : Type 0 where
+  pub same : resumed entries key table last before entry (chain test entries capacity left at)
       ≡ searched entries key table 0 (chain test entries capacity budget head)
 
-module _ (entries : List ℕ) (key : ℕ) (table : Table) (before at : ℕ) where
-  passed : (o : Option (List ℕ)) → (keyOf entries at ≡ key → ⊥)
-      → searched entries key table at o ≡ searched entries key table before (Option·map (λ ns. at ∷ ns) o)
-  unfolding searched firstWith
-  passed none f = refl
-  passed (some ns) f = rw (ne-eqb (keyOf entries at) key f)
+module _ (entries : List ℕ) (key : ℕ) (table : Table) (last before : ℕ) where
+  resumed-none : (entry : ℕ) → resumed entries key table last before entry none ≡ Lookup.Damaged
+  unfolding resumed searched
+  resumed-none zero = refl
+  resumed-none (suc n) = refl
+
+  resumed-end : (entry : ℕ) → (entry ≡ 0 → ⊥)
+      → Lookup.At table before entry ≡ resumed entries key table last before entry (some [])
+  unfolding resumed
+  resumed-end zero f = absurd (f refl)
+  resumed-end (suc n) f = refl
+
+  -- one entry more, by whether it is the first with the key
+  resumed-one : (at entry : ℕ) (t : Bool) (o : Option (List ℕ)) → (at ≡ 0 → ⊥) → eqb (keyOf entries at) key ≡ t
+      → resumed entries key table at (cond (eqb entry 0 && t) last before) (cond (eqb entry 0 && t) at entry) o
+      ≡ resumed entries key table last before entry (Option·map (λ ns. at ∷ ns) o)
+  unfolding resumed searched firstWith
+  resumed-one zero entry t o f e = absurd (f refl)
+  resumed-one (suc at) (suc n) t none f e = rw eqb·suc-zero
+  resumed-one (suc at) (suc n) t (some ns) f e = rw eqb·suc-zero
+  resumed-one (suc at) zero true none f e = refl
+  resumed-one (suc at) zero true (some ns) f e = rw e
+  resumed-one (suc at) zero false none f e = refl
+  resumed-one (suc at) zero false (some ns) f e = rw e
 
 module _ (test : ℕ → Bool) (entries : List ℕ) (capacity budget head key : ℕ) (table : Table) where
-  pub searching-start : Searching test entries capacity budget head key table head 0 budget
+  pub searching-start : Searching test entries capacity budget head key table head 0 0 0 budget
+  unfolding resumed
   searching-start = record { same = refl }
 
-  module _ (at before left : ℕ) (h : Searching test entries capacity budget head key table at before left) where
-    pub searching-end : at ≡ 0 → Lookup.Absent ≡ searched entries key table 0 (chain test entries capacity budget head)
-    unfolding searched firstWith
-    searching-end e = rw (chain-end test entries capacity left at e) at (h .same)
+  module _ (at last before entry left : ℕ)
+      (h : Searching test entries capacity budget head key table at last before entry left) where
+    damaged : chain test entries capacity left at ≡ none
+        → Lookup.Damaged ≡ searched entries key table 0 (chain test entries capacity budget head)
+    damaged e = sym (resumed-none entries key table last before entry) ∙ (rw e at (h .same))
 
     pub searching-out : (at ≡ 0 → ⊥) → (eqb left 0 || ltb capacity at) ≡ true
         → Lookup.Damaged ≡ searched entries key table 0 (chain test entries capacity budget head)
-    unfolding searched
-    searching-out f t = rw (chain-bad test entries capacity left at f t) at (h .same)
+    searching-out f t = damaged (chain-bad test entries capacity left at f t)
 
     pub searching-stray : (k : ℕ) → (at ≡ 0 → ⊥) → (eqb left 0 || ltb capacity at) ≡ false → k ≡ keyOf entries at
         → test k ≡ false → Lookup.Damaged ≡ searched entries key table 0 (chain test entries capacity budget head)
-    unfolding searched
-    searching-stray k f t e p = rw (chain-stray test entries capacity left at f t (rw e at p)) at (h .same)
+    searching-stray k f t e p = damaged (chain-stray test entries capacity left at f t (rw e at p))
 
-    module _ (f : at ≡ 0 → ⊥) (t : (eqb left 0 || ltb capacity at) ≡ false) (k next : ℕ) (e : k ≡ keyOf entries at)
-        (p : test k ≡ true) (l : next ≡ linkOf entries at) where
-      here : Option·map (λ ns. at ∷ ns) (chain test entries capacity (left - 1) next) ≡ chain test entries capacity left at
-      here = rw l (sym (chain-good test entries capacity left at f t (rw e at p)))
+    pub searching-next : (k next before′ entry′ : ℕ) (first : Bool) → (at ≡ 0 → ⊥) → (eqb left 0 || ltb capacity at) ≡ false
+        → k ≡ keyOf entries at → test k ≡ true → first ≡ (eqb entry 0 && eqb k key) → before′ ≡ cond first last before
+        → entry′ ≡ cond first at entry → next ≡ linkOf entries at
+        → Searching test entries capacity budget head key table next at before′ entry′ (left - 1)
+    searching-next k next before′ entry′ first f t ke p fe be ee ne =
+        record {
+          same =
+              rw (be, ee, fe, ke, ne)
+              (resumed-one entries key table last before at entry (eqb (keyOf entries at) key)
+              (chain test entries capacity (left - 1) (linkOf entries at)) f refl
+              ∙ ap (resumed entries key table last before entry)
+              (sym (chain-good test entries capacity left at f t (rw ke at p)))
+              ∙ h .same);
+        }
 
-      reached : searched entries key table before (Option·map (λ ns. at ∷ ns) (chain test entries capacity (left - 1) next))
-          ≡ searched entries key table 0 (chain test entries capacity budget head)
-      reached = ap (searched entries key table before) here ∙ h .same
+    module _ (e : at ≡ 0) where
+      ended : resumed entries key table last before entry (some []) ≡ searched entries key table 0 (chain test entries capacity budget head)
+      ended = rw (chain-end test entries capacity left at e) at (h .same)
 
-      module _ (rest : ChainLength) (r : rest ≡ lengthOf (chain test entries capacity (left - 1) next)) where
-        pub searching-hit : (n : ℕ) → k ≡ key → rest ≡ ChainLength.Sound n
-            → Lookup.At table before at ≡ searched entries key table 0 (chain test entries capacity budget head)
-        unfolding searched firstWith
-        searching-hit n same s = rw (counted rest n _ s r .0, eq-eqb (keyOf entries at) key (sym e ∙ same)) at reached
+      pub searching-absent : entry ≡ 0 → Lookup.Absent ≡ searched entries key table 0 (chain test entries capacity budget head)
+      unfolding resumed searched firstWith
+      searching-absent z = rw z at ended
 
-        pub searching-hit-bad : rest ≡ ChainLength.Unsound
-            → Lookup.Damaged ≡ searched entries key table 0 (chain test entries capacity budget head)
-        unfolding searched
-        searching-hit-bad s = rw (uncounted rest _ s r) at reached
-
-      pub searching-next : (k ≡ key → ⊥)
-          → Searching test entries capacity budget head key table next at (left - 1)
-      searching-next g =
-          record { same = passed entries key table before at (chain test entries capacity (left - 1) next) (λ same. g (e ∙ same)) ∙ reached }
+      pub searching-found : (entry ≡ 0 → ⊥)
+          → Lookup.At table before entry ≡ searched entries key table 0 (chain test entries capacity budget head)
+      searching-found f = resumed-end entries key table last before entry f ∙ ended

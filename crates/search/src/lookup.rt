@@ -1,6 +1,4 @@
 // The way to the entry that holds a key: for delete, which takes the entry off its chain.
-use memory::chain::ChainLength;
-use memory::chain::chain_length;
 use memory::entry::key_of;
 use memory::entry::link_of;
 use memory::state::bucket_index;
@@ -8,7 +6,7 @@ use model::Lookup;
 use model::State;
 use model::Table;
 ghost use mathlib.Core.Path.{_≡_};
-ghost use mathlib.Core.Bool.{true};
+ghost use mathlib.Core.Bool.{true, cond};
 ghost use Prim.Native.Nat.{_*_, _≤_};
 ghost use lib.ListN.{length};
 ghost use Rattle.model.specs.Limits.{legalSize};
@@ -17,8 +15,14 @@ ghost use Rattle.model.specs.Calls.{searched, both, lookup};
 ghost use Rattle.model.proofs.Soundness.{Sound};
 ghost use Rattle.search.specs.Tables.{searchedIn, Readable};
 
-// The first entry with the key, on the chain of bucket b in a table of that size. The rest of the chain is read too: it must
-// be sound to its end.
+fn choose(flag: bool, yes: u32, no: u32) -> u32
+    ensures { λ r. ⌜ r ≡ cond flag yes no ⌝ }
+{
+    if flag { yes } else { no }
+}
+
+// The first entry with the key, on the chain of bucket b in a table of that size. One loop reads the whole chain, which must
+// be sound to its end, and keeps that entry and the one before it. 0 is none.
 fn search_chain(
     entries: &[u32],
     capacity: u32,
@@ -35,7 +39,9 @@ fn search_chain(
         (chain (inBucket size b) (now (entries .entry)) capacity budget head) ⌝ }
 {
     let mut at = head;
+    let mut last = 0;
     let mut before = 0;
+    let mut entry = 0;
     let mut left = budget;
     while at != 0 {
         if (left == 0) | (capacity < at) {
@@ -45,27 +51,26 @@ fn search_chain(
         if bucket_index(met, size) != b {
             return Lookup::Damaged;
         }
-        let next = link_of(entries, at);
+        let first = (entry == 0) & (met == key);
+        before = choose(first, last, before);
+        entry = choose(first, at, entry);
+        last = at;
+        at = link_of(entries, at);
         left -= 1;
-        if met == key {
-            let rest = chain_length(entries, capacity, left, next, size, b);
-            return match rest {
-                ChainLength::Unsound => Lookup::Damaged,
-                ChainLength::Sound(_) => Lookup::At {
-                    table,
-                    before,
-                    entry: at,
-                },
-            };
-        }
-        before = at;
-        at = next;
     }
-    Lookup::Absent
+    if entry == 0 {
+        Lookup::Absent
+    } else {
+        Lookup::At {
+            table,
+            before,
+            entry,
+        }
+    }
 }
 
 // The key in one table.
-fn lookup_in(
+pub fn lookup_in(
     table: Table,
     entries: &[u32],
     capacity: u32,

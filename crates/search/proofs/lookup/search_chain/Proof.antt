@@ -4,16 +4,16 @@ use borrow.Author.Needs.{needs}
 use native.Mathlib.Omega.{arith}
 use Rattle.model.specs.Memory.{inBucket}
 use Rattle.model.proofs.Chains.{budget-left, in-range, bucket-same, bucket-other}
-use Rattle.search.proofs.Searching.{Searching, searching-start, searching-end, searching-out, searching-stray, searching-hit, searching-hit-bad, searching-next}
+use Rattle.search.proofs.Searching.{Searching, searching-start, searching-out, searching-stray, searching-next, searching-absent, searching-found}
 use Rattle.search.proofs.lookup.search_chain.Statement.{statement}
 use Rattle.search.proofs.lookup.search_chain.Tie as tie
 
 abbrev Inv-loop : tie.InvT-loop
-Inv-loop entries capacity budget head size b key table at₀ before₀ left₀ at before left =
-    Searching (inBucket size b) entries capacity budget head key table at before left
+Inv-loop entries capacity budget head size b key table at₀ last₀ before₀ entry₀ left₀ at last before entry left =
+    Searching (inBucket size b) entries capacity budget head key table at last before entry left
 
 abbrev μ-loop : tie.MeasureT-loop
-μ-loop entries capacity budget head size b key table at₀ before₀ left₀ at before left = left
+μ-loop entries capacity budget head size b key table at₀ last₀ before₀ entry₀ left₀ at last before entry left = left
 
 returns-2 : tie.Need-returns-2 Inv-loop μ-loop
 returns-2 c = search (searching-stray, bucket-other)
@@ -32,13 +32,11 @@ search-chain-spec =
     (λ c κs. omega (arith, in-range))
     (λ c κs. search needs)
     returns-2
+    (λ c κs. search needs)
+    (λ c κs. search needs)
     (λ c κs. omega (arith, in-range))
     (λ c. omega (arith, budget-left))
-    (λ c κs. search needs)
-    (λ c. search needs)
-    (λ c. search needs)
-    (λ c. search (searching-hit-bad, bucket-same))
-    (λ c. search (searching-hit, bucket-same))
     (λ c. omega (arith, budget-left))
     loop-again
-    (λ c. search searching-end))
+    (λ c. search searching-absent)
+    (λ c. search searching-found))

@@ -1,14 +1,12 @@
 // Delete a held key (SPECIFICATION, "Delete"). The state is tested on the lent lengths, then whether a step is due: during a
-// rehash that no safe iterator holds up one comes first. Then the flag is read once, and below that every function knows the
-// current and the other buffer.
+// rehash that no safe iterator holds up one comes first. With no rehash under way the key goes from the only table, by numbers
+// (`remove`). During one the flag is read once, and below that every function knows the current and the other buffer.
+use crate::remove::delete_resting;
+use crate::remove::free_entry;
 use after_step::course::Course;
 use after_step::course::foresee_lent;
 use after_step::course::step_lent;
 use after_step::presence::Presence;
-use memory::entry::link_of;
-use memory::entry::set_entry;
-use memory::entry::set_link;
-use memory::state::bucket_index;
 use memory::state::is_sound_lent;
 use model::DeleteAnswer;
 use model::Error;
@@ -19,57 +17,15 @@ use model::Table;
 use search::lookup::look_up;
 ghost use mathlib.Core.Path.{_≡_};
 ghost use mathlib.Core.Bool.{true};
-ghost use Prim.Native.Nat.{_*_, _≤_, _<_};
 ghost use lib.ListN.{length};
-ghost use Rattle.model.specs.Keys.{bucketOf};
-ghost use Rattle.model.specs.Memory.{setEntry};
 ghost use Rattle.model.specs.Calls as calls;
 ghost use Rattle.model.specs.Calls.After.{after};
 ghost use Rattle.model.proofs.Soundness.{Sound};
 ghost use Rattle.model.proofs.Lookups.{Located};
 ghost use Rattle.memory.specs.Lent.{soundLent};
-ghost use Rattle.search.specs.Tables.{Readable};
 ghost use Rattle.after_step.specs.declared.presence.Presence.the-variants as told;
 ghost use Rattle.after_step.specs.Planned.{Planned};
 ghost use Rattle.after_step.specs.Course.{GoesLent};
-
-// Entry n off its chain, where it stands behind another entry or at the head of the key's bucket.
-fn unlink(buckets: &mut [u32], entries: &mut [u32], size: u32, key: u32, before: u32, n: u32)
-    requires { ⌜ Readable size (length (now buckets)) n (length (now entries)) ⌝ }
-    requires { ⌜ (0 < n) × (before * 3 ≤ length (now entries)) ⌝ }
-    ensures { λ _. ⌜ now (buckets .exit)
-        ≡ calls.unlinkBucket (now (buckets .entry)) (now (entries .entry)) (bucketOf key size) before n ⌝ }
-    ensures { λ _. ⌜ now (entries .exit) ≡ calls.unlinkEntry (now (entries .entry)) before n ⌝ }
-{
-    let next = link_of(entries, n);
-    if before == 0 {
-        let b = bucket_index(key, size);
-        buckets[b] = next;
-    } else {
-        set_link(entries, before, next);
-    }
-}
-
-// Entry n off its chain and onto the free list.
-fn free_entry(
-    buckets: &mut [u32],
-    entries: &mut [u32],
-    size: u32,
-    key: u32,
-    before: u32,
-    n: u32,
-    free: u32,
-)
-    requires { ⌜ Readable size (length (now buckets)) n (length (now entries)) ⌝ }
-    requires { ⌜ (0 < n) × (before * 3 ≤ length (now entries)) ⌝ }
-    ensures { λ _. ⌜ now (buckets .exit)
-        ≡ calls.unlinkBucket (now (buckets .entry)) (now (entries .entry)) (bucketOf key size) before n ⌝ }
-    ensures { λ _. ⌜ now (entries .exit)
-        ≡ setEntry (calls.unlinkEntry (now (entries .entry)) before n) n free 0 0 ⌝ }
-{
-    unlink(buckets, entries, size, key, before, n);
-    set_entry(entries, n, free, 0, 0);
-}
 
 // The entry that the lookup found, out of the table that it is in.
 fn remove_at(
@@ -204,8 +160,10 @@ pub fn delete(
     if is_sound_lent(first.len(), second.len(), entries.len(), s) {
         if s.rehashing & (s.safe_iterators == 0) {
             delete_after_step(first, second, entries, s, key)
-        } else {
+        } else if s.rehashing {
             delete_alone(first, second, entries, s, key)
+        } else {
+            delete_resting(first, second, entries, s, key)
         }
     } else {
         DeleteAnswer::Refused(Error::BadState)

@@ -2,3 +2,4 @@
 // exactly its definition in model, for any numbers and any memory.
 
 pub mod delete;
+pub mod remove;

@@ -1,9 +1,9 @@
--- `dict_delete::delete::free_entry` meets its contract: the entry off its chain heads the free list.
+-- `dict_delete::remove::free_entry` meets its contract: the entry off its chain heads the free list.
 -- Assumes nothing.
 use borrow.Author.Needs.{needs}
 use Rattle.dict_delete.proofs.Removing.{freed}
-use Rattle.dict_delete.proofs.delete.free_entry.Statement.{statement}
-use Rattle.dict_delete.proofs.delete.free_entry.Tie as tie
+use Rattle.dict_delete.proofs.remove.free_entry.Statement.{statement}
+use Rattle.dict_delete.proofs.remove.free_entry.Tie as tie
 
 pub free-entry-spec : {M : Type 1} → statement M
 free-entry-spec =

@@ -1,0 +1,2 @@
+-- What the functions below the public call hand up and leave with no rehash under way, of which its answer is made.
+pub mod Removal

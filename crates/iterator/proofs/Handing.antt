@@ -1,21 +1,24 @@
 -- What is handed out: of the last live table, from the search in it; and from the live tables to the call.
 -- Assumes nothing.
 use Prim.Native.Nat.{ℕ, _+_, _-_, _≤_, _<_}
-use mathlib.Core.Path.{_≡_, sym, ap, _∙_}
+use mathlib.Core.Path.{_≡_, refl, sym, ap, _∙_}
 use mathlib.Core.Bool.{Bool, true, false}
 use mathlib.Core.List.{List}
 use mathlib.Core.Option.{Option, none, some, Option·map}
 use native.Mathlib.Numerals.{add-one}
 use native.Mathlib.Omega.{arith}
-use lib.ListN.{getD}
+use lib.ListN.{length, getD}
 use borrow.Author.Tests.{lt-ltb, le-ltb}
 use Rattle.model.specs.declared.State.{State}
 use Rattle.model.specs.declared.Table.{Table}
+use Rattle.model.specs.declared.Error.{Error}
 use Rattle.model.specs.declared.ScanAnswer.{ScanAnswer}
 use Rattle.model.specs.Memory.{sizeOf, usedOf, bucketsOf, Place, headAt, budgetAt, belongs, chainAt, chain, inBucket}
 use Rattle.model.specs.Walk.{Tables, tablesBy, tablesOf, AfterScan, scanned}
-use Rattle.model.specs.Iterators.{bucketAt, endPlace, firstFrom, firstPlace, filled, handed}
+use Rattle.model.specs.Iterators.{bucketAt, endPlace, firstFrom, firstPlace, filled, handed, iterate}
 use Rattle.model.proofs.FirstPlace.{first-agree}
+use Rattle.memory.specs.Lent.{soundLent}
+use Rattle.memory.proofs.Orientation.{read-first, read-second, reading-refused, reading-sound}
 use Rattle.iterator.specs.Tables.{filledIn, firstFilled, below, handedLast}
 use Rattle.iterator.proofs.Searching.{orElse, first-shifted, first-tables}
 
@@ -68,7 +71,7 @@ module _ (s : State) (current other entries list : List ℕ) (t : Table) (base :
       handed-last _
       ∙ ap (handed s current other entries list) (sym (first-shifted _ _ base from _ filled-last))
 
--- The call: with one live table it is the last, with two the new one is, once the old one has no filled bucket left.
+-- With one live table it is the last, with two the new one is, once the old one has no filled bucket left.
 
 module _ (s : State) (current other entries list : List ℕ) (place : ℕ) (a : AfterScan) where
   module _ (e : s .rehashing ≡ false) where
@@ -144,3 +147,24 @@ module _ (s : State) (current other entries list : List ℕ) (place : ℕ) (a : 
       new-handed l from f h =
           rw (in-both, not-found (s .«old_size») b _ l search, ← f)
           (h ∙ last-table s current other entries list Table.New (s .«old_size») new-at both-end from)
+
+-- The call on the lent buffers.
+
+module _ (s : State) (first second entries list : List ℕ) (place : ℕ) where
+  pub iterate-bad-state : (t : Bool) → t ≡ soundLent (length first) (length second) (length entries) s → t ≡ false
+      → AfterScan.after (ScanAnswer.Refused Error.BadState) list ≡ iterate s first second entries list place
+  unfolding iterate
+  iterate-bad-state t e h = reading-refused s first second entries t e _ _ h
+
+  module _ (h : soundLent (length first) (length second) (length entries) s ≡ true) (a : AfterScan) where
+    pub iterate-first : s .«second_is_current» ≡ false
+        → a ≡ handed s first second entries list (firstPlace (filled s first second) (tablesOf s) place)
+        → a ≡ iterate s first second entries list place
+    unfolding iterate
+    iterate-first f e = reading-sound s first second entries true (sym h) _ _ a refl (read-first _ _ first second a f e)
+
+    pub iterate-second : s .«second_is_current» ≡ true
+        → a ≡ handed s second first entries list (firstPlace (filled s second first) (tablesOf s) place)
+        → a ≡ iterate s first second entries list place
+    unfolding iterate
+    iterate-second f e = reading-sound s first second entries true (sym h) _ _ a refl (read-second _ _ first second a f e)

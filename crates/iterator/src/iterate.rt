@@ -1,20 +1,20 @@
-// The next bucket of an iterator, whatever its kind: the first filled one from a place on.
-use memory::state::is_sound;
+// The next bucket of an iterator, whatever its kind: the first filled one from a place on. The state is tested on the lent
+// lengths, then whether a rehash is under way, then which buffer is current: so with no rehash no function that takes the
+// state has two callers, and the state stays out of memory.
+use memory::state::is_sound_lent;
 use model::Error;
 use model::ScanAnswer;
 use model::State;
 use scan_group::hand_out::hand_out;
 ghost use mathlib.Core.Path.{_≡_};
-ghost use mathlib.Core.Bool.{true};
+ghost use mathlib.Core.Bool.{true, false};
 ghost use Prim.Native.Nat.{_-_, _≤_};
 ghost use lib.ListN.{length};
-ghost use Rattle.model.specs.declared.Error.the-variants as why;
-ghost use Rattle.model.specs.declared.ScanAnswer.the-variants as answer;
-ghost use Rattle.model.specs.Calls.{checked};
 ghost use Rattle.model.specs.Walk.{tablesOf};
 ghost use Rattle.model.specs.Walk.AfterScan.{after};
 ghost use Rattle.model.specs.Iterators as iterators;
 ghost use Rattle.model.proofs.Soundness.{Sound};
+ghost use Rattle.memory.specs.Lent.{soundLent};
 ghost use Rattle.iterator.specs.Tables.{LastTable, firstFilled, below, handedLast};
 
 // The first filled bucket of a table, from one on; a number that is not below the size where there is none.
@@ -116,37 +116,63 @@ fn iterate_rehashing(
     }
 }
 
-fn iterate_in(
-    current: &[u32],
-    other: &[u32],
+// Both tables are live.
+fn iterate_both(
+    first: &[u32],
+    second: &[u32],
     entries: &[u32],
     list: &mut [u32],
     s: State,
     place: u32,
 ) -> ScanAnswer
+    requires { ⌜ soundLent (length (now first)) (length (now second)) (length (now entries)) s ≡ true ⌝ }
+    requires { ⌜ s .rehashing ≡ true ⌝ }
     ensures { λ r. ⌜ after r (now (list .exit))
-        ≡ checked s (now (entries .entry)) (λ c o. after (answer.Refused why.BadState) (now (list .entry)))
-        (λ c o. iterators.handed s c o (now (entries .entry)) (now (list .entry))
-        (iterators.firstPlace (iterators.filled s c o) (tablesOf s) place))
-        (now (current .entry)) (now (other .entry)) ⌝ }
+        ≡ iterators.iterate s (now (first .entry)) (now (second .entry)) (now (entries .entry)) (now (list .entry)) place ⌝ }
 {
-    if is_sound(current.len(), other.len(), entries.len(), s) {
-        if s.rehashing {
-            iterate_rehashing(current, other, entries, list, s, place)
-        } else {
-            iterate_last(
-                current,
-                entries,
-                list,
-                s.capacity,
-                s.old_used,
-                s.old_size,
-                0,
-                place,
-            )
-        }
+    if s.second_is_current {
+        iterate_rehashing(second, first, entries, list, s, place)
     } else {
-        ScanAnswer::Refused(Error::BadState)
+        iterate_rehashing(first, second, entries, list, s, place)
+    }
+}
+
+// With no rehash under way the only table is the last.
+fn iterate_only(
+    first: &[u32],
+    second: &[u32],
+    entries: &[u32],
+    list: &mut [u32],
+    s: State,
+    place: u32,
+) -> ScanAnswer
+    requires { ⌜ soundLent (length (now first)) (length (now second)) (length (now entries)) s ≡ true ⌝ }
+    requires { ⌜ s .rehashing ≡ false ⌝ }
+    ensures { λ r. ⌜ after r (now (list .exit))
+        ≡ iterators.iterate s (now (first .entry)) (now (second .entry)) (now (entries .entry)) (now (list .entry)) place ⌝ }
+{
+    if s.second_is_current {
+        iterate_last(
+            second,
+            entries,
+            list,
+            s.capacity,
+            s.old_used,
+            s.old_size,
+            0,
+            place,
+        )
+    } else {
+        iterate_last(
+            first,
+            entries,
+            list,
+            s.capacity,
+            s.old_used,
+            s.old_size,
+            0,
+            place,
+        )
     }
 }
 
@@ -162,9 +188,13 @@ pub fn iterate(
     ensures { λ r. ⌜ after r (now (list .exit))
         ≡ iterators.iterate s (now (first .entry)) (now (second .entry)) (now (entries .entry)) (now (list .entry)) place ⌝ }
 {
-    if s.second_is_current {
-        iterate_in(second, first, entries, list, s, place)
+    if is_sound_lent(first.len(), second.len(), entries.len(), s) {
+        if s.rehashing {
+            iterate_both(first, second, entries, list, s, place)
+        } else {
+            iterate_only(first, second, entries, list, s, place)
+        }
     } else {
-        iterate_in(first, second, entries, list, s, place)
+        ScanAnswer::Refused(Error::BadState)
     }
 }

@@ -33,13 +33,11 @@ use Rattle.dict_rehash.proofs.Due.{due-stepped}
 use Rattle.dict_rehash.proofs.Stepping.{old-linked, chain-of, next-end, next-empty, next-filled, step-finished, step-moved}
 use Rattle.after_step.specs.declared.presence.Presence.{Presence}
 use Rattle.after_step.specs.declared.presence.Survey.{Survey}
-use Rattle.after_step.specs.declared.course.Course.{Course}
 use Rattle.after_step.specs.declared.course.ChainSight.{ChainSight}
-use Rattle.after_step.specs.declared.course.Foresight.{Foresight}
 use Rattle.after_step.specs.Presence.{presenceAfter, presenceThen, entriesAfter}
 use Rattle.after_step.specs.Told.{among, surveyed, foundPresence, tablesThen, Moves}
 use Rattle.after_step.specs.Links.{LinkMoved}
-use Rattle.after_step.specs.Course.{sight, chainSight, GoesChain, Goes, Foreseen, GoesLent, ForeseenLent}
+use Rattle.after_step.specs.Course.{Course, Foresight, sight, chainSight, GoesChain, Goes, Foreseen}
 use Rattle.after_step.proofs.Surveying.{surveyed-none, surveyed-some}
 use Rattle.after_step.proofs.Deciding.{moving-unsound, moving-sound, ahead-end, ahead-empty, step-ended}
 
@@ -233,30 +231,12 @@ module _ (s : State) (first second entries : List ℕ) (h : soundLent (length fi
       ∙ ap (presenceAfter key)
       (writing-sound s first second entries true (sym h) (StepAnswer.Refused Error.BadState) step-on _ refl refl)
 
-  both-ways : s .«second_is_current» ≡ false → s .«second_is_current» ≡ true → ⊥
-  both-ways f g = let z : _≡_ {A = ℕ} 0 1 = cc in omega arith
+  pub told-first : (key : ℕ) (x : Presence) → s .«second_is_current» ≡ false
+      → x ≡ presenceThen key (s .«second_is_current») (stepTaken s first second entries)
+      → x ≡ presenceAfter key (rehashStep s first second entries)
+  told-first key x f e = told-lent key first second (read-first _ step-on first second _ f refl) x e
 
-  module _ (key : ℕ) (r : Foresight) where
-    pub lent-first-foreseen : s .«second_is_current» ≡ false
-        → Foreseen s first second entries key 0 (stepTaken s first second entries) r → ForeseenLent s first second entries key r
-    lent-first-foreseen f k =
-        record {
-          told = told-lent key first second (read-first _ step-on first second _ f refl) (r .presence) (k .told);
-          goes = record { first-current = λ g. k .goes; second-current = λ g. absurd (both-ways f g) };
-        }
-
-    pub lent-second-foreseen : s .«second_is_current» ≡ true
-        → Foreseen s second first entries key 0 (stepTaken s second first entries) r → ForeseenLent s first second entries key r
-    lent-second-foreseen f k =
-        record {
-          told = told-lent key second first (read-second _ step-on first second _ f refl) (r .presence) (k .told);
-          goes = record { first-current = λ g. absurd (both-ways g f); second-current = λ g. k .goes };
-        }
-
-pub lent-first-goes : (s : State) (first second entries : List ℕ) (course : Course) → GoesLent s first second entries course
-    → s .«second_is_current» ≡ false → Goes s first second entries 0 (stepTaken s first second entries) course
-lent-first-goes s first second entries course k f = k .first-current f
-
-pub lent-second-goes : (s : State) (first second entries : List ℕ) (course : Course) → GoesLent s first second entries course
-    → s .«second_is_current» ≡ true → Goes s second first entries 0 (stepTaken s second first entries) course
-lent-second-goes s first second entries course k f = k .second-current f
+  pub told-second : (key : ℕ) (x : Presence) → s .«second_is_current» ≡ true
+      → x ≡ presenceThen key (s .«second_is_current») (stepTaken s second first entries)
+      → x ≡ presenceAfter key (rehashStep s first second entries)
+  told-second key x f e = told-lent key second first (read-second _ step-on first second _ f refl) x e

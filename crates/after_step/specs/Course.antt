@@ -1,20 +1,30 @@
 -- What is known of a step before it is taken: what it does, and what a lookup answers after it.
 use Prim.Native.Nat.{ℕ, _<_}
 use mathlib.Core.Path.{_≡_}
-use mathlib.Core.Bool.{Bool, true, false}
+use mathlib.Core.Bool.{Bool}
 use mathlib.Core.List.{List}
 use Rattle.model.specs.declared.State.{State}
 use Rattle.model.specs.declared.Error.{Error}
 use Rattle.model.specs.declared.StepAnswer.{StepAnswer}
-use Rattle.model.specs.Calls.{After, movedChain, stepTaken, rehashStep}
+use Rattle.model.specs.Calls.{After, movedChain}
 use Rattle.dict_rehash.specs.declared.rehash.Progress.{Progress}
 use Rattle.dict_rehash.specs.Progress.{stepAnswer, oldChain, OldChain}
 use Rattle.after_step.specs.declared.presence.Presence.{Presence}
-use Rattle.after_step.specs.declared.course.Course.{Course}
 use Rattle.after_step.specs.declared.course.ChainSight.{ChainSight}
-use Rattle.after_step.specs.declared.course.Foresight.{Foresight}
-use Rattle.after_step.specs.Presence.{presenceAfter, presenceThen}
+use Rattle.after_step.specs.Presence.{presenceThen}
 use Rattle.after_step.specs.Told.{among}
+
+-- What a step does: it is refused; no chain moves, and this bucket is the next one; or the chain of a bucket moves, with so many
+-- entries, of which one is the entry that was asked for, or none is. (Only damaged memory has a free entry there.)
+pub data Course : Type 0 where
+  Refused : Course
+  Still : ℕ → Course
+  Moving : ℕ → ℕ → Bool → Course
+
+-- with what a lookup answers after it
+pub record Foresight : Type 0 where
+  pub presence : Presence
+  pub course : Course
 
 abbrev pub sight : Presence → Course → Foresight
 sight v c = record { presence = v; course = c }
@@ -44,13 +54,3 @@ Goes s current other entries n a (Course.Moving b count meets) = GoesChain s cur
 pub record Foreseen (s : State) (current other entries : List ℕ) (key n : ℕ) (a : After StepAnswer) (r : Foresight) : Type 0 where
   pub told : r .presence ≡ presenceThen key (s .«second_is_current») a
   pub goes : Goes s current other entries n a (r .course)
-
--- The same on the lent buffers, where no entry is asked for.
-
-pub record GoesLent (s : State) (first second entries : List ℕ) (course : Course) : Type 0 where
-  pub first-current : s .«second_is_current» ≡ false → Goes s first second entries 0 (stepTaken s first second entries) course
-  pub second-current : s .«second_is_current» ≡ true → Goes s second first entries 0 (stepTaken s second first entries) course
-
-pub record ForeseenLent (s : State) (first second entries : List ℕ) (key : ℕ) (r : Foresight) : Type 0 where
-  pub told : r .presence ≡ presenceAfter key (rehashStep s first second entries)
-  pub goes : GoesLent s first second entries (r .course)

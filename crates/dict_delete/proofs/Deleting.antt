@@ -1,7 +1,7 @@
 -- What a delete comes to: alone, and after a step, by what was told of the key.
 -- Assumes nothing.
-use Prim.Native.Nat.{ℕ, _-_}
-use mathlib.Core.Path.{_≡_, refl, sym, ap, _∙_}
+use Prim.Native.Nat.{ℕ, _+_, _-_, _≤_}
+use mathlib.Core.Path.{_≡_, refl, sym, ap, subst, _∙_}
 use mathlib.Core.Bool.{Bool, true, false}
 use mathlib.Core.List.{List}
 use native.Mathlib.Omega.{arith}
@@ -13,16 +13,20 @@ use Rattle.model.specs.declared.Lookup.{Lookup}
 use Rattle.model.specs.declared.DeleteAnswer.{DeleteAnswer}
 use Rattle.model.specs.declared.StepAnswer.{StepAnswer}
 use Rattle.model.specs.Memory.{usedOf}
-use Rattle.model.specs.Calls.{After, changed, recounted, withCount, lookup, held, removed, deleted, deleteAlone, rehashStep, stepDue, isDeleted, delete}
+use Rattle.model.specs.Calls.{After, changed, recounted, withCount, lookup, held, removed, deleted, deleteAlone, advanced, settled, stepDone, stepTaken, rehashStep, stepDue, isDeleted, delete}
 use Rattle.memory.specs.Lent.{soundLent}
+use Rattle.dict_rehash.specs.Progress.{stepAnswer, stepRoom}
 use Rattle.memory.proofs.Orientation.{written-first, written-second, writing-refused, writing-sound}
 use Rattle.search.specs.Tables.{lookupLent}
 use Rattle.after_step.specs.declared.presence.Presence.{Presence}
-use Rattle.after_step.specs.declared.course.Foresight.{Foresight}
-use Rattle.after_step.specs.Presence.{presence, presenceAfter}
-use Rattle.after_step.specs.Planned.{Planned}
-use Rattle.after_step.specs.Course.{ForeseenLent}
-use Rattle.after_step.proofs.StepFirst.{answerOf, answer-by, is-damaged, is-absent, is-held, then-damaged, step-taken, first-alone, first-unsound, first-done, first-refused}
+use Rattle.after_step.specs.Presence.{presence, presenceAfter, presenceThen}
+use Rattle.after_step.proofs.StepFirst.{answerOf, answer-by, is-damaged, is-absent, is-held, StepTaken, step-taken, first-alone, first-unsound, first-done, first-refused}
+use Rattle.after_step.proofs.Courses.{taken-first, taken-second, told-first, told-second}
+use Rattle.during_rehash.specs.declared.moving.Taken.{Taken}
+use Rattle.during_rehash.specs.declared.moving.Purpose.{Purpose}
+use Rattle.during_rehash.specs.Moving.{RefusedFor, Stopped, Ready, Prepared, PreparedIn, Meets}
+use Rattle.during_rehash.proofs.Numbered.{numbered, same-state}
+use Rattle.dict_delete.specs.Prepared.{PreparedLent, SteppedBefore}
 
 -- Alone, on the lent buffers.
 
@@ -110,27 +114,117 @@ module _ (s : State) (first second entries : List ℕ) (key : ℕ) where
         (DeleteAnswer.Refused Error.Absent) h k (λ e. let z : _≡_ {A = ℕ} 0 1 = cc in absurd (omega arith)) refl
         (λ t x y z p o e w. alone-answer t x y z key p ∙ told-absent t (lookupLent t x y z key) (sym d ∙ w))
 
-  module _ (k : Planned s first second entries key Presence.Held) (r : StepAnswer) (x y z : List ℕ)
-      (e : After.after r x y z ≡ rehashStep s first second entries) where
-    -- no step refuses a key that was told to be held
-    pub delete-refused : (error : Error) (a : After DeleteAnswer) → r ≡ StepAnswer.Refused error → a ≡ delete s first second entries key
-    delete-refused error a d =
-        let none = then-damaged s first second entries key Presence.Held k r x y z e error d in
-        let z : _≡_ {A = ℕ} 0 1 = cc in
-        absurd (omega arith)
+  -- refused for what was told
+  delete-refused-for : (v : Presence) → v ≡ presenceAfter key (rehashStep s first second entries) → (error : Error)
+      → RefusedFor v error → soundLent (length first) (length second) (length entries) s ≡ true → stepDue s ≡ true
+      → After.after (DeleteAnswer.Refused error) first second entries ≡ delete s first second entries key
+  unfolding RefusedFor
+  delete-refused-for Presence.Damaged k error e h f = rw e (delete-damaged h f Presence.Damaged k refl)
+  delete-refused-for Presence.Absent k error e h f = rw e (delete-absent h f Presence.Absent k refl)
+  delete-refused-for Presence.Held k error e h f = absurd e
 
-    pub delete-held : (count : ℕ) (t : State) (a : DeleteAnswer) (p q w : List ℕ) → r ≡ StepAnswer.Stepped count t
-        → After.after a p q w ≡ deleteAlone t x y z key → After.after a p q w ≡ delete s first second entries key
-    unfolding delete answerOf
-    delete-held count t a p q w d g =
-        let then = step-taken s first second entries key Presence.Held k r x y z e count t d in
-        first-done DeleteAnswer.Refused isDeleted (λ t x y z. deleteAlone t x y z key) s first second entries (k .due) count
-        t x y z a p q w (then .step) g
-        (ap isDeleted (ap answerOf g ∙ alone-answer t x y z key (then .sound))
-        ∙ told-held t (lookupLent t x y z key) (then .told))
+  -- the state that the step leaves
 
--- (what was told stands first: a search that knows it compares less)
-pub planned-of : (s : State) (first second entries : List ℕ) (key : ℕ) (f : Foresight) → f .presence ≡ Presence.Held
-    → ForeseenLent s first second entries key f → stepDue s ≡ true
-    → soundLent (length first) (length second) (length entries) s ≡ true → Planned s first second entries key Presence.Held
-planned-of s first second entries key f d k e h = record { sound = h; due = e; told = sym d ∙ k .told }
+  module _ (r : Taken) (x y z : List ℕ) (k : PreparedLent s first second entries key r x y z) where
+    pub before-stopped : (error : Error) → r ≡ Taken.Refused error
+        → SteppedBefore s first second entries key (StepAnswer.Refused error) x y z
+    unfolding Prepared SteppedBefore
+    before-stopped error e = rw e at k
+
+    pub before-pushed : (free : ℕ) (a : StepAnswer) → r ≡ Taken.Pushed free → SteppedBefore s first second entries key a x y z
+    unfolding Prepared
+    before-pushed free a e = absurd (rw e at k)
+
+    module _ (count next free : ℕ) (e : r ≡ Taken.Stepped count next free) where
+      ready : Ready s (presenceAfter key (rehashStep s first second entries)) (rehashStep s first second entries) count next x y z
+      unfolding Prepared
+      ready = rw e at k
+
+      pub ready-old : count ≤ s .«old_used»
+      unfolding stepRoom
+      ready-old = ready .room .0
+
+      pub ready-new : s .«new_used» + count ≤ s .capacity
+      unfolding stepRoom
+      ready-new = ready .room .1
+
+      pub before-stepped : (t : State) → t ≡ settled (advanced s count next)
+          → SteppedBefore s first second entries key (StepAnswer.Stepped count t) x y z
+      unfolding SteppedBefore stepAnswer stepDone
+      before-stepped t te = (ready .told, rw te (ready .step))
+
+  -- and the delete
+
+  module _ (h : soundLent (length first) (length second) (length entries) s ≡ true) (f : stepDue s ≡ true) (r : StepAnswer)
+      (x y z : List ℕ) (k : SteppedBefore s first second entries key r x y z) where
+    pub delete-stopped : (error : Error) → r ≡ StepAnswer.Refused error
+        → After.after (DeleteAnswer.Refused error) x y z ≡ delete s first second entries key
+    unfolding SteppedBefore
+    delete-stopped error e =
+        let g : Stopped (presenceAfter key (rehashStep s first second entries)) first second entries error x y z = rw e at k in
+        rw (g .first-same, g .second-same, g .entries-same) (delete-refused-for _ refl error (g .told) h f)
+
+    module _ (count : ℕ) (t : State) (e : r ≡ StepAnswer.Stepped count t) where
+      told-and-taken : (Presence.Held ≡ presenceAfter key (rehashStep s first second entries))
+          × (After.after (StepAnswer.Stepped count t) x y z ≡ rehashStep s first second entries)
+      unfolding SteppedBefore
+      told-and-taken = rw e at k
+
+      then : StepTaken s first second entries key Presence.Held count t x y z
+      then =
+          step-taken s first second entries key Presence.Held
+          record { sound = h; due = f; told = told-and-taken .0 }
+          (StepAnswer.Stepped count t) x y z (told-and-taken .1) count t refl
+
+      pub then-sound : soundLent (length x) (length y) (length z) t ≡ true
+      then-sound = then .sound
+
+      pub delete-held : (a : DeleteAnswer) (p q w : List ℕ) → After.after a p q w ≡ deleteAlone t x y z key
+          → After.after a p q w ≡ delete s first second entries key
+      unfolding delete answerOf
+      delete-held a p q w g =
+          first-done DeleteAnswer.Refused isDeleted (λ t x y z. deleteAlone t x y z key) s first second entries f count t x y z
+          a p q w (then .step) g
+          (ap isDeleted (ap answerOf g ∙ alone-answer t x y z key (then .sound))
+          ∙ told-held t (lookupLent t x y z key) (then .told))
+
+-- From the current and the other buffer to the lent ones.
+
+-- what is left to a delete, said of another step that comes to the same in other places
+elsewhere : (s : State) (v w : Presence) (a b : After StepAnswer) (c o p q entries : List ℕ) (x y x′ y′ z : List ℕ) → v ≡ w
+    → ((m : StepAnswer) → After.after m x y z ≡ a → After.after m x′ y′ z ≡ b)
+    → (x ≡ c → y ≡ o → (x′ ≡ p) × (y′ ≡ q)) → (r : Taken)
+    → Prepared s v a c o entries r x y z → Prepared s w b p q entries r x′ y′ z
+unfolding Prepared
+elsewhere s v w a b c o p q entries x y x′ y′ z e there same (Taken.Refused error) k =
+    let (l, m) = same (k .first-same) (k .second-same) in
+    record {
+      told = subst (λ (u : Presence). RefusedFor u error) e (k .told);
+      first-same = l;
+      second-same = m;
+      entries-same = k .entries-same;
+    }
+elsewhere s v w a b c o p q entries x y x′ y′ z e there same (Taken.Pushed free) k = k
+elsewhere s v w a b c o p q entries x y x′ y′ z e there same (Taken.Stepped count next free) k =
+    record { told = k .told ∙ e; step = there _ (k .step); room = k .room }
+
+module _ (s : State) (e : s .rehashing ≡ true) (first second entries : List ℕ)
+    (h : soundLent (length first) (length second) (length entries) s ≡ true) (d : stepDue s ≡ true) (key : ℕ) (r : Taken)
+    (x y z : List ℕ) where
+  told-of : (current other : List ℕ) → Meets (numbered s) current other entries key Purpose.Delete r x y z
+      → PreparedIn s current other entries key r x y z
+  unfolding Meets
+  told-of current other k =
+      subst (λ (t : State). stepDue t ≡ true → PreparedIn t current other entries key r x y z) (sym (same-state s e)) k d
+
+  pub prepared-first : s .«second_is_current» ≡ false
+      → Meets (numbered s) first second entries key Purpose.Delete r x y z → PreparedLent s first second entries key r x y z
+  prepared-first f k =
+      elsewhere s _ _ _ _ first second first second entries x y x y z (told-first s first second entries h d key _ f refl)
+      (λ m g. taken-first s first second entries h d m x y z f g) (λ l m. (l, m)) r (told-of first second k)
+
+  pub prepared-second : s .«second_is_current» ≡ true
+      → Meets (numbered s) second first entries key Purpose.Delete r x y z → PreparedLent s first second entries key r y x z
+  prepared-second f k =
+      elsewhere s _ _ _ _ second first first second entries x y y x z (told-second s first second entries h d key _ f refl)
+      (λ m g. taken-second s first second entries h d m y x z f g) (λ l m. (m, l)) r (told-of second first k)

@@ -3,10 +3,10 @@
 // (`remove`). During one the flag is read once, and below that every function knows the current and the other buffer.
 use crate::remove::delete_resting;
 use crate::remove::free_entry;
-use after_step::course::Course;
-use after_step::course::foresee_lent;
-use after_step::course::step_lent;
-use after_step::presence::Presence;
+use dict_rehash::rehash::state_after;
+use during_rehash::during::during;
+use during_rehash::moving::Purpose;
+use during_rehash::moving::Taken;
 use memory::state::is_sound_lent;
 use model::DeleteAnswer;
 use model::Error;
@@ -23,9 +23,7 @@ ghost use Rattle.model.specs.Calls.After.{after};
 ghost use Rattle.model.proofs.Soundness.{Sound};
 ghost use Rattle.model.proofs.Lookups.{Located};
 ghost use Rattle.memory.specs.Lent.{soundLent};
-ghost use Rattle.after_step.specs.declared.presence.Presence.the-variants as told;
-ghost use Rattle.after_step.specs.Planned.{Planned};
-ghost use Rattle.after_step.specs.Course.{GoesLent};
+ghost use Rattle.dict_delete.specs.Prepared.{PreparedLent, SteppedBefore};
 
 // The entry that the lookup found, out of the table that it is in.
 fn remove_at(
@@ -103,28 +101,90 @@ fn delete_alone(
     }
 }
 
-// A key that is held once the step is taken: both are done for real. What was told says that neither is refused.
-fn step_and_delete(
+// The step, where the key is held once it is taken: the flag says which lent buffer is the current one. Where the key is not, or
+// there is damage, nothing is written.
+fn step_lent(
     first: &mut [u32],
     second: &mut [u32],
     entries: &mut [u32],
     s: State,
     key: u32,
-    course: Course,
-) -> DeleteAnswer
-    requires { ⌜ Planned s (now first) (now second) (now entries) key told.Held ⌝ }
-    requires { ⌜ GoesLent s (now first) (now second) (now entries) course ⌝ }
-    ensures { λ r. ⌜ after r (now (first .exit)) (now (second .exit)) (now (entries .exit))
-        ≡ calls.delete s (now (first .entry)) (now (second .entry)) (now (entries .entry)) key ⌝ }
+) -> Taken
+    requires { ⌜ soundLent (length (now first)) (length (now second)) (length (now entries)) s ≡ true ⌝ }
+    requires { ⌜ calls.stepDue s ≡ true ⌝ }
+    ensures { λ r. ⌜ PreparedLent s (now (first .entry)) (now (second .entry)) (now (entries .entry)) key r
+        (now (first .exit)) (now (second .exit)) (now (entries .exit)) ⌝ }
 {
-    let stepped = step_lent(first, second, entries, s, course);
-    match stepped {
-        StepAnswer::Refused(e) => DeleteAnswer::Refused(e),
-        StepAnswer::Stepped(_, t) => delete_alone(first, second, entries, t, key),
+    if s.second_is_current {
+        during(
+            second,
+            first,
+            entries,
+            s.second_is_current,
+            s.old_size,
+            s.new_size,
+            s.old_used,
+            s.new_used,
+            s.rehash_index,
+            s.free_head,
+            s.capacity,
+            s.resize_allowed,
+            s.safe_iterators,
+            key,
+            Purpose::Delete,
+        )
+    } else {
+        during(
+            first,
+            second,
+            entries,
+            s.second_is_current,
+            s.old_size,
+            s.new_size,
+            s.old_used,
+            s.new_used,
+            s.rehash_index,
+            s.free_head,
+            s.capacity,
+            s.resize_allowed,
+            s.safe_iterators,
+            key,
+            Purpose::Delete,
+        )
     }
 }
 
-// A step comes first, and a refusal leaves all as it was: what is told of the memory after the step decides.
+// The same with the state that the step leaves.
+fn step_before(
+    first: &mut [u32],
+    second: &mut [u32],
+    entries: &mut [u32],
+    s: State,
+    key: u32,
+) -> StepAnswer
+    requires { ⌜ soundLent (length (now first)) (length (now second)) (length (now entries)) s ≡ true ⌝ }
+    requires { ⌜ calls.stepDue s ≡ true ⌝ }
+    ensures { λ r. ⌜ SteppedBefore s (now (first .entry)) (now (second .entry)) (now (entries .entry)) key r
+        (now (first .exit)) (now (second .exit)) (now (entries .exit)) ⌝ }
+{
+    let taken = step_lent(first, second, entries, s, key);
+    match taken {
+        Taken::Refused(e) => StepAnswer::Refused(e),
+        // No delete pushes an entry.
+        Taken::Pushed(_) => StepAnswer::Refused(Error::Damaged),
+        Taken::Stepped {
+            count,
+            next,
+            free: _,
+        } => {
+            let t = state_after(s, count, next);
+            StepAnswer::Stepped(count, t)
+        }
+    }
+}
+
+// A step comes first, and a refusal leaves all as it was. A key that is held once the step is taken is deleted from what the
+// step leaves.
 fn delete_after_step(
     first: &mut [u32],
     second: &mut [u32],
@@ -137,13 +197,10 @@ fn delete_after_step(
     ensures { λ r. ⌜ after r (now (first .exit)) (now (second .exit)) (now (entries .exit))
         ≡ calls.delete s (now (first .entry)) (now (second .entry)) (now (entries .entry)) key ⌝ }
 {
-    let told = foresee_lent(first, second, entries, s, key);
-    let presence = told.presence;
-    let course = told.course;
-    match presence {
-        Presence::Damaged => DeleteAnswer::Refused(Error::Damaged),
-        Presence::Absent => DeleteAnswer::Refused(Error::Absent),
-        Presence::Held => step_and_delete(first, second, entries, s, key, course),
+    let stepped = step_before(first, second, entries, s, key);
+    match stepped {
+        StepAnswer::Refused(e) => DeleteAnswer::Refused(e),
+        StepAnswer::Stepped(_, t) => delete_alone(first, second, entries, t, key),
     }
 }
 

@@ -27,7 +27,7 @@ use Rattle.dict_rehash.proofs.Due.{due-rehashing, due-unpaused, due-stepped}
 use Rattle.dict_rehash.proofs.Stepping.{moved-old, moved-new}
 use Rattle.after_step.specs.declared.presence.Presence.{Presence}
 use Rattle.after_step.specs.Presence.{presence, presenceAfter, presenceThen, entriesAfter}
-use Rattle.after_step.specs.declared.course.Course.{Course}
+use Rattle.after_step.specs.Course.{Course}
 use Rattle.after_step.specs.Planned.{Planned}
 use Rattle.after_step.proofs.StepFirst.{is-absent, StepTaken, then-damaged, step-taken, first-done, first-refused}
 use Rattle.during_rehash.specs.Counts.{oneMore}

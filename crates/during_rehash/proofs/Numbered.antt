@@ -19,7 +19,7 @@ use Rattle.after_step.proofs.StepFirst.{first-alone}
 use Rattle.during_rehash.specs.declared.moving.Taken.{Taken}
 use Rattle.during_rehash.specs.declared.moving.Purpose.{Purpose}
 use Rattle.during_rehash.specs.declared.push.Push.{Push}
-use Rattle.during_rehash.specs.Moving.{addMoving, takenAnswer, takenRoom, Comes, Prepared, Meets}
+use Rattle.during_rehash.specs.Moving.{addMoving, takenAnswer, takenRoom, Comes, PreparedIn, Meets}
 use Rattle.during_rehash.specs.Push.{pushAnswer, takenOf}
 use Rattle.during_rehash.specs.During.{moving}
 use Rattle.during_rehash.proofs.AddingAfter.{twice-back, first, second, lent-writing}
@@ -78,7 +78,7 @@ module _ (s : State) (current other entries : List ℕ) (key : ℕ) (purpose : P
   unfolding Meets
   meets-add value e h = rw e h
 
-  pub meets-delete : purpose ≡ Purpose.Delete → Prepared s current other entries key r x y z
+  pub meets-delete : purpose ≡ Purpose.Delete → PreparedIn s current other entries key r x y z
       → Meets s current other entries key purpose r x y z
   unfolding Meets
   meets-delete e h = rw e (λ d. h)

@@ -15,13 +15,13 @@ use Rattle.dict_rehash.specs.declared.rehash.Progress.{Progress}
 use Rattle.dict_rehash.specs.Progress.{stepAnswer, stepRoom, oldChain, OldChain}
 use Rattle.dict_rehash.proofs.Stepping.{none-moved}
 use Rattle.after_step.specs.declared.presence.Presence.{Presence}
-use Rattle.after_step.specs.declared.course.Course.{Course}
+use Rattle.after_step.specs.Course.{Course}
 use Rattle.after_step.specs.Presence.{presenceThen}
 use Rattle.after_step.specs.Course.{sight, GoesChain, Goes, Foreseen}
 use Rattle.after_step.proofs.Courses.{goes-still}
 use Rattle.during_rehash.specs.declared.moving.Taken.{Taken}
 use Rattle.during_rehash.specs.declared.moving.Purpose.{Purpose}
-use Rattle.during_rehash.specs.Moving.{RefusedFor, Stopped, Prepared, Meets, Held}
+use Rattle.during_rehash.specs.Moving.{RefusedFor, Stopped, Prepared, PreparedIn, Meets, Held}
 use Rattle.during_rehash.proofs.AddingAfter.{add-damaged}
 
 module _ (s : State) (current other entries : List ℕ) (key : ℕ) where
@@ -29,12 +29,12 @@ module _ (s : State) (current other entries : List ℕ) (key : ℕ) where
   step = stepTaken s current other entries
 
   stopped : (v : Presence) → v ≡ presenceThen key (s .«second_is_current») step → (error : Error) → RefusedFor v error
-      → Stopped s current other entries key error current other entries
+      → Stopped (presenceThen key (s .«second_is_current») step) current other entries error current other entries
   stopped v k error f =
       record {
         told = subst (λ (p : Presence). RefusedFor p error) k f;
-        current-same = refl;
-        other-same = refl;
+        first-same = refl;
+        second-same = refl;
         entries-same = refl;
       }
 
@@ -49,12 +49,12 @@ module _ (s : State) (current other entries : List ℕ) (key : ℕ) where
   module _ (n : ℕ) (v : Presence) (course : Course)
       (h : Foreseen s current other entries key n (stepTaken s current other entries) (sight v course)) where
     pub prepared-damaged : v ≡ Presence.Damaged
-        → Prepared s current other entries key (Taken.Refused Error.Damaged) current other entries
+        → PreparedIn s current other entries key (Taken.Refused Error.Damaged) current other entries
     unfolding Prepared RefusedFor
     prepared-damaged d = stopped Presence.Damaged (sym d ∙ h .told) Error.Damaged refl
 
     pub prepared-absent : v ≡ Presence.Absent
-        → Prepared s current other entries key (Taken.Refused Error.Absent) current other entries
+        → PreparedIn s current other entries key (Taken.Refused Error.Absent) current other entries
     unfolding Prepared RefusedFor
     prepared-absent d = stopped Presence.Absent (sym d ∙ h .told) Error.Absent refl
 
@@ -62,7 +62,7 @@ module _ (s : State) (current other entries : List ℕ) (key : ℕ) where
   pub prepared-still : (n : ℕ) (v : Presence) (next free : ℕ) → v ≡ Presence.Held
       → Foreseen s current other entries key n (stepTaken s current other entries) (sight v (Course.Still next))
       → Sound s (length current) (length other) (length entries)
-      → Prepared s current other entries key (Taken.Stepped 0 next free) current other entries
+      → PreparedIn s current other entries key (Taken.Stepped 0 next free) current other entries
   unfolding Prepared
   prepared-still n v next free d h p =
       record {
@@ -94,7 +94,7 @@ module _ (s : State) (current other entries : List ℕ) (key b count : ℕ) (mee
       (e : After.after (stepAnswer s r) c o z ≡ movedChain s current other entries b (oldChain s current entries b)) where
     -- a chain that was read moves
     pub held-stopped : (error : Error) → r ≡ Progress.Refused error → (t : Taken) (p q w : List ℕ)
-        → Prepared s current other entries key t p q w
+        → PreparedIn s current other entries key t p q w
     unfolding stepAnswer movedChain stepDone
     held-stopped error d t p q w =
         let read = goes .chain .read in
@@ -102,7 +102,7 @@ module _ (s : State) (current other entries : List ℕ) (key b count : ℕ) (mee
         absurd (omega arith)
 
     pub held-moved : (moved next free : ℕ) → r ≡ Progress.Moved moved next → stepRoom s r
-        → Prepared s current other entries key (Taken.Stepped moved next free) c o z
+        → PreparedIn s current other entries key (Taken.Stepped moved next free) c o z
     unfolding Prepared
     held-moved moved next free d room =
         record {

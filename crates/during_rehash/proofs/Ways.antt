@@ -25,7 +25,7 @@ use Rattle.dict_rehash.specs.Progress.{stepAnswer, stepRoom, oldChain, OldChain
 use Rattle.dict_rehash.proofs.Due.{due-rehashing}
 use Rattle.dict_rehash.proofs.Stepping.{none-moved, next-filled, step-moved}
 use Rattle.after_step.specs.declared.presence.Presence.{Presence}
-use Rattle.after_step.specs.declared.course.Course.{Course}
+use Rattle.after_step.specs.Course.{Course}
 use Rattle.after_step.specs.declared.course.ChainSight.{ChainSight}
 use Rattle.after_step.specs.Presence.{entriesAfter}
 use Rattle.after_step.specs.Told.{foundPresence}

@@ -9,13 +9,14 @@ use lib.Dec.{eqb}
 use Rattle.model.specs.declared.State.{State}
 use Rattle.model.specs.declared.Error.{Error}
 use Rattle.model.specs.declared.AddAnswer.{AddAnswer}
+use Rattle.model.specs.declared.StepAnswer.{StepAnswer}
 use Rattle.model.specs.Memory.{linkOf}
 use Rattle.model.specs.Calls.{After, oriented, back, target, advanced, settled, movedChain, stepTaken, stepDue, addAfterStep}
 use Rattle.model.proofs.Soundness.{Sound}
 use Rattle.dict_rehash.specs.declared.rehash.Progress.{Progress}
 use Rattle.dict_rehash.specs.Progress.{stepAnswer, stepRoom, oldChain}
 use Rattle.after_step.specs.declared.presence.Presence.{Presence}
-use Rattle.after_step.specs.declared.course.Course.{Course}
+use Rattle.after_step.specs.Course.{Course}
 use Rattle.after_step.specs.Presence.{presenceThen, entriesAfter}
 use Rattle.after_step.specs.Told.{Moves}
 use Rattle.after_step.specs.Course.{Goes}
@@ -65,28 +66,35 @@ RefusedFor Presence.Damaged error = error ≡ Error.Damaged
 RefusedFor Presence.Absent error = error ≡ Error.Absent
 RefusedFor Presence.Held error = ⊥
 
--- What is left to a delete: it is refused, for what a lookup answers then, and all is as it was ..
-pub record Stopped (s : State) (current other entries : List ℕ) (key : ℕ) (error : Error) (x y z : List ℕ) : Type 0 where
-  pub told : RefusedFor (presenceThen key (s .«second_is_current») (stepTaken s current other entries)) error
-  pub current-same : x ≡ current
-  pub other-same : y ≡ other
+-- What is left to a delete, where the step is `a` and a lookup answers `v` once it is taken: it is refused for that, and all is as
+-- it was ..
+pub record Stopped (v : Presence) (first second entries : List ℕ) (error : Error) (x y z : List ℕ) : Type 0 where
+  pub told : RefusedFor v error
+  pub first-same : x ≡ first
+  pub second-same : y ≡ second
   pub entries-same : z ≡ entries
 
 -- .. or the key is held then, and the step is taken
-pub record Ready (s : State) (current other entries : List ℕ) (key count next : ℕ) (x y z : List ℕ) : Type 0 where
-  pub told : Presence.Held ≡ presenceThen key (s .«second_is_current») (stepTaken s current other entries)
-  pub step : After.after (stepAnswer s (Progress.Moved count next)) x y z ≡ stepTaken s current other entries
+pub record Ready (s : State) (v : Presence) (a : After StepAnswer) (count next : ℕ) (x y z : List ℕ) : Type 0 where
+  pub told : Presence.Held ≡ v
+  pub step : After.after (stepAnswer s (Progress.Moved count next)) x y z ≡ a
   pub room : stepRoom s (Progress.Moved count next)
 
-unfoldable pub Prepared : State → (current other entries : List ℕ) → ℕ → Taken → (x y z : List ℕ) → Type 0
-Prepared s current other entries key (Taken.Refused error) x y z = Stopped s current other entries key error x y z
-Prepared s current other entries key (Taken.Pushed free) x y z = ⊥
-Prepared s current other entries key (Taken.Stepped count next free) x y z = Ready s current other entries key count next x y z
+unfoldable pub Prepared : State → Presence → After StepAnswer → (first second entries : List ℕ) → Taken → (x y z : List ℕ) → Type 0
+Prepared s v a first second entries (Taken.Refused error) x y z = Stopped v first second entries error x y z
+Prepared s v a first second entries (Taken.Pushed free) x y z = ⊥
+Prepared s v a first second entries (Taken.Stepped count next free) x y z = Ready s v a count next x y z
+
+-- on the current and the other bucket buffer
+abbrev pub PreparedIn : State → (current other entries : List ℕ) → ℕ → Taken → (x y z : List ℕ) → Type 0
+PreparedIn s current other entries key r x y z =
+    Prepared s (presenceThen key (s .«second_is_current») (stepTaken s current other entries)) (stepTaken s current other entries)
+    current other entries r x y z
 
 -- what is promised by the purpose: an add whole, and of a delete where a step is due
 unfoldable pub Meets : State → (current other entries : List ℕ) → ℕ → Purpose → Taken → (x y z : List ℕ) → Type 0
 Meets s current other entries key (Purpose.Add value) r x y z = Comes s current other entries key value r x y z
-Meets s current other entries key Purpose.Delete r x y z = stepDue s ≡ true → Prepared s current other entries key r x y z
+Meets s current other entries key Purpose.Delete r x y z = stepDue s ≡ true → PreparedIn s current other entries key r x y z
 
 -- whether the first free entry may be taken, by what a lookup answers once the step is taken
 unfoldable pub verdictOf : State → Presence → Verdict

@@ -23,9 +23,8 @@ ghost use Prim.Native.Nat.{_<_};
 ghost use lib.ListN.{length};
 ghost use Rattle.model.specs.Calls as calls;
 ghost use Rattle.model.proofs.Soundness.{Sound, Counted};
-ghost use Rattle.after_step.specs.declared.course.Course.the-variants as course;
-ghost use Rattle.after_step.specs.Course.{sight, Foreseen};
-ghost use Rattle.during_rehash.specs.Moving.{verdictOf, Comes, Prepared, Meets, Room, Takes, Held, FilledFirst};
+ghost use Rattle.after_step.specs.Course.{Course, sight, Foreseen};
+ghost use Rattle.during_rehash.specs.Moving.{verdictOf, Comes, PreparedIn, Meets, Room, Takes, Held, FilledFirst};
 
 // What happened to the buffers, in numbers: a state that is handed up costs more than all that is read of the tables. The
 // caller has the state before, and makes the answer.
@@ -84,7 +83,7 @@ fn push_still(
     value: u32,
     next: u32,
 ) -> Taken
-    requires { ⌜ Room s (now current) (now other) (now entries) key (course.Still next) ⌝ }
+    requires { ⌜ Room s (now current) (now other) (now entries) key (Course.Still next) ⌝ }
     ensures { λ r. ⌜ Comes s (now (current .entry)) (now (other .entry)) (now (entries .entry)) key value r
         (now (current .entry)) (now (other .exit)) (now (entries .exit)) ⌝ }
 {
@@ -115,7 +114,7 @@ fn add_still(
     requires { ⌜ Sound s (length (now current)) (length (now other)) (length (now entries)) ⌝ }
     requires { ⌜ calls.stepDue s ≡ true ⌝ }
     requires { ⌜ Foreseen s (now current) (now other) (now entries) key (s .«free_head»)
-        (calls.stepTaken s (now current) (now other) (now entries)) (sight presence (course.Still next)) ⌝ }
+        (calls.stepTaken s (now current) (now other) (now entries)) (sight presence (Course.Still next)) ⌝ }
     ensures { λ r. ⌜ Comes s (now (current .entry)) (now (other .entry)) (now (entries .entry)) key value r
         (now (current .entry)) (now (other .exit)) (now (entries .exit)) ⌝ }
 {
@@ -140,7 +139,7 @@ fn move_and_push(
     meets: bool,
     link: u32,
 ) -> Taken
-    requires { ⌜ Takes s (now current) (now other) (now entries) key (course.Moving b count meets) link ⌝ }
+    requires { ⌜ Takes s (now current) (now other) (now entries) key (Course.Moving b count meets) link ⌝ }
     ensures { λ r. ⌜ Comes s (now (current .entry)) (now (other .entry)) (now (entries .entry)) key value r
         (now (current .exit)) (now (other .exit)) (now (entries .exit)) ⌝ }
 {
@@ -170,7 +169,7 @@ fn push_chain(
     count: u32,
     meets: bool,
 ) -> Taken
-    requires { ⌜ Room s (now current) (now other) (now entries) key (course.Moving b count meets) ⌝ }
+    requires { ⌜ Room s (now current) (now other) (now entries) key (Course.Moving b count meets) ⌝ }
     ensures { λ r. ⌜ Comes s (now (current .entry)) (now (other .entry)) (now (entries .entry)) key value r
         (now (current .exit)) (now (other .exit)) (now (entries .exit)) ⌝ }
 {
@@ -208,7 +207,7 @@ fn add_chain(
     requires { ⌜ Sound s (length (now current)) (length (now other)) (length (now entries)) ⌝ }
     requires { ⌜ calls.stepDue s ≡ true ⌝ }
     requires { ⌜ Foreseen s (now current) (now other) (now entries) key (s .«free_head»)
-        (calls.stepTaken s (now current) (now other) (now entries)) (sight presence (course.Moving b count meets)) ⌝ }
+        (calls.stepTaken s (now current) (now other) (now entries)) (sight presence (Course.Moving b count meets)) ⌝ }
     ensures { λ r. ⌜ Comes s (now (current .entry)) (now (other .entry)) (now (entries .entry)) key value r
         (now (current .exit)) (now (other .exit)) (now (entries .exit)) ⌝ }
 {
@@ -231,8 +230,8 @@ fn step_still(
 ) -> Taken
     requires { ⌜ Sound s (length (now current)) (length (now other)) (length (now entries)) ⌝ }
     requires { ⌜ Foreseen s (now current) (now other) (now entries) key (s .«free_head»)
-        (calls.stepTaken s (now current) (now other) (now entries)) (sight presence (course.Still next)) ⌝ }
-    ensures { λ r. ⌜ Prepared s (now (current .entry)) (now (other .entry)) (now (entries .entry)) key r
+        (calls.stepTaken s (now current) (now other) (now entries)) (sight presence (Course.Still next)) ⌝ }
+    ensures { λ r. ⌜ PreparedIn s (now (current .entry)) (now (other .entry)) (now (entries .entry)) key r
         (now (current .entry)) (now (other .entry)) (now (entries .entry)) ⌝ }
 {
     match presence {
@@ -257,8 +256,8 @@ fn step_held(
     count: u32,
     meets: bool,
 ) -> Taken
-    requires { ⌜ Held s (now current) (now other) (now entries) key (course.Moving b count meets) ⌝ }
-    ensures { λ r. ⌜ Prepared s (now (current .entry)) (now (other .entry)) (now (entries .entry)) key r
+    requires { ⌜ Held s (now current) (now other) (now entries) key (Course.Moving b count meets) ⌝ }
+    ensures { λ r. ⌜ PreparedIn s (now (current .entry)) (now (other .entry)) (now (entries .entry)) key r
         (now (current .exit)) (now (other .exit)) (now (entries .exit)) ⌝ }
 {
     let progress = move_counted(current, other, entries, s, b, count);
@@ -286,8 +285,8 @@ fn step_chain(
     requires { ⌜ Sound s (length (now current)) (length (now other)) (length (now entries)) ⌝ }
     requires { ⌜ calls.stepDue s ≡ true ⌝ }
     requires { ⌜ Foreseen s (now current) (now other) (now entries) key (s .«free_head»)
-        (calls.stepTaken s (now current) (now other) (now entries)) (sight presence (course.Moving b count meets)) ⌝ }
-    ensures { λ r. ⌜ Prepared s (now (current .entry)) (now (other .entry)) (now (entries .entry)) key r
+        (calls.stepTaken s (now current) (now other) (now entries)) (sight presence (Course.Moving b count meets)) ⌝ }
+    ensures { λ r. ⌜ PreparedIn s (now (current .entry)) (now (other .entry)) (now (entries .entry)) key r
         (now (current .exit)) (now (other .exit)) (now (entries .exit)) ⌝ }
 {
     match presence {
@@ -311,7 +310,7 @@ fn change_still(
     requires { ⌜ Sound s (length (now current)) (length (now other)) (length (now entries)) ⌝ }
     requires { ⌜ calls.stepDue s ≡ true ⌝ }
     requires { ⌜ Foreseen s (now current) (now other) (now entries) key (s .«free_head»)
-        (calls.stepTaken s (now current) (now other) (now entries)) (sight presence (course.Still next)) ⌝ }
+        (calls.stepTaken s (now current) (now other) (now entries)) (sight presence (Course.Still next)) ⌝ }
     ensures { λ r. ⌜ Meets s (now (current .entry)) (now (other .entry)) (now (entries .entry)) key purpose r
         (now (current .entry)) (now (other .exit)) (now (entries .exit)) ⌝ }
 {
@@ -337,7 +336,7 @@ fn change_chain(
     requires { ⌜ Sound s (length (now current)) (length (now other)) (length (now entries)) ⌝ }
     requires { ⌜ calls.stepDue s ≡ true ⌝ }
     requires { ⌜ Foreseen s (now current) (now other) (now entries) key (s .«free_head»)
-        (calls.stepTaken s (now current) (now other) (now entries)) (sight presence (course.Moving b count meets)) ⌝ }
+        (calls.stepTaken s (now current) (now other) (now entries)) (sight presence (Course.Moving b count meets)) ⌝ }
     ensures { λ r. ⌜ Meets s (now (current .entry)) (now (other .entry)) (now (entries .entry)) key purpose r
         (now (current .exit)) (now (other .exit)) (now (entries .exit)) ⌝ }
 {

@@ -14,8 +14,8 @@ use Rattle.model.proofs.Chains.{chain-end, chain-bad, chain-stray, chain-good}
 
 -- what comes of the chain from here: the entry found so far, or where that is 0 the first one with the key
 pub resumed : List ℕ → ℕ → Table → (last before entry : ℕ) → Option (List ℕ) → Lookup
-resumed entries key table last before zero o = searched entries key table last o
-resumed entries key table last before (suc n) none = Lookup.Damaged
+resumed entries key table last before entry none = Lookup.Damaged
+resumed entries key table last before zero (some ns) = firstWith entries key table last ns
 resumed entries key table last before (suc n) (some ns) = Lookup.At table before (suc n)
 
 -- the search from here is the search from the head
@@ -25,10 +25,10 @@ pub record Searching (test : ℕ → Bool) (entries : List ℕ) (capacity budget
       ≡ searched entries key table 0 (chain test entries capacity budget head)
 
 module _ (entries : List ℕ) (key : ℕ) (table : Table) (last before : ℕ) where
-  resumed-none : (entry : ℕ) → resumed entries key table last before entry none ≡ Lookup.Damaged
+  resumed-start : (o : Option (List ℕ)) → resumed entries key table last before 0 o ≡ searched entries key table last o
   unfolding resumed searched
-  resumed-none zero = refl
-  resumed-none (suc n) = refl
+  resumed-start none = refl
+  resumed-start (some ns) = refl
 
   resumed-end : (entry : ℕ) → (entry ≡ 0 → ⊥)
       → Lookup.At table before entry ≡ resumed entries key table last before entry (some [])
@@ -40,33 +40,28 @@ module _ (entries : List ℕ) (key : ℕ) (table : Table) (last before : ℕ) wh
   resumed-one : (at entry : ℕ) (t : Bool) (o : Option (List ℕ)) → (at ≡ 0 → ⊥) → eqb (keyOf entries at) key ≡ t
       → resumed entries key table at (cond (eqb entry 0 && t) last before) (cond (eqb entry 0 && t) at entry) o
       ≡ resumed entries key table last before entry (Option·map (λ ns. at ∷ ns) o)
-  unfolding resumed searched firstWith
+  unfolding resumed firstWith
   resumed-one zero entry t o f e = absurd (f refl)
-  resumed-one (suc at) (suc n) t none f e = rw eqb·suc-zero
+  resumed-one (suc at) entry t none f e = refl
   resumed-one (suc at) (suc n) t (some ns) f e = rw eqb·suc-zero
-  resumed-one (suc at) zero true none f e = refl
   resumed-one (suc at) zero true (some ns) f e = rw e
-  resumed-one (suc at) zero false none f e = refl
   resumed-one (suc at) zero false (some ns) f e = rw e
 
 module _ (test : ℕ → Bool) (entries : List ℕ) (capacity budget head key : ℕ) (table : Table) where
   pub searching-start : Searching test entries capacity budget head key table head 0 0 0 budget
-  unfolding resumed
-  searching-start = record { same = refl }
+  searching-start = record { same = resumed-start entries key table 0 0 (chain test entries capacity budget head) }
 
   module _ (at last before entry left : ℕ)
       (h : Searching test entries capacity budget head key table at last before entry left) where
-    damaged : chain test entries capacity left at ≡ none
-        → Lookup.Damaged ≡ searched entries key table 0 (chain test entries capacity budget head)
-    damaged e = sym (resumed-none entries key table last before entry) ∙ (rw e at (h .same))
-
     pub searching-out : (at ≡ 0 → ⊥) → (eqb left 0 || ltb capacity at) ≡ true
         → Lookup.Damaged ≡ searched entries key table 0 (chain test entries capacity budget head)
-    searching-out f t = damaged (chain-bad test entries capacity left at f t)
+    unfolding resumed
+    searching-out f t = rw (chain-bad test entries capacity left at f t) at (h .same)
 
     pub searching-stray : (k : ℕ) → (at ≡ 0 → ⊥) → (eqb left 0 || ltb capacity at) ≡ false → k ≡ keyOf entries at
         → test k ≡ false → Lookup.Damaged ≡ searched entries key table 0 (chain test entries capacity budget head)
-    searching-stray k f t e p = damaged (chain-stray test entries capacity left at f t (rw e at p))
+    unfolding resumed
+    searching-stray k f t e p = rw (chain-stray test entries capacity left at f t (rw e at p)) at (h .same)
 
     pub searching-next : (k next before′ entry′ : ℕ) (first : Bool) → (at ≡ 0 → ⊥) → (eqb left 0 || ltb capacity at) ≡ false
         → k ≡ keyOf entries at → test k ≡ true → first ≡ (eqb entry 0 && eqb k key) → before′ ≡ cond first last before
@@ -83,14 +78,12 @@ module _ (test : ℕ → Bool) (entries : List ℕ) (capacity budget head key : 
               ∙ h .same);
         }
 
-    module _ (e : at ≡ 0) where
-      ended : resumed entries key table last before entry (some []) ≡ searched entries key table 0 (chain test entries capacity budget head)
-      ended = rw (chain-end test entries capacity left at e) at (h .same)
+    pub searching-absent : at ≡ 0 → entry ≡ 0
+        → Lookup.Absent ≡ searched entries key table 0 (chain test entries capacity budget head)
+    unfolding resumed firstWith
+    searching-absent e z = rw (chain-end test entries capacity left at e, z) at (h .same)
 
-      pub searching-absent : entry ≡ 0 → Lookup.Absent ≡ searched entries key table 0 (chain test entries capacity budget head)
-      unfolding resumed searched firstWith
-      searching-absent z = rw z at ended
-
-      pub searching-found : (entry ≡ 0 → ⊥)
-          → Lookup.At table before entry ≡ searched entries key table 0 (chain test entries capacity budget head)
-      searching-found f = resumed-end entries key table last before entry f ∙ ended
+    pub searching-found : at ≡ 0 → (entry ≡ 0 → ⊥)
+        → Lookup.At table before entry ≡ searched entries key table 0 (chain test entries capacity budget head)
+    searching-found e f =
+        resumed-end entries key table last before entry f ∙ (rw (chain-end test entries capacity left at e) at (h .same))

@@ -30,7 +30,7 @@ use Rattle.search.specs.Tables.{searchedIn}
 use Rattle.dict_rehash.specs.declared.rehash.Progress.{Progress}
 use Rattle.dict_rehash.specs.Progress.{stepAnswer, oldChain, OldChain, chains, ChainOf}
 use Rattle.dict_rehash.proofs.Due.{due-stepped}
-use Rattle.dict_rehash.proofs.Stepping.{old-linked, chain-of, next-end, next-empty, next-filled, step-finished, step-moved}
+use Rattle.dict_rehash.proofs.Stepping.{old-linked, chain-of, next-end, next-empty, step-finished, step-moved}
 use Rattle.after_step.specs.declared.presence.Presence.{Presence}
 use Rattle.after_step.specs.declared.presence.Survey.{Survey}
 use Rattle.after_step.specs.declared.course.ChainSight.{ChainSight}
@@ -117,11 +117,6 @@ module _ (s : State) (current other entries : List ℕ) (key n : ℕ) where
           goes = next-empty s current other entries r o f b e;
         }
 
-    pub foreseen-filled : (b : ℕ) → r ≡ Ahead.Filled b → (x : Foresight)
-        → Foreseen s current other entries key n (movedChain s current other entries b (oldChain s current entries b)) x
-        → Foreseen s current other entries key n (movedFrom s current other entries o) x
-    foreseen-filled b e x h = same-step _ _ (next-filled s current other entries r o f b e _ refl) x h
-
   pub foreseen-ended : s .«old_used» ≡ 0 → (y : Found) (x : Presence)
       → ((t : Table) → y ≡ foundOf (searchedIn entries (s .capacity) (s .«new_used») other (s .«new_size») key t))
       → x ≡ foundPresence y
@@ -169,26 +164,6 @@ module _ (s : State) (current other entries : List ℕ) (n : ℕ) (a : After Ste
         (l ∙ sym (moved-link (s .«new_size») (k .chain .ns) (chains other entries) n (not-among n (k .chain .ns) (sym (k .met) ∙ f))))
 
   module _ (course : Course) (g : Goes s current other entries n a course) where
-    pub goes-chain : (b count : ℕ) (meets : Bool) → course ≡ Course.Moving b count meets
-        → GoesChain s current other entries n a b count meets
-    unfolding Goes
-    goes-chain b count meets e = rw e at g
-
-    module _ (b count : ℕ) (meets : Bool) (e : course ≡ Course.Moving b count meets) where
-      pub goes-below : b < s .«old_size»
-      goes-below = goes-chain b count meets e .below
-
-      pub goes-old : OldChain s current entries b count
-      goes-old = goes-chain b count meets e .chain
-
-      pub goes-moved : (x : After StepAnswer) → x ≡ movedChain s current other entries b (oldChain s current entries b) → x ≡ a
-      goes-moved x f = f ∙ goes-chain b count meets e .step
-
-    pub goes-refused : course ≡ Course.Refused
-        → After.after (stepAnswer s (Progress.Refused Error.Damaged)) current other entries ≡ a
-    unfolding Goes
-    goes-refused e = rw e at g
-
     pub goes-still : (next : ℕ) → course ≡ Course.Still next
         → After.after (stepAnswer s (Progress.Moved 0 next)) current other entries ≡ a
     unfolding Goes

@@ -238,15 +238,7 @@ taken-leaves s current other entries h d =
     subst (StepLeaves s current other entries) (sym (due-stepped s d current other entries))
     (step-leaves s current other entries h (due-rehashing s d) (due-unpaused s d))
 
--- the state then, and its counts
-
-pub state-then : (s : State) (count next link : ℕ) (t u : State) → t ≡ settled (advanced s count next)
-    → u ≡ oneMore t (target (t .rehashing)) link → u ≡ movedState s count next link
-unfolding movedState
-state-then s count next link t u te ue = ue ∙ ap (λ (v : State). oneMore v (target (v .rehashing)) link) te
-
-pub counts-sound : (s : State) (current other entries : ℕ) → Sound s current other entries → Counted s
-counts-sound s current other entries h = record { held-fit = h .used-fits; capacity-limit = h .capacity-limit }
+-- the state's counts then
 
 pub counts-then : (s : State) (count next : ℕ) (t : State) → Counted s → count ≤ s .«old_used»
     → t ≡ settled (advanced s count next) → Counted t

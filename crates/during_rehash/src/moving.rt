@@ -260,8 +260,8 @@ fn step_held(
     ensures { λ r. ⌜ PreparedIn s (now (current .entry)) (now (other .entry)) (now (entries .entry)) key r
         (now (current .exit)) (now (other .exit)) (now (entries .exit)) ⌝ }
 {
-    let progress = move_counted(current, other, entries, s, b, count);
-    match progress {
+    let step = move_counted(current, other, entries, s, b, count);
+    match step {
         Progress::Refused(e) => Taken::Refused(e),
         Progress::Moved(moved, next) => Taken::Stepped {
             count: moved,
@@ -291,7 +291,7 @@ fn step_chain(
 {
     match presence {
         Presence::Damaged => Taken::Refused(Error::Damaged),
-        Presence::Absent => Taken::Refused(Error::Absent),
+        Presence::Absent => Taken::Refused(Error::Absent), // and nothing has moved
         Presence::Held => step_held(current, other, entries, s, key, b, count, meets),
     }
 }

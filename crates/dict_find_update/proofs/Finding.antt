@@ -7,6 +7,7 @@ use mathlib.Core.List.{List}
 use lib.ListN.{length}
 use Rattle.model.specs.declared.State.{State}
 use Rattle.model.specs.declared.Error.{Error}
+use Rattle.model.specs.declared.Lookup.{Lookup}
 use Rattle.model.specs.declared.FindAnswer.{FindAnswer}
 use Rattle.model.specs.Memory.{valueOf}
 use Rattle.model.specs.Calls.{lookup, found, find}
@@ -17,29 +18,35 @@ use Rattle.search.specs.Tables.{lookupLent}
 use Rattle.search.specs.Found.{foundOf}
 use Rattle.search.proofs.Held.{held-damaged, held-absent, held-at}
 
+-- The answer to any lookup, from the entry that it found.
+
+module _ (entries : List ℕ) (r : Found) where
+  pub value-damaged : r ≡ Found.Damaged → (l : Lookup) → r ≡ foundOf l → FindAnswer.Refused Error.Damaged ≡ found entries l
+  unfolding found
+  value-damaged d l e = held-damaged _ _ l r e d
+
+  pub value-absent : r ≡ Found.Absent → (l : Lookup) → r ≡ foundOf l → FindAnswer.Refused Error.Absent ≡ found entries l
+  unfolding found
+  value-absent d l e = held-absent _ _ l r e d
+
+  pub value-found : (n value : ℕ) → r ≡ Found.At n → value ≡ valueOf entries n
+      → (l : Lookup) → r ≡ foundOf l → FindAnswer.Found value ≡ found entries l
+  unfolding found
+  value-found n value d v l e = ap FindAnswer.Found v ∙ held-at _ _ l r e n d
+
+-- The call.
+
 module _ (s : State) (first second entries : List ℕ) (key : ℕ) (t : Bool)
     (e : t ≡ soundLent (length first) (length second) (length entries) s) where
   pub find-bad-state : t ≡ false → FindAnswer.Refused Error.BadState ≡ find s first second entries key
   unfolding find
   find-bad-state h = reading-refused s first second entries t e _ _ h
 
-  module _ (h : t ≡ true) (r : Found) (l : r ≡ foundOf (lookupLent s first second entries key)) where
-    looked-up : found entries (lookupLent s first second entries key) ≡ find s first second entries key
-    unfolding find lookupLent
-    looked-up =
-        reading-sound s first second entries t e _ _ _ h
-        (sym
-        (oriented-map (found entries) (s .«second_is_current») (λ current other. lookup s current other entries key) first second))
-
-    pub find-damaged : r ≡ Found.Damaged → FindAnswer.Refused Error.Damaged ≡ find s first second entries key
-    unfolding found
-    find-damaged d = held-damaged _ _ _ r l d ∙ looked-up
-
-    pub find-absent : r ≡ Found.Absent → FindAnswer.Refused Error.Absent ≡ find s first second entries key
-    unfolding found
-    find-absent d = held-absent _ _ _ r l d ∙ looked-up
-
-    pub find-value : (n value : ℕ) → r ≡ Found.At n → value ≡ valueOf entries n
-        → FindAnswer.Found value ≡ find s first second entries key
-    unfolding found
-    find-value n value d v = ap FindAnswer.Found v ∙ held-at _ _ _ r l n d ∙ looked-up
+  pub find-sound : t ≡ true → (r : Found) → r ≡ foundOf (lookupLent s first second entries key) → (a : FindAnswer)
+      → ((l : Lookup) → r ≡ foundOf l → a ≡ found entries l) → a ≡ find s first second entries key
+  unfolding find lookupLent
+  find-sound h r l a f =
+      f _ l
+      ∙ reading-sound s first second entries t e _ _ _ h
+      (sym
+      (oriented-map (found entries) (s .«second_is_current») (λ current other. lookup s current other entries key) first second))

@@ -18,6 +18,27 @@ use Rattle.search.specs.Tables.{lookupLent}
 use Rattle.search.specs.Found.{foundOf}
 use Rattle.search.proofs.Held.{held-damaged, held-absent, held-at}
 
+-- The answer to any lookup and what it leaves, from the entry that it found.
+
+module _ (entries : List ℕ) (value : ℕ) (r : Found) where
+  pub update-damaged : r ≡ Found.Damaged → (first second : List ℕ) (l : Lookup) → r ≡ foundOf l
+      → After.after (UpdateAnswer.Refused Error.Damaged) first second entries ≡ updated first second entries value l
+  unfolding updated
+  update-damaged d first second l e = held-damaged _ _ l r e d
+
+  pub update-absent : r ≡ Found.Absent → (first second : List ℕ) (l : Lookup) → r ≡ foundOf l
+      → After.after (UpdateAnswer.Refused Error.Absent) first second entries ≡ updated first second entries value l
+  unfolding updated
+  update-absent d first second l e = held-absent _ _ l r e d
+
+  pub update-value : (n : ℕ) (last : List ℕ) → r ≡ Found.At n → last ≡ setValue entries n value
+      → (first second : List ℕ) (l : Lookup) → r ≡ foundOf l
+      → After.after UpdateAnswer.Updated first second last ≡ updated first second entries value l
+  unfolding updated
+  update-value n last d v first second l e = rw v (held-at _ _ l r e n d)
+
+-- The call.
+
 -- the buckets stay, so they may as well be named as they were lent
 updated-back : (first second entries : List ℕ) (value : ℕ) (l : Lookup)
     → updated first second entries value l ≡ back true (updated second first entries value l)
@@ -33,29 +54,17 @@ module _ (s : State) (first second entries : List ℕ) (key value : ℕ) (t : Bo
   unfolding update
   update-bad-state h = writing-refused s first second entries t e _ _ h
 
-  module _ (h : t ≡ true) (r : Found) (l : r ≡ foundOf (lookupLent s first second entries key)) where
-    looked-up : updated first second entries value (lookupLent s first second entries key) ≡ update s first second entries key value
-    unfolding update lookupLent oriented back
-    looked-up = writing-sound s first second entries t e _ _ _ h (pick (s .«second_is_current»))
-      where
-        pick : (flag : Bool)
-            → updated first second entries value (oriented flag (λ current other. lookup s current other entries key) first second)
-            ≡ back flag
-            (oriented flag (λ current other. updated current other entries value (lookup s current other entries key)) first second)
-        pick false = refl
-        pick true = updated-back first second entries value (lookup s second first entries key)
-
-    pub update-damaged : r ≡ Found.Damaged
-        → After.after (UpdateAnswer.Refused Error.Damaged) first second entries ≡ update s first second entries key value
-    unfolding updated
-    update-damaged d = held-damaged _ _ _ r l d ∙ looked-up
-
-    pub update-absent : r ≡ Found.Absent
-        → After.after (UpdateAnswer.Refused Error.Absent) first second entries ≡ update s first second entries key value
-    unfolding updated
-    update-absent d = held-absent _ _ _ r l d ∙ looked-up
-
-    pub update-value : (n : ℕ) (last : List ℕ) → r ≡ Found.At n → last ≡ setValue entries n value
-        → After.after UpdateAnswer.Updated first second last ≡ update s first second entries key value
-    unfolding updated
-    update-value n last d v = rw v (held-at _ _ _ r l n d ∙ looked-up)
+  pub update-sound : t ≡ true → (r : Found) → r ≡ foundOf (lookupLent s first second entries key)
+      → (a : UpdateAnswer) (last : List ℕ)
+      → ((x y : List ℕ) (l : Lookup) → r ≡ foundOf l → After.after a x y last ≡ updated x y entries value l)
+      → After.after a first second last ≡ update s first second entries key value
+  unfolding update lookupLent oriented back
+  update-sound h r l a last f =
+      f first second _ l ∙ writing-sound s first second entries t e _ _ _ h (pick (s .«second_is_current»))
+    where
+      pick : (flag : Bool)
+          → updated first second entries value (oriented flag (λ current other. lookup s current other entries key) first second)
+          ≡ back flag
+          (oriented flag (λ current other. updated current other entries value (lookup s current other entries key)) first second)
+      pick false = refl
+      pick true = updated-back first second entries value (lookup s second first entries key)

@@ -17,7 +17,7 @@ use Rattle.memory.specs.Lent.{soundLent}
 use Rattle.memory.proofs.Tested.{lent-first, lent-second}
 use Rattle.search.specs.declared.found.Found.{Found}
 use Rattle.search.specs.Tables.{lookupLent}
-use Rattle.search.specs.Found.{foundOf}
+use Rattle.search.specs.Found.{foundOf, Inside}
 
 -- They ask for no more than the entry's number.
 
@@ -57,20 +57,20 @@ at-lookup Lookup.Damaged n e = let z : _≡_ {A = ℕ} 0 1 = cc in absurd (omega
 at-lookup Lookup.Absent n e = let z : _≡_ {A = ℕ} 0 1 = cc in absurd (omega arith)
 at-lookup (Lookup.At t before m) n e = (t, before, cc)
 
-module _ (s : State) (entries : List ℕ) (key n : ℕ) where
-  in-buffer : (current other : List ℕ) → Found.At n ≡ foundOf (lookup s current other entries key)
+module _ (s : State) (entries : List ℕ) (key : ℕ) where
+  in-buffer : (n : ℕ) (current other : List ℕ) → Found.At n ≡ foundOf (lookup s current other entries key)
       → Sound s (length current) (length other) (length entries) → (0 < n) × (n * 3 ≤ length entries)
-  in-buffer current other e h =
+  in-buffer n current other e h =
       let (t, before, a) = at-lookup (lookup s current other entries key) n e in (
         found-some s current other entries key (lookup s current other entries key) t before n refl a,
         found-fits s current other entries key (lookup s current other entries key) t before n refl a h,
       )
 
-  module _ (first second : List ℕ) (r : Found) (l : r ≡ foundOf (lookupLent s first second entries key)) (a : r ≡ Found.At n)
+  module _ (first second : List ℕ) (r : Found) (l : r ≡ foundOf (lookupLent s first second entries key))
       (t : Bool) (e : t ≡ soundLent (length first) (length second) (length entries) s) (h : t ≡ true) where
-    in-lent : (0 < n) × (n * 3 ≤ length entries)
+    in-lent : (n : ℕ) → r ≡ Found.At n → (0 < n) × (n * 3 ≤ length entries)
     unfolding lookupLent oriented
-    in-lent = pick (s .«second_is_current») refl (sym a ∙ l)
+    in-lent n a = pick (s .«second_is_current») refl (sym a ∙ l)
       where
         sound : soundLent (length first) (length second) (length entries) s ≡ true
         sound = sym e ∙ h
@@ -78,11 +78,15 @@ module _ (s : State) (entries : List ℕ) (key n : ℕ) where
         pick : (flag : Bool) → s .«second_is_current» ≡ flag
             → Found.At n ≡ foundOf (oriented flag (λ current other. lookup s current other entries key) first second)
             → (0 < n) × (n * 3 ≤ length entries)
-        pick false f o = in-buffer first second o (lent-first s (length first) (length second) (length entries) sound f)
-        pick true f o = in-buffer second first o (lent-second s (length first) (length second) (length entries) sound f)
+        pick false f o = in-buffer n first second o (lent-first s (length first) (length second) (length entries) sound f)
+        pick true f o = in-buffer n second first o (lent-second s (length first) (length second) (length entries) sound f)
 
-    pub entry-some : 0 < n
-    entry-some = in-lent .0
+    pub found-inside : Inside r (length entries)
+    found-inside = record { some = λ n a. in-lent n a .0; fits = λ n a. in-lent n a .1 }
 
-    pub entry-fits : n * 3 ≤ length entries
-    entry-fits = in-lent .1
+module _ (entries n : ℕ) (r : Found) (i : Inside r entries) (a : r ≡ Found.At n) where
+  pub entry-some : 0 < n
+  entry-some = i .some n a
+
+  pub entry-fits : n * 3 ≤ entries
+  entry-fits = i .fits n a

@@ -1,5 +1,6 @@
 -- The entry that a lookup found, without the way to it.
-use Prim.Native.Nat.{ℕ}
+use Prim.Native.Nat.{ℕ, _*_, _≤_, _<_}
+use mathlib.Core.Path.{_≡_}
 use mathlib.Core.Bool.{Bool, _&&_, cond}
 use lib.Dec.{eqb}
 use Rattle.model.specs.declared.Lookup.{Lookup}
@@ -24,3 +25,8 @@ bothFound Found.Absent new = new
 bothFound (Found.At n) Found.Damaged = Found.Damaged
 bothFound (Found.At n) Found.Absent = Found.At n
 bothFound (Found.At n) (Found.At m) = Found.At n
+
+-- the entry, if one was found, is one of a buffer of that length
+pub record Inside (found : Found) (entries : ℕ) : Type 0 where
+  pub some : (n : ℕ) → found ≡ Found.At n → 0 < n
+  pub fits : (n : ℕ) → found ≡ Found.At n → n * 3 ≤ entries

@@ -1,13 +1,13 @@
-// The entry that holds a key: for find, update and add. Functions below `find_entry` take numbers and no State, so that
-// they are quick where they stay calls.
+// The entry that holds a key: for find, update and add. Only `entry_resting` and `entry_moving` take the State; the functions
+// below them take numbers, so that they are quick where they stay calls.
 use memory::entry::key_of;
 use memory::entry::link_of;
 use memory::state::bucket_index;
 use model::State;
 ghost use mathlib.Core.Path.{_≡_};
-ghost use mathlib.Core.Bool.{true};
-ghost use Prim.Native.Nat.{_*_, _≤_};
-ghost use lib.ListN.{length};
+ghost use mathlib.Core.Bool.{true, false, cond};
+ghost use Prim.Native.Nat.{_*_, _≤_, _<_};
+ghost use lib.ListN.{length, getD};
 ghost use Rattle.model.specs.declared.Table.{Table};
 ghost use Rattle.model.specs.Limits.{legalSize};
 ghost use Rattle.model.specs.Memory.{chain, inBucket};
@@ -128,42 +128,79 @@ pub fn entry_in_both(
     both_found(in_old, in_new)
 }
 
-// The key's entry, in the lent buffers. The flags are read here.
-pub fn find_entry(first: &[u32], second: &[u32], entries: &[u32], s: State, key: u32) -> Found
+// The head of a bucket in the second buffer, or in the first. A number is chosen and not a buffer: a search of one buffer or the
+// other would be a loop for each.
+fn head_of(first: &[u32], second: &[u32], in_second: bool, b: usize) -> u32
+    requires { ⌜ b < cond «in_second» (length (now second)) (length (now first)) ⌝ }
+    ensures { λ r. ⌜ r ≡ getD (cond «in_second» (now (second .entry)) (now (first .entry))) b 0 ⌝ }
+{
+    if in_second { second[b] } else { first[b] }
+}
+
+// The key's entry in a table that lies in the second buffer, or in the first: one loop for both.
+fn entry_lent(
+    first: &[u32],
+    second: &[u32],
+    in_second: bool,
+    entries: &[u32],
+    capacity: u32,
+    used: u32,
+    size: u32,
+    key: u32,
+) -> Found
+    requires { ⌜ Readable size (cond «in_second» (length (now second)) (length (now first))) capacity (length (now entries)) ⌝ }
+    ensures { λ r. ⌜ ((t : Table) → r ≡ foundOf (searchedIn (now (entries .entry)) capacity used
+        (cond «in_second» (now (second .entry)) (now (first .entry))) size key t)) ⌝ }
+{
+    let b = bucket_index(key, size);
+    let head = head_of(first, second, in_second, b);
+    search_entry(entries, capacity, used, head, size, b, key)
+}
+
+// The key's entry with no rehash under way. It is small enough for the compiler to build it into find and into update.
+pub fn entry_resting(first: &[u32], second: &[u32], entries: &[u32], s: State, key: u32) -> Found
     requires { ⌜ soundLent (length (now first)) (length (now second)) (length (now entries)) s ≡ true ⌝ }
+    requires { ⌜ s .rehashing ≡ false ⌝ }
     ensures { λ r. ⌜ r ≡ foundOf (lookupLent s (now (first .entry)) (now (second .entry)) (now (entries .entry)) key) ⌝ }
 {
-    if s.rehashing {
-        if s.second_is_current {
-            entry_in_both(
-                second,
-                first,
-                entries,
-                s.capacity,
-                s.old_used,
-                s.new_used,
-                s.old_size,
-                s.new_size,
-                key,
-            )
-        } else {
-            entry_in_both(
-                first,
-                second,
-                entries,
-                s.capacity,
-                s.old_used,
-                s.new_used,
-                s.old_size,
-                s.new_size,
-                key,
-            )
-        }
-    } else {
-        if s.second_is_current {
-            entry_in(entries, s.capacity, s.old_used, second, s.old_size, key)
-        } else {
-            entry_in(entries, s.capacity, s.old_used, first, s.old_size, key)
-        }
-    }
+    entry_lent(
+        first,
+        second,
+        s.second_is_current,
+        entries,
+        s.capacity,
+        s.old_used,
+        s.old_size,
+        key,
+    )
+}
+
+// The key's entry during a rehash: the new table lies in the other buffer. Its two loops are too much to be built into two
+// calls, so that it stays a call of its own, off the quick path.
+pub fn entry_moving(first: &[u32], second: &[u32], entries: &[u32], s: State, key: u32) -> Found
+    requires { ⌜ soundLent (length (now first)) (length (now second)) (length (now entries)) s ≡ true ⌝ }
+    requires { ⌜ s .rehashing ≡ true ⌝ }
+    ensures { λ r. ⌜ r ≡ foundOf (lookupLent s (now (first .entry)) (now (second .entry)) (now (entries .entry)) key) ⌝ }
+{
+    let in_old = entry_lent(
+        first,
+        second,
+        s.second_is_current,
+        entries,
+        s.capacity,
+        s.old_used,
+        s.old_size,
+        key,
+    );
+    let in_new = entry_lent(
+        second,
+        first,
+        s.second_is_current,
+        entries,
+        s.capacity,
+        s.new_used,
+        s.new_size,
+        key,
+    );
+    both_found(in_old, in_new)
 }

@@ -1,9 +1,9 @@
--- `dict_find_update::update::update` meets its contract: each way out is a case of the definition.
+-- `dict_find_update::update::update` meets its contract: a state that is not sound is refused.
 -- Assumes nothing.
 use borrow.Author.Needs.{needs}
 use Rattle.memory.proofs.Tested.{tested-lent}
-use Rattle.search.proofs.Held.{entry-some, entry-fits}
-use Rattle.dict_find_update.proofs.Updating.{update-bad-state, update-damaged, update-absent, update-value}
+use Rattle.search.proofs.Held.{found-inside}
+use Rattle.dict_find_update.proofs.Updating.{update-bad-state, update-sound}
 use Rattle.dict_find_update.proofs.update.update.Statement.{statement}
 use Rattle.dict_find_update.proofs.update.update.Tie as tie
 
@@ -12,15 +12,12 @@ update-spec =
     tie.close
     (tie.spec
     (λ c κs. search needs)
-    (λ c κs. search tested-lent)
+    (λ c κs. (search tested-lent, search needs))
+    (λ c κs. search found-inside)
+    (λ c κs. (search tested-lent, search needs))
+    (λ c κs. search found-inside)
     (λ c. search needs)
+    (λ c. search update-sound)
     (λ c. search needs)
-    (λ c. search needs)
-    (λ c κs. (search entry-some, search entry-fits))
-    (λ c. search needs)
-    (λ c. search update-damaged)
-    (λ c. search needs)
-    (λ c. search update-absent)
-    (λ c. search needs)
-    (λ c. search update-value)
+    (λ c. search update-sound)
     (λ c. search update-bad-state))

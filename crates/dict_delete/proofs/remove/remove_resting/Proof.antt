@@ -6,6 +6,10 @@ use Rattle.dict_delete.proofs.Resting.{resting-first, resting-second}
 use Rattle.dict_delete.proofs.remove.remove_resting.Statement.{statement}
 use Rattle.dict_delete.proofs.remove.remove_resting.Tie as tie
 
+-- the second buffer has it
+returns : tie.Need-returns
+returns c = (search resting-second, search needs)
+
 pub remove-resting-spec : {M : Type 1} → statement M
 remove-resting-spec =
     tie.close
@@ -14,7 +18,7 @@ remove-resting-spec =
     (λ c κs. search old-first)
     (λ c. search needs)
     (λ c. search needs)
-    (λ c. (search resting-second, search needs))
+    returns
     (λ c. search needs)
     (λ c. search needs)
     (λ c. (search resting-first, search needs)))

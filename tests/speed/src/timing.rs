@@ -1,48 +1,46 @@
-//! Both programs as processes: first compared, then timed in turns.
+//! The programs compared, and timed in turns.
 
-use crate::work::{adds_in_move, Order, Work};
-use std::fmt;
-use std::io::{self, Read, Write};
-use std::path::Path;
-use std::process::{Command, Stdio};
-use std::time::{Duration, Instant};
-
-/// The numbers of keys that are timed, the second as many as a store can hold.
-const TIMED: [u32; 2] = [4096, 65536];
-
-/// The kinds of work that a row gives as they are, with their call.
-const ROWS: [(Work, &str); 3] = [
-    (Work::Adds, "add"),
-    (Work::Finds, "find"),
-    (Work::Walks, "walk call"),
-];
+use crate::failure::Failure;
+use crate::map;
+use crate::order::{Order, Work};
+use crate::process::Program;
+use crate::report::{Cost, Format, Measured};
+use crate::rows::{Choice, Row, Timing, TIMINGS};
+use std::time::Duration;
 
 /// How long one timed run should take, about.
-const RUN_TIME: Duration = Duration::from_millis(300);
+const RUN_TIME: Duration = Duration::from_millis(100);
 
-/// How many runs of each program are timed for each kind of work.
+/// How many runs of each order are timed with each program.
 const RUNS: usize = 11;
 
-/// How many runs find out how many rounds fill that time.
-const TRIALS: usize = 3;
-
-/// Numbers of keys, with the rounds at which the sums are compared before
-/// anything is timed. With 1 key no move begins, with 2 no add falls into one,
-/// and the adds of the small numbers end some moves.
-const COMPARED: [(u32, &[u32]); 6] = [
+/// Numbers of keys, with the rounds at which the sums are compared. With 1 key no
+/// move begins, with 2 no add falls into one and with 4 no delete, and the calls
+/// of the small numbers end some moves.
+const COMPARED: [(u32, &[u32]); 7] = [
     (1, &[0, 1, 2]),
     (2, &[0, 1, 2]),
     (4, &[0, 1, 2, 100]),
     (16, &[0, 1, 2, 100]),
+    (256, &[1, 100]),
     (4096, &[0, 1, 2, 3, 10, 100]),
     (65536, &[0, 1, 2, 3]),
+];
+
+/// The same for numbers of scan chains.
+const SPREAD_COMPARED: [(u32, &[u32]); 5] = [
+    (1, &[0, 1, 2]),
+    (3, &[0, 1]),
+    (10, &[0, 1]),
+    (100, &[0, 1]),
+    (1000, &[1]),
 ];
 
 /// An order with as many bytes as one can have.
 const LONGEST: &str = "W 0000000001 0000000001\n";
 
 /// Orders that both programs refuse.
-const BAD: [&str; 17] = [
+const BAD: [&str; 20] = [
     "",
     "A",
     "A ",
@@ -60,230 +58,227 @@ const BAD: [&str; 17] = [
     "A 4294967296 1",
     "A 1 000000000000000000000000000000000001",
     "F 1 1\n\n",
+    "S 0 1",
+    "T 65001 1",
+    "V 65000 1",
 ];
 
-pub enum Failure {
-    Differs(String),
-    Io(io::Error),
-}
-
-impl From<io::Error> for Failure {
-    fn from(error: io::Error) -> Self {
-        Failure::Io(error)
-    }
-}
-
-impl fmt::Display for Failure {
-    fn fmt(&self, f: &mut fmt::Formatter) -> fmt::Result {
-        match self {
-            Failure::Differs(difference) => f.write_str(difference),
-            Failure::Io(error) => error.fmt(f),
-        }
-    }
-}
-
-/// A program and the argument that makes it answer orders.
-pub struct Program<'a> {
-    pub path: &'a Path,
-    pub arguments: &'a [&'a str],
-}
-
-impl Program<'_> {
-    /// What the program writes for an order, and how long it ran.
-    fn run(&self, order: &str) -> Result<(String, Duration), Failure> {
-        let start = Instant::now();
-        let mut child = Command::new(self.path)
-            .args(self.arguments)
-            .stdin(Stdio::piped())
-            .stdout(Stdio::piped())
-            .spawn()?;
-        let mut input = child.stdin.take().expect("standard input is piped");
-        input.write_all(order.as_bytes())?;
-        drop(input);
-        let mut text = String::new();
-        let mut output = child.stdout.take().expect("standard output is piped");
-        output.read_to_string(&mut text)?;
-        let status = child.wait()?;
-        let time = start.elapsed();
-        if status.success() {
-            Ok((text, time))
-        } else {
-            let path = self.path.display();
-            Err(Failure::Differs(format!("{path} ends with {status}")))
-        }
-    }
-}
-
-/// The proved program and the plain one.
+/// The proved program, the plain one, and a HashMap.
 pub struct Race<'a> {
     pub proved: Program<'a>,
     pub plain: Program<'a>,
+    pub map: Program<'a>,
 }
 
-/// The times of one order, in turns.
+/// The times of one order, in turns. There are none of a HashMap that cannot do it.
 #[derive(Default)]
 struct Times {
     proved: Vec<Duration>,
     plain: Vec<Duration>,
-}
-
-/// The median and the least of some times.
-struct Summary {
-    median: f64,
-    least: f64,
-}
-
-impl Summary {
-    /// In nanoseconds, divided by a number.
-    fn new(times: &[Duration], divisor: f64) -> Summary {
-        let mut sorted = times.to_vec();
-        sorted.sort();
-        let each = |time: Duration| time.as_secs_f64() * 1e9 / divisor;
-        Summary {
-            median: each(sorted[sorted.len() / 2]),
-            least: each(sorted[0]),
-        }
-    }
-
-    /// The median less the other's median, and the least less the other's least.
-    /// Single runs are not subtracted: none belongs to one of the other's.
-    fn less(self, other: Summary) -> Summary {
-        Summary {
-            median: self.median - other.median,
-            least: self.least - other.least,
-        }
-    }
-}
-
-fn print_row(keys: u32, name: &str, rounds: u32, proved: Summary, plain: Summary) {
-    println!(
-        "| {keys} | {name} | {rounds} | {:.1} | {:.1} | {:.1} | {:.1} | {:.2} | {:.2} |",
-        proved.median,
-        proved.least,
-        plain.median,
-        plain.least,
-        proved.median / plain.median,
-        proved.least / plain.least,
-    );
+    map: Vec<Duration>,
 }
 
 impl Race<'_> {
-    /// Compares both programs, then times them and prints a table.
-    pub fn run(&self) -> Result<(), Failure> {
-        self.compare()?;
-        println!("Median and least of {RUNS} runs of each program, in turns");
-        println!("An add in a move: rounds with such adds, less as many rounds without them\n");
-        println!("| keys | work | rounds | proved, ns | least | plain Rust, ns | least | ratio | of the least |");
-        println!("|---|---|---|---|---|---|---|---|---|");
-        for keys in TIMED {
-            for (work, name) in ROWS {
-                self.print_work(work, name, keys)?;
-            }
-            self.print_adds_in_move(keys)?;
+    /// Times the chosen rows, and prints each when it is known. The whole table
+    /// begins with the comparison.
+    pub fn run(&self, choice: &Choice, format: Format) -> Result<(), Failure> {
+        if choice.takes_all() {
+            self.compare()?;
         }
-        println!();
-        TIMED
-            .into_iter()
-            .try_for_each(|keys| self.print_start(keys))
-    }
-
-    /// The times of one add, one find or one walk call.
-    fn print_work(&self, work: Work, name: &str, keys: u32) -> Result<(), Failure> {
-        let rounds = self.rounds_for(work, keys)?;
-        let [times] = self.time([Order { work, keys, rounds }], RUNS)?;
-        let operations = f64::from(rounds) * f64::from(keys);
-        let proved = Summary::new(&times.proved, operations);
-        let plain = Summary::new(&times.plain, operations);
-        print_row(keys, name, rounds, proved, plain);
-        Ok(())
-    }
-
-    /// The times of one add in a move: those of rounds with such adds, less those
-    /// of as many rounds without them. All four kinds of runs come in turns.
-    fn print_adds_in_move(&self, keys: u32) -> Result<(), Failure> {
-        let rounds = self.rounds_for(Work::Moves, keys)?;
-        let orders = [Work::Moves, Work::Halves].map(|work| Order { work, keys, rounds });
-        let [moves, halves] = self.time(orders, RUNS)?;
-        let adds = f64::from(rounds) * f64::from(adds_in_move(keys));
-        let less = |all: &[Duration], before: &[Duration]| {
-            Summary::new(all, adds).less(Summary::new(before, adds))
-        };
-        let proved = less(&moves.proved, &halves.proved);
-        let plain = less(&moves.plain, &halves.plain);
-        print_row(keys, "add in a move", rounds, proved, plain);
-        Ok(())
-    }
-
-    /// A run of 0 rounds, whatever the work, which the times above contain:
-    /// the start of a process, one fill and one walk.
-    fn print_start(&self, keys: u32) -> Result<(), Failure> {
-        let (work, rounds) = (Work::Adds, 0);
-        let [times] = self.time([Order { work, keys, rounds }], RUNS)?;
-        let milliseconds = 1e6;
-        let proved = Summary::new(&times.proved, milliseconds);
-        let plain = Summary::new(&times.plain, milliseconds);
-        println!(
-            "{keys} keys, 0 rounds: proved {:.2} ms, least {:.2}; plain Rust {:.2} ms, least {:.2}",
-            proved.median, proved.least, plain.median, plain.least,
-        );
-        Ok(())
-    }
-
-    /// Runs both on bad orders, on the longest one and on a few rounds of each
-    /// kind of work.
-    pub fn compare(&self) -> Result<(), Failure> {
-        for bad in BAD {
-            self.time_once(bad)?;
-        }
-        self.time_once(LONGEST)?;
-        for (keys, rounds) in COMPARED {
-            for work in Work::ALL {
-                for &rounds in rounds {
-                    self.time_once(&Order { work, keys, rounds }.to_string())?;
+        format.print_head(RUNS);
+        for timing in &TIMINGS {
+            for &number in timing.numbers {
+                let rows = choice.rows_of(timing, number);
+                if rows.is_empty() {
+                    continue;
+                }
+                for row in self.measure(timing, number, &rows)? {
+                    format.print(&row);
                 }
             }
         }
-        println!("speed: the sums agree");
+        Ok(())
+    }
+
+    /// The rows of a timing at one number. Both kinds of runs come in turns.
+    fn measure(
+        &self,
+        timing: &Timing,
+        number: u32,
+        rows: &[&Row],
+    ) -> Result<Vec<Measured>, Failure> {
+        let rounds = self.rounds_for(timing.work, number)?;
+        let timed = Order {
+            work: timing.work,
+            number,
+            rounds,
+        };
+        let less = match timing.less {
+            Some(work) => Order { work, ..timed },
+            None => Order { rounds: 0, ..timed },
+        };
+        let [mut with, mut without] = [Times::default(), Times::default()];
+        for _ in 0..RUNS {
+            self.run_once(timed, &mut with)?;
+            self.run_once(less, &mut without)?;
+        }
+        let measured = rows.iter().map(|row| Measured {
+            keys: timing.keys(number),
+            name: timing.name(row, number),
+            unit: row.unit,
+            proved: row.cost(timed, &with.proved, &without.proved),
+            plain: row.cost(timed, &with.plain, &without.plain),
+            map: map::does(timing.work).then(|| row.cost(timed, &with.map, &without.map)),
+        });
+        Ok(measured.collect())
+    }
+
+    /// As many rounds as take the slower of the two stores about the wanted time.
+    fn rounds_for(&self, work: Work, number: u32) -> Result<u32, Failure> {
+        let time_of = |rounds| {
+            let order = Order {
+                work,
+                number,
+                rounds,
+            };
+            let mut times = Times::default();
+            self.run_once(order, &mut times)?;
+            Ok::<f64, Failure>(least(&times.proved).max(least(&times.plain)))
+        };
+        let wanted = RUN_TIME.as_nanos() as f64;
+        let idle = time_of(0)?;
+        let mut rounds = 1;
+        loop {
+            let time = time_of(rounds)? - idle;
+            if time * 4.0 >= wanted {
+                let share = f64::from(rounds) * wanted / time;
+                return Ok((share as u32).max(1));
+            }
+            rounds *= 4;
+        }
+    }
+
+    /// Runs the programs on bad orders, on the longest one and on a few rounds of
+    /// each kind of work.
+    pub fn compare(&self) -> Result<(), Failure> {
+        for text in BAD.into_iter().chain([LONGEST]) {
+            let (proved, _) = self.proved.run(text)?;
+            let (plain, _) = self.plain.run(text)?;
+            expect_same(text, ("proved", &proved), ("plain", &plain))?;
+        }
+        for work in Work::ALL {
+            let compared: &[(u32, &[u32])] = if work.is_spread() {
+                &SPREAD_COMPARED
+            } else {
+                &COMPARED
+            };
+            for &(number, rounds) in compared {
+                for &rounds in rounds {
+                    let order = Order {
+                        work,
+                        number,
+                        rounds,
+                    };
+                    self.run_once(order, &mut Times::default())?;
+                }
+            }
+        }
         Ok(())
     }
 
     /// One run of each. Their answers must be the same.
-    fn time_once(&self, order: &str) -> Result<(Duration, Duration), Failure> {
-        let (proved, proved_time) = self.proved.run(order)?;
-        let (plain, plain_time) = self.plain.run(order)?;
-        if proved == plain {
-            Ok((proved_time, plain_time))
-        } else {
-            let difference = format!("at {order:?}: proved {proved:?}, plain {plain:?}");
-            Err(Failure::Differs(difference))
+    fn run_once(&self, order: Order, times: &mut Times) -> Result<(), Failure> {
+        let text = order.to_string();
+        let (proved, proved_time) = self.proved.run(&text)?;
+        let (plain, plain_time) = self.plain.run(&text)?;
+        expect_same(&text, ("proved", &proved), ("plain", &plain))?;
+        times.proved.push(proved_time);
+        times.plain.push(plain_time);
+        if map::does(order.work) {
+            let (map, map_time) = self.map.run(&text)?;
+            if map::has_the_sum_of(order.work) {
+                expect_same(&text, ("plain", &plain), ("HashMap", &map))?;
+            }
+            times.map.push(map_time);
+        }
+        Ok(())
+    }
+}
+
+impl Row {
+    /// What one of its parts costs, by the times of an order and of what is to be taken
+    /// off. Single runs are not subtracted: none belongs to one of the others.
+    fn cost(&self, order: Order, with: &[Duration], without: &[Duration]) -> Cost {
+        let parts = f64::from(order.rounds) * f64::from((self.in_round)(order.number));
+        Cost {
+            least: self.unit.of((least(with) - least(without)) / parts),
+            median: self.unit.of((median(with) - median(without)) / parts),
         }
     }
+}
 
-    /// As many rounds as take the slower program about the wanted time.
-    fn rounds_for(&self, work: Work, keys: u32) -> Result<u32, Failure> {
-        let mut rounds = 64;
-        loop {
-            let [times] = self.time([Order { work, keys, rounds }], TRIALS)?;
-            let least = |times: &[Duration]| times.iter().min().copied().unwrap_or_default();
-            let time = least(&times.proved).max(least(&times.plain));
-            if time * 4 >= RUN_TIME {
-                let wanted = f64::from(rounds) * RUN_TIME.as_secs_f64() / time.as_secs_f64();
-                return Ok(wanted as u32);
-            }
-            rounds *= 2;
-        }
+fn expect_same(order: &str, one: (&str, &str), other: (&str, &str)) -> Result<(), Failure> {
+    if one.1 == other.1 {
+        return Ok(());
+    }
+    let difference = format!(
+        "at {order:?}: {} {:?}, {} {:?}",
+        one.0, one.1, other.0, other.1
+    );
+    Err(Failure::Differs(difference))
+}
+
+/// In nanoseconds, as below.
+fn least(times: &[Duration]) -> f64 {
+    let least = times.iter().min().copied().unwrap_or_default();
+    least.as_nanos() as f64
+}
+
+fn median(times: &[Duration]) -> f64 {
+    let mut sorted = times.to_vec();
+    sorted.sort();
+    sorted[sorted.len() / 2].as_nanos() as f64
+}
+
+#[cfg(test)]
+mod tests {
+    use super::*;
+
+    /// The least of each kind and the medians of each kind, and not those of the
+    /// differences.
+    #[test]
+    fn a_cost_is_a_difference_for_each_part() {
+        let order = Order {
+            work: Work::Adds,
+            number: 16,
+            rounds: 10,
+        };
+        let adds = &TIMINGS[0];
+        assert_eq!(adds.work, Work::Adds);
+        let times = |nanoseconds: [u64; 3]| nanoseconds.map(Duration::from_nanos);
+        let (with, without) = (times([2000, 9000, 4000]), times([800, 400, 500]));
+        let cost = adds.rows[0].cost(order, &with, &without);
+        assert_eq!((cost.least, cost.median), (10.0, 3500.0 / 160.0));
     }
 
-    /// So many runs of each order with each program, all in turns.
-    fn time<const N: usize>(&self, orders: [Order; N], runs: usize) -> Result<[Times; N], Failure> {
-        let mut times = std::array::from_fn(|_| Times::default());
-        for _ in 0..runs {
-            for (order, times) in orders.iter().zip(&mut times) {
-                let (proved, plain) = self.time_once(&order.to_string())?;
-                times.proved.push(proved);
-                times.plain.push(plain);
+    #[test]
+    fn orders_that_are_run_are_taken_and_bad_ones_are_not() {
+        for (number, _) in COMPARED {
+            assert!(number.is_power_of_two());
+        }
+        for text in BAD {
+            assert_eq!(Order::parse(text), None, "{text:?}");
+        }
+        assert!(Order::parse(LONGEST).is_some());
+        for timing in &TIMINGS {
+            for &number in timing.numbers {
+                let order = Order {
+                    work: timing.work,
+                    number,
+                    rounds: 1,
+                };
+                assert_eq!(Order::parse(&order.to_string()), Some(order));
             }
         }
-        Ok(times)
     }
 }

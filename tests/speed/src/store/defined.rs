@@ -1,8 +1,10 @@
-//! An add by its definition, slow and with copies, for a comparison: in a move
-//! that no safe iterator holds up the step, with all that it writes, then the add
-//! alone on what it leaves, and then the resize of a table that is to grow.
+//! The calls by their definitions, slow and with copies, for a comparison on
+//! random and damaged memories. In a move that no safe iterator holds up an add and
+//! a delete are the step, with all that it writes, then the call alone on what it
+//! leaves; behind an add comes the resize of a table that is to grow.
 
-use super::{Error, State, Store};
+use super::{Error, ScanError, Scanned, State, Store};
+use std::collections::BTreeMap;
 
 /// All that a call may change.
 #[derive(Clone, Debug, PartialEq)]
@@ -14,10 +16,18 @@ pub struct Memory {
 }
 
 /// The two live tables.
-#[derive(Clone, Copy)]
+#[derive(Clone, Copy, Debug, PartialEq)]
 enum Side {
     Old,
     New,
+}
+
+/// A key's chain, and its place on it.
+#[derive(Debug)]
+struct Found {
+    side: Side,
+    chain: Vec<u32>,
+    place: usize,
 }
 
 impl Memory {
@@ -30,6 +40,10 @@ impl Memory {
         }
     }
 
+    pub fn set_entries(&mut self, place: usize, number: u32) {
+        self.entries[place] = number;
+    }
+
     /// A call of the store on this memory.
     pub fn call<A>(&mut self, call: impl FnOnce(&mut Store) -> A) -> A {
         let mut store = Store::new(&mut self.first, &mut self.second, &mut self.entries);
@@ -39,12 +53,14 @@ impl Memory {
         answer
     }
 
+    fn check_state(&self) -> Result<(), Error> {
+        self.clone().call(|store| store.check_state())
+    }
+
     fn add(&mut self, key: u32, value: u32) -> Result<(), Error> {
+        self.check_state()?;
         let mut copy = self.clone();
-        copy.call(|store| store.check_state())?;
-        if copy.state.rehashing && copy.state.safe_iterators == 0 {
-            copy.step()?;
-        }
+        copy.step_if_due()?;
         copy.add_alone(key, value)?;
         if copy.is_to_grow() {
             // The add is answered, whatever the resize answers.
@@ -53,6 +69,91 @@ impl Memory {
         }
         *self = copy;
         Ok(())
+    }
+
+    /// Answers where the entry was behind the step, and the entries that this moved.
+    fn delete(&mut self, key: u32) -> Result<(Found, Vec<u32>), Error> {
+        self.check_state()?;
+        let mut copy = self.clone();
+        let moved = copy.step_if_due()?;
+        let found = copy.look_up(key)?.ok_or(Error::Absent)?;
+        copy.remove(&found, key);
+        *self = copy;
+        Ok((found, moved))
+    }
+
+    fn update(&mut self, key: u32, value: u32) -> Result<Found, Error> {
+        self.check_state()?;
+        let found = self.look_up(key)?.ok_or(Error::Absent)?;
+        self.entry_mut(found.chain[found.place])[2] = value;
+        Ok(found)
+    }
+
+    fn iterate(&self, place: u32, list: &mut [u32]) -> Result<Scanned, ScanError> {
+        self.check_state()?;
+        let mut places: Vec<(Side, u32)> = Vec::new();
+        for side in self.sides() {
+            places.extend((0..self.size(side)).map(|bucket| (side, bucket)));
+        }
+        let mut left = (0..places.len()).skip(place as usize);
+        let filled = left.find(|&place| {
+            let (side, bucket) = places[place];
+            self.buckets(side)[bucket as usize] != 0
+        });
+        let Some(place) = filled else {
+            let next = places.len() as u32;
+            return Ok(Scanned { next, count: 0 });
+        };
+        let (side, bucket) = places[place];
+        self.hand_out(self.chain(side, bucket)?, place as u32 + 1, list)
+    }
+
+    fn scan(&self, cursor: u32, list: &mut [u32]) -> Result<Scanned, ScanError> {
+        self.check_state()?;
+        let held = self.state.old_used + self.state.new_used;
+        if held == 0 {
+            return Ok(Scanned { next: 0, count: 0 });
+        }
+        let mut sides = self.sides();
+        sides.sort_by_key(|&side| self.size(side));
+        let (small, large) = (sides[0], sides[sides.len() - 1]);
+        let mut met = self.chain(small, cursor % self.size(small))?;
+        let mut at = next_cursor(cursor, self.size(small));
+        if small != large {
+            at = cursor;
+            loop {
+                met.extend(self.chain(large, at % self.size(large))?);
+                at = next_cursor(at, self.size(large));
+                let between = self.size(large) - self.size(small);
+                if at & between == 0 {
+                    break;
+                }
+            }
+        }
+        if met.len() as u32 > held {
+            return Err(ScanError::Refused(Error::Damaged));
+        }
+        self.hand_out(met, at, list)
+    }
+
+    fn hand_out(&self, met: Vec<u32>, next: u32, list: &mut [u32]) -> Result<Scanned, ScanError> {
+        let count = met.len() as u32;
+        if list.len() < met.len() * 2 {
+            return Err(ScanError::Short(count));
+        }
+        for (place, &entry) in met.iter().enumerate() {
+            list[place * 2..][..2].copy_from_slice(&self.entry(entry)[1..]);
+        }
+        Ok(Scanned { next, count })
+    }
+
+    /// Answers the entries that the step moves, if there is one.
+    fn step_if_due(&mut self) -> Result<Vec<u32>, Error> {
+        if self.state.rehashing && self.state.safe_iterators == 0 {
+            self.step()
+        } else {
+            Ok(Vec::new())
+        }
     }
 
     fn is_to_grow(&self) -> bool {
@@ -71,7 +172,7 @@ impl Memory {
         sizes.find(|&size| size >= 2 * keys).unwrap_or(65536)
     }
 
-    fn step(&mut self) -> Result<(), Error> {
+    fn step(&mut self) -> Result<Vec<u32>, Error> {
         let before = self.state;
         let mut moved = Vec::new();
         let mut next = before.rehash_index;
@@ -99,16 +200,12 @@ impl Memory {
             (state.old_used, state.new_used) = (state.new_used, 0);
             (state.rehashing, state.rehash_index) = (false, 0);
         }
-        Ok(())
+        Ok(moved)
     }
 
     fn add_alone(&mut self, key: u32, value: u32) -> Result<(), Error> {
         let state = self.state;
-        let mut met = self.chain(Side::Old, key % state.old_size)?;
-        if state.rehashing {
-            met.extend(self.chain(Side::New, key % state.new_size)?);
-        }
-        if met.iter().any(|&entry| self.entry(entry)[1] == key) {
+        if self.look_up(key)?.is_some() {
             return Err(Error::Present);
         }
         if state.old_used + state.new_used == state.capacity {
@@ -128,6 +225,46 @@ impl Memory {
             self.state.old_used += 1;
         }
         Ok(())
+    }
+
+    /// The entry off its chain, which is linked anew without it, and onto the free
+    /// chain.
+    fn remove(&mut self, found: &Found, key: u32) {
+        let mut chain = found.chain.clone();
+        let entry = chain.remove(found.place);
+        let bucket = key % self.size(found.side);
+        self.buckets_mut(found.side)[bucket as usize] = chain.first().copied().unwrap_or(0);
+        for (place, &left) in chain.iter().enumerate() {
+            self.entry_mut(left)[0] = chain.get(place + 1).copied().unwrap_or(0);
+        }
+        let free = std::mem::replace(&mut self.state.free_head, entry);
+        self.entry_mut(entry).copy_from_slice(&[free, 0, 0]);
+        match found.side {
+            Side::Old => self.state.old_used -= 1,
+            Side::New => self.state.new_used -= 1,
+        }
+    }
+
+    /// Where a key is first met, if the chains that a lookup reads are sound.
+    fn look_up(&self, key: u32) -> Result<Option<Found>, Error> {
+        let mut chains = Vec::new();
+        for side in self.sides() {
+            chains.push((side, self.chain(side, key % self.size(side))?));
+        }
+        Ok(chains.into_iter().find_map(|(side, chain)| {
+            let mut entries = chain.iter();
+            let place = entries.position(|&entry| self.entry(entry)[1] == key)?;
+            Some(Found { side, chain, place })
+        }))
+    }
+
+    /// The live tables, or the only one.
+    fn sides(&self) -> Vec<Side> {
+        if self.state.rehashing {
+            vec![Side::Old, Side::New]
+        } else {
+            vec![Side::Old]
+        }
     }
 
     /// The entries of a bucket's chain, if it is sound.
@@ -190,6 +327,14 @@ impl Memory {
     }
 }
 
+/// The next cursor, in the specification's four steps.
+fn next_cursor(cursor: u32, size: u32) -> u32 {
+    let filled = cursor | !(size - 1);
+    let reversed = (0..32).fold(0, |bits, place| bits << 1 | (filled >> place & 1));
+    let counted: u32 = u32::wrapping_add(reversed, 1);
+    (0..32).fold(0, |bits, place| bits << 1 | (counted >> place & 1))
+}
+
 /// The generator of Lehmer on 64 bits, of which the upper ones are used.
 struct Random(u64);
 
@@ -203,12 +348,14 @@ impl Random {
 /// A store somewhere in a move, or just behind one, or in four of ten cases without
 /// a resize. Its one table may have too many keys, since they were added without
 /// permission, and the other buffer may be too short for it to grow. One of four has
-/// safe iterators. In three of four cases some of its numbers are made others.
+/// safe iterators. One of four has no keys in the first ten of sixteen buckets. In
+/// three of four cases some of its numbers are made others.
 fn any_memory(random: &mut Random) -> Memory {
     let capacity = 2 + random.below(8);
     let old = random.below(5);
     let new = (old + 1 + random.below(4)) % 5;
     let begins = random.below(10) >= 4;
+    let high = if random.below(4) == 0 { 10 } else { 0 };
     let least = if begins { 1 << new } else { 0 };
     let mut memory = Memory {
         state: State::default(),
@@ -220,13 +367,13 @@ fn any_memory(random: &mut Random) -> Memory {
         assert_eq!(store.init(capacity, 1 << old), Ok(()));
         store.state.resize_allowed = false;
         for _ in 0..random.below(capacity) {
-            let _ = store.add(random.below(32), 0);
+            let _ = store.add(random.below(32) | high, 0);
         }
         if begins {
             // Refused where six keys in one bucket have begun a move.
             let _ = store.resize(1 << new);
             for _ in 0..random.below(3) {
-                let _ = store.add(random.below(32), 0);
+                let _ = store.add(random.below(32) | high, 0);
             }
         }
     });
@@ -260,6 +407,14 @@ fn any_memory(random: &mut Random) -> Memory {
     memory
 }
 
+/// Any key, or in three of four cases the key of some entry, which often is held.
+fn any_key(memory: &Memory, random: &mut Random) -> u32 {
+    match random.below(4) {
+        0 => random.below(32),
+        _ => memory.entry(1 + random.below(memory.state.capacity))[1],
+    }
+}
+
 /// A number somewhere in a buffer, which may have no place for it.
 fn put_any(buffer: &mut [u32], number: u32, random: &mut Random) {
     let place = random.below(buffer.len() as u32) as usize;
@@ -268,55 +423,294 @@ fn put_any(buffer: &mut [u32], number: u32, random: &mut Random) {
     }
 }
 
+/// The kinds of cases that a comparison has met, and how often.
+#[derive(Debug, Default)]
+struct Seen(BTreeMap<&'static str, u32>);
+
+impl Seen {
+    fn note(&mut self, kind: &'static str) {
+        *self.0.entry(kind).or_default() += 1;
+    }
+
+    fn note_if(&mut self, is_so: bool, kind: &'static str) {
+        if is_so {
+            self.note(kind);
+        }
+    }
+
+    fn refusal(&mut self, error: Error) {
+        self.note(match error {
+            Error::BadState => "bad state",
+            Error::Damaged => "damaged",
+            Error::Absent => "absent",
+            Error::Present => "present",
+            Error::Full => "full",
+            _ => "another refusal",
+        });
+    }
+
+    /// What came first in an answered call.
+    fn step(&mut self, before: &Memory, after: State) {
+        let state = before.state;
+        let moved = |next: u32| before.buckets(Side::Old)[next as usize - 1] != 0;
+        self.note(match state.rehashing {
+            false => "no move",
+            true if state.safe_iterators > 0 => "held up",
+            true if state.second_is_current != after.second_is_current => "ended",
+            true if moved(after.rehash_index) => "moved",
+            true => "passed",
+        });
+    }
+
+    fn found(&mut self, found: &Found) {
+        self.note(match (found.side, found.place) {
+            (Side::Old, 0) => "head of an old chain",
+            (Side::Old, _) => "behind in an old chain",
+            (Side::New, 0) => "head of a new chain",
+            (Side::New, _) => "behind in a new chain",
+        });
+    }
+
+    /// It has met just these kinds, and each of them often.
+    fn expect(&self, kinds: &[&'static str]) {
+        let mut expected = kinds.to_vec();
+        expected.sort();
+        let met: Vec<&str> = self.0.keys().copied().collect();
+        assert_eq!(met, expected);
+        assert!(self.0.values().all(|&count| count > 300), "{self:?}");
+    }
+}
+
+/// Runs `test` on as many memories.
+fn on_any_memory(seed: u64, mut test: impl FnMut(&mut Random, Memory)) {
+    let mut random = Random(seed);
+    for _ in 0..150_000 {
+        let memory = any_memory(&mut random);
+        test(&mut random, memory);
+    }
+}
+
 #[test]
 fn an_add_is_what_its_definition_says_on_any_memory() {
-    let mut random = Random(1);
-    let mut refused = [0; 8];
-    let [mut held_up, mut passed, mut moved, mut ended] = [0; 4];
-    let [mut grown, mut grown_at_once, mut cramped] = [0; 3];
-    for _ in 0..150_000 {
-        let before = any_memory(&mut random);
+    let mut seen = Seen::default();
+    on_any_memory(1, |random, before| {
         let (key, value) = (random.below(32), random.below(100));
         let (mut defined, mut added) = (before.clone(), before.clone());
         let expected = defined.add(key, value);
         let answer = added.call(|store| store.add(key, value));
         assert_eq!(answer, expected, "{before:?}");
         assert_eq!(added, defined, "{before:?}");
-        match answer {
+        if let Err(error) = answer {
+            assert_eq!(added, before);
+            return seen.refusal(error);
+        }
+        let after = added.state;
+        assert_eq!(after.resize_allowed, before.state.resize_allowed);
+        assert_eq!(after.safe_iterators, before.state.safe_iterators);
+        seen.step(&before, after);
+        let has_ended = before.state.second_is_current != after.second_is_current;
+        let rested = !before.state.rehashing || has_ended;
+        seen.note_if(rested && after.rehashing, "grown");
+        seen.note_if(has_ended && after.rehashing, "grown at once");
+        seen.note_if(added.is_to_grow(), "no room to grow");
+    });
+    seen.expect(&[
+        "bad state",
+        "damaged",
+        "present",
+        "full",
+        "no move",
+        "held up",
+        "passed",
+        "moved",
+        "ended",
+        "grown",
+        "grown at once",
+        "no room to grow",
+    ]);
+}
+
+#[test]
+fn a_delete_is_what_its_definition_says_on_any_memory() {
+    let mut seen = Seen::default();
+    on_any_memory(2, |random, before| {
+        let key = any_key(&before, random);
+        let (mut defined, mut deleted) = (before.clone(), before.clone());
+        let expected = defined.delete(key);
+        let answer = deleted.call(|store| store.delete(key));
+        assert_eq!(answer.err(), expected.as_ref().err().copied(), "{before:?}");
+        assert_eq!(deleted, defined, "{before:?}");
+        let (found, moved) = match expected {
+            Ok(both) => both,
             Err(error) => {
-                assert_eq!(added, before);
-                refused[error as usize] += 1;
+                assert_eq!(deleted, before);
+                return seen.refusal(error);
             }
-            Ok(()) => {
-                let (before, after) = (before.state, added.state);
-                assert_eq!(after.resize_allowed, before.resize_allowed);
-                assert_eq!(after.safe_iterators, before.safe_iterators);
-                let has_ended = before.second_is_current != after.second_is_current;
-                match before.rehashing {
-                    false => {}
-                    true if before.safe_iterators > 0 => held_up += 1,
-                    true if has_ended => ended += 1,
-                    true if after.old_used == before.old_used => passed += 1,
-                    true => moved += 1,
-                }
-                let rested = !before.rehashing || has_ended;
-                grown += u32::from(rested && after.rehashing);
-                grown_at_once += u32::from(has_ended && after.rehashing);
-                cramped += u32::from(added.is_to_grow());
+        };
+        seen.step(&before, deleted.state);
+        seen.found(&found);
+        let before_it = found.chain[..found.place].last();
+        let is_behind_moved = before_it.is_some_and(|entry| moved.contains(entry));
+        if moved.contains(&found.chain[found.place]) {
+            seen.note("moved itself");
+            seen.note_if(is_behind_moved, "moved itself, and another one before it");
+        } else {
+            seen.note_if(is_behind_moved, "right behind those that moved");
+        }
+    });
+    seen.expect(&[
+        "bad state",
+        "damaged",
+        "absent",
+        "no move",
+        "held up",
+        "passed",
+        "moved",
+        "ended",
+        "head of an old chain",
+        "behind in an old chain",
+        "head of a new chain",
+        "behind in a new chain",
+        "moved itself",
+        "moved itself, and another one before it",
+        "right behind those that moved",
+    ]);
+}
+
+#[test]
+fn a_change_is_what_its_definition_says_on_any_memory() {
+    let mut seen = Seen::default();
+    on_any_memory(3, |random, before| {
+        let (key, value) = (any_key(&before, random), random.below(100));
+        let (mut defined, mut changed) = (before.clone(), before.clone());
+        let expected = defined.update(key, value);
+        let answer = changed.call(|store| store.update(key, value));
+        assert_eq!(answer.err(), expected.as_ref().err().copied(), "{before:?}");
+        assert_eq!(changed, defined, "{before:?}");
+        // A find reads the same, and finds the same entry.
+        let value = changed.call(|store| store.find(key));
+        match expected {
+            Err(error) => {
+                assert_eq!((changed, value), (before, Err(error)));
+                seen.refusal(error);
+            }
+            Ok(found) => {
+                let entry = changed.entry(found.chain[found.place]);
+                assert_eq!(value, Ok(entry[2]));
+                seen.found(&found);
             }
         }
+    });
+    seen.expect(&[
+        "bad state",
+        "damaged",
+        "absent",
+        "head of an old chain",
+        "behind in an old chain",
+        "head of a new chain",
+        "behind in a new chain",
+    ]);
+}
+
+/// Compares a call that hands out keys, given a cursor or a place, with its
+/// definition. It must only read the memory, and write to the list only where it is
+/// answered.
+fn compare_handing_out(
+    random: &mut Random,
+    seen: &mut Seen,
+    before: &Memory,
+    call: impl Fn(&Store, u32, &mut [u32]) -> Result<Scanned, ScanError>,
+    define: impl Fn(&Memory, u32, &mut [u32]) -> Result<Scanned, ScanError>,
+) -> Option<(u32, Scanned)> {
+    let from = match random.below(8) {
+        0 => u32::MAX - random.below(40),
+        _ => random.below(20),
+    };
+    let room = random.below(20) as usize;
+    let (mut defined, mut listed) = (vec![7; room], vec![7; room]);
+    let expected = define(before, from, &mut defined);
+    let mut memory = before.clone();
+    let answer = memory.call(|store| call(store, from, &mut listed));
+    assert_eq!(answer, expected, "{from} {room} {before:?}");
+    assert_eq!(listed, defined, "{from} {before:?}");
+    assert_eq!(memory, *before);
+    match answer {
+        Ok(scanned) => return Some((from, scanned)),
+        Err(ScanError::Short(_)) => seen.note("short"),
+        Err(ScanError::Refused(error)) => seen.refusal(error),
     }
-    // It has seen each answer that an add has, each kind of step, adds that take
-    // none in a move, and tables that grow, also behind a step that ended a move,
-    // or have no room to.
-    let [_, bad_state, damaged, _, present, full, ..] = refused;
-    for count in [bad_state, damaged, present, full] {
-        assert!(count > 300, "{refused:?}");
-    }
-    for count in [held_up, passed, moved, ended] {
-        assert!(count > 300, "{held_up} {passed} {moved} {ended}");
-    }
-    for count in [grown, grown_at_once, cramped] {
-        assert!(count > 300, "{grown} {grown_at_once} {cramped}");
+    None
+}
+
+#[test]
+fn a_pass_call_is_what_its_definition_says_on_any_memory() {
+    let mut seen = Seen::default();
+    on_any_memory(4, |random, memory| {
+        let call = |store: &Store, place, list: &mut [u32]| store.iterate(place, list);
+        let answer = compare_handing_out(random, &mut seen, &memory, call, Memory::iterate);
+        let Some((place, Scanned { next, count })) = answer else {
+            return;
+        };
+        let end = memory.state.old_size + memory.state.new_size;
+        assert!(count > 0 || next == end);
+        seen.note(match count {
+            0 if place < end => "none left",
+            0 => "from the end on",
+            _ if next > memory.state.old_size => "keys of the new table",
+            1 => "one key of the old table",
+            _ => "more keys of the old table",
+        });
+    });
+    seen.expect(&[
+        "bad state",
+        "damaged",
+        "short",
+        "none left",
+        "from the end on",
+        "one key of the old table",
+        "more keys of the old table",
+        "keys of the new table",
+    ]);
+}
+
+#[test]
+fn a_walk_call_is_what_its_definition_says_on_any_memory() {
+    let mut seen = Seen::default();
+    on_any_memory(5, |random, memory| {
+        let call = |store: &Store, cursor, list: &mut [u32]| store.scan(cursor, list);
+        let answer = compare_handing_out(random, &mut seen, &memory, call, Memory::scan);
+        let Some((_, Scanned { next, count })) = answer else {
+            return;
+        };
+        let state = memory.state;
+        seen.note(match (state.rehashing, state.old_size < state.new_size) {
+            (false, _) => "one table",
+            (true, true) => "to a larger table",
+            (true, false) => "to a smaller table",
+        });
+        seen.note(if count == 0 { "no keys" } else { "keys" });
+        seen.note_if(next == 0, "the walk is over");
+    });
+    seen.expect(&[
+        "bad state",
+        "damaged",
+        "short",
+        "one table",
+        "to a larger table",
+        "to a smaller table",
+        "no keys",
+        "keys",
+        "the walk is over",
+    ]);
+}
+
+/// For every size and every bucket, and for cursors beyond the table.
+#[test]
+fn the_next_cursor_is_what_its_definition_says() {
+    for size in (0..=16).map(|exponent| 1 << exponent) {
+        for cursor in (0..size).chain((0..1000).map(|n| n * 4294967)) {
+            let defined = next_cursor(cursor, size);
+            assert_eq!(super::scan::next_cursor(cursor, size), defined);
+        }
     }
 }

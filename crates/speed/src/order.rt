@@ -1,30 +1,14 @@
-// What is to be timed.
-use crate::keys::MAX_KEYS;
+// What the text of an order says.
+use model::LARGEST_CAPACITY;
 use script::number::Number;
 use script::number::parse_number;
+use speed_calls::keys::CELLS;
+use speed_calls::keys::MAX_KEYS;
+use speed_rounds::order::Build;
+use speed_rounds::order::Order;
+use speed_rounds::order::Use;
+use speed_rounds::order::Work;
 
-// The longest order has 24 bytes, so one that reaches into the buffer's second half is bad. Behind a good one that half is
-// 0, and the rounds hide the state with it.
-pub(crate) const ORDER_ROOM: usize = 64;
-
-pub(crate) enum Work {
-    Adds,
-    Finds,
-    Walks,
-    // Adds during a rehash (the specification's move), with all that comes before them.
-    Moves,
-    // What comes before them, alone.
-    Halves,
-}
-
-// So many rounds on a store for so many keys.
-pub(crate) struct Order {
-    pub work: Work,
-    pub keys: u32,
-    pub rounds: u32,
-}
-
-// What a text says.
 pub(crate) enum Parsed {
     Bad,
     Good(Order),
@@ -35,19 +19,58 @@ fn is_number_of_keys(n: u32) -> bool {
     (u32::count_ones(n) == 1) & (n as usize <= MAX_KEYS)
 }
 
-fn order_of(letter: u8, keys: u32, rounds: u32) -> Parsed {
-    let work = match letter {
-        b'A' => Work::Adds,
-        b'F' => Work::Finds,
-        b'W' => Work::Walks,
-        b'M' => Work::Moves,
-        b'H' => Work::Halves,
-        _ => return Parsed::Bad,
-    };
+// Work on scattered keys.
+fn keys_order(work: Work, keys: u32, rounds: u32) -> Parsed {
     if is_number_of_keys(keys) {
-        Parsed::Good(Order { work, keys, rounds })
+        Parsed::Good(Order {
+            work,
+            capacity: keys,
+            scan_chains: 0,
+            rounds,
+        })
     } else {
         Parsed::Bad
+    }
+}
+
+// Work on cells, in the largest store. Each scan chain has one at least.
+fn cells_order(work: Work, scan_chains: u32, rounds: u32) -> Parsed {
+    if (0 < scan_chains) & (scan_chains as usize <= CELLS) {
+        Parsed::Good(Order {
+            work,
+            capacity: LARGEST_CAPACITY,
+            scan_chains,
+            rounds,
+        })
+    } else {
+        Parsed::Bad
+    }
+}
+
+// As many keys as the capacity, but for cells.
+pub(crate) fn number_of_keys(order: Order) -> usize {
+    if order.scan_chains == 0 {
+        order.capacity as usize
+    } else {
+        CELLS
+    }
+}
+
+fn order_of(letter: u8, number: u32, rounds: u32) -> Parsed {
+    match letter {
+        b'A' => keys_order(Work::Builds(Build::Adds), number, rounds),
+        b'F' => keys_order(Work::Uses(Use::Finds), number, rounds),
+        b'V' => keys_order(Work::Uses(Use::Updates), number, rounds),
+        b'W' => keys_order(Work::Uses(Use::Walks), number, rounds),
+        b'P' => keys_order(Work::Uses(Use::Passes), number, rounds),
+        b'G' => keys_order(Work::Builds(Build::Growth), number, rounds),
+        b'D' => keys_order(Work::Builds(Build::Deletes), number, rounds),
+        b'H' => keys_order(Work::Builds(Build::Halves), number, rounds),
+        b'M' => keys_order(Work::Builds(Build::HalvesAndAdds), number, rounds),
+        b'E' => keys_order(Work::Builds(Build::HalvesAndDeletes), number, rounds),
+        b'S' => cells_order(Work::Builds(Build::Adds), number, rounds),
+        b'T' => cells_order(Work::Uses(Use::Finds), number, rounds),
+        _ => Parsed::Bad,
     }
 }
 
@@ -58,13 +81,13 @@ fn parse_numbers(letter: u8, text: &[u8]) -> Parsed {
         return Parsed::Bad;
     }
     let start = end + 1;
-    let Number::Good(keys) = parse_number(&text[0..end]) else {
+    let Number::Good(number) = parse_number(&text[0..end]) else {
         return Parsed::Bad;
     };
     let Number::Good(rounds) = parse_number(&text[start..]) else {
         return Parsed::Bad;
     };
-    order_of(letter, keys, rounds)
+    order_of(letter, number, rounds)
 }
 
 // A letter, a space and the numbers.

@@ -1,12 +1,12 @@
--- `speed::keys::make_keys` is safe and ends. The list keeps its length.
+-- `speed_calls::keys::scatter` is safe and ends. The list keeps its length.
 -- Assumes nothing.
 use Prim.Native.Nat.{_-_}
 use mathlib.Core.Path.{_≡_}
 use native.Mathlib.Omega.{arith}
 use borrow.Author.Needs.{needs}
 use lib.ListN.{length}
-use Rattle.speed.proofs.keys.make_keys.Statement.{statement}
-use Rattle.speed.proofs.keys.make_keys.Tie as tie
+use Rattle.speed_calls.proofs.keys.scatter.Statement.{statement}
+use Rattle.speed_calls.proofs.keys.scatter.Tie as tie
 
 abbrev Inv-loop : tie.InvT-loop
 Inv-loop keys₀ key₀ i₀ i-end keys key i = length keys ≡ length keys₀
@@ -41,8 +41,8 @@ same-length c = omega arith
 returns : tie.Need-returns Inv-loop μ-loop
 returns c = tt
 
-pub make-keys-spec : {M : Type 1} → statement M
-make-keys-spec =
+pub scatter-spec : {M : Type 1} → statement M
+scatter-spec =
     tie.close
     (tie.spec
     Inv-loop

@@ -1,17 +1,14 @@
--- `speed::rounds::find_all` is safe and ends.
+-- `speed_calls::reads::find_all` is safe and ends.
 -- Assumes nothing.
 use native.Mathlib.Omega.{arith}
-use Rattle.speed.proofs.rounds.find_all.Statement.{statement}
-use Rattle.speed.proofs.rounds.find_all.Tie as tie
+use Rattle.speed_calls.proofs.reads.find_all.Statement.{statement}
+use Rattle.speed_calls.proofs.reads.find_all.Tie as tie
 
 abbrev Inv-loop : tie.InvT-loop
-Inv-loop first second entries keys s seed sum total₀ p₀ left₀ total p left = Unit {0}
+Inv-loop first second entries keys s sum total₀ p₀ left₀ total p left = Unit {0}
 
 abbrev μ-loop : tie.MeasureT-loop
-μ-loop first second entries keys s seed sum total₀ p₀ left₀ total p left = left
-
-path-of-requires : tie.Need-path-of-requires Inv-loop μ-loop
-path-of-requires c κs = tt
+μ-loop first second entries keys s sum total₀ p₀ left₀ total p left = left
 
 loop-holds : tie.Need-loop-holds Inv-loop μ-loop
 loop-holds c = tt
@@ -43,7 +40,6 @@ find-all-spec =
     (tie.spec
     Inv-loop
     μ-loop
-    path-of-requires
     loop-holds
     sub-left
     key-at-requires

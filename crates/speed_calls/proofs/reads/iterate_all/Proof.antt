@@ -1,16 +1,16 @@
--- `speed::rounds::walk_all` is safe and ends. The list keeps its length.
+-- `speed_calls::reads::iterate_all` is safe and ends.
 -- Assumes nothing.
 use mathlib.Core.Path.{_≡_}
 use native.Mathlib.Omega.{arith}
 use lib.ListN.{length}
-use Rattle.speed.proofs.rounds.walk_all.Statement.{statement}
-use Rattle.speed.proofs.rounds.walk_all.Tie as tie
+use Rattle.speed_calls.proofs.reads.iterate_all.Statement.{statement}
+use Rattle.speed_calls.proofs.reads.iterate_all.Tie as tie
 
 abbrev Inv-loop : tie.InvT-loop
-Inv-loop first second entries list₀ s sum w₀ left₀ list w left = length list ≡ length list₀
+Inv-loop first second entries list₀ s sum p₀ left₀ list p left = length list ≡ length list₀
 
 abbrev μ-loop : tie.MeasureT-loop
-μ-loop first second entries list₀ s sum w₀ left₀ list w left = left
+μ-loop first second entries list₀ s sum p₀ left₀ list p left = left
 
 loop-holds : tie.Need-loop-holds Inv-loop μ-loop
 loop-holds c = omega arith
@@ -18,8 +18,8 @@ loop-holds c = omega arith
 sub-left : tie.Need-sub-left Inv-loop μ-loop
 sub-left c = omega arith
 
-walk-on-requires : tie.Need-walk-on-requires Inv-loop μ-loop
-walk-on-requires c κs = tt
+iterate-on-requires : tie.Need-iterate-on-requires Inv-loop μ-loop
+iterate-on-requires c κs = tt
 
 loop-less : tie.Need-loop-less Inv-loop μ-loop
 loop-less c = omega arith
@@ -39,15 +39,15 @@ same-length-2 c = omega arith
 returns-2 : tie.Need-returns-2 Inv-loop μ-loop
 returns-2 c = tt
 
-pub walk-all-spec : {M : Type 1} → statement M
-walk-all-spec =
+pub iterate-all-spec : {M : Type 1} → statement M
+iterate-all-spec =
     tie.close
     (tie.spec
     Inv-loop
     μ-loop
     loop-holds
     sub-left
-    walk-on-requires
+    iterate-on-requires
     loop-less
     loop-again
     same-length

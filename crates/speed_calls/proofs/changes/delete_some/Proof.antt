@@ -1,17 +1,17 @@
--- `speed::rounds::add_some` is safe and ends. The buffers keep their lengths.
+-- `speed_calls::changes::delete_some` is safe and ends. The buffers keep their lengths.
 -- Assumes nothing.
 use mathlib.Core.Path.{_≡_}
 use native.Mathlib.Omega.{arith}
 use lib.ListN.{length}
-use Rattle.speed.proofs.rounds.add_some.Statement.{statement}
-use Rattle.speed.proofs.rounds.add_some.Tie as tie
+use Rattle.speed_calls.proofs.changes.delete_some.Statement.{statement}
+use Rattle.speed_calls.proofs.changes.delete_some.Tie as tie
 
 abbrev Inv-loop : tie.InvT-loop
-Inv-loop first₀ second₀ entries₀ keys count t₀ p₀ value₀ left₀ first second entries t p value left =
+Inv-loop first₀ second₀ entries₀ keys count t₀ p₀ left₀ first second entries t p left =
     (length first ≡ length first₀) × (length second ≡ length second₀) × (length entries ≡ length entries₀)
 
 abbrev μ-loop : tie.MeasureT-loop
-μ-loop first₀ second₀ entries₀ keys count t₀ p₀ value₀ left₀ first second entries t p value left = left
+μ-loop first₀ second₀ entries₀ keys count t₀ p₀ left₀ first second entries t p left = left
 
 loop-holds : tie.Need-loop-holds Inv-loop μ-loop
 loop-holds c = omega arith
@@ -22,14 +22,11 @@ sub-left c = omega arith
 key-at-requires : tie.Need-key-at-requires Inv-loop μ-loop
 key-at-requires c κs = tt
 
-add-key-requires : tie.Need-add-key-requires Inv-loop μ-loop
-add-key-requires c κs = tt
+delete-key-requires : tie.Need-delete-key-requires Inv-loop μ-loop
+delete-key-requires c κs = tt
 
 next-place-requires : tie.Need-next-place-requires Inv-loop μ-loop
 next-place-requires c κs = tt
-
-wrapping-add-u32-requires : tie.Need-wrapping-add-u32-requires Inv-loop μ-loop
-wrapping-add-u32-requires c κs = tt
 
 loop-less : tie.Need-loop-less Inv-loop μ-loop
 loop-less c = omega arith
@@ -49,8 +46,8 @@ same-length-3 c = omega arith
 returns : tie.Need-returns Inv-loop μ-loop
 returns c = tt
 
-pub add-some-spec : {M : Type 1} → statement M
-add-some-spec =
+pub delete-some-spec : {M : Type 1} → statement M
+delete-some-spec =
     tie.close
     (tie.spec
     Inv-loop
@@ -58,9 +55,8 @@ add-some-spec =
     loop-holds
     sub-left
     key-at-requires
-    add-key-requires
+    delete-key-requires
     next-place-requires
-    wrapping-add-u32-requires
     loop-less
     loop-again
     same-length

@@ -1,10 +1,10 @@
--- `speed::rounds::sum_list` is safe and ends.
+-- `speed_calls::reads::sum_list` is safe and ends.
 -- Assumes nothing.
 use Prim.Native.Nat.{_-_}
 use native.Mathlib.Omega.{arith}
 use lib.ListN.{length}
-use Rattle.speed.proofs.rounds.sum_list.Statement.{statement}
-use Rattle.speed.proofs.rounds.sum_list.Tie as tie
+use Rattle.speed_calls.proofs.reads.sum_list.Statement.{statement}
+use Rattle.speed_calls.proofs.reads.sum_list.Tie as tie
 
 abbrev Inv-loop : tie.InvT-loop
 Inv-loop list sum total₀ i₀ i-end total i = Unit {0}

@@ -9,9 +9,11 @@
 //!
 //! The program is that of `crates/speed`. Both run as processes of their own, in
 //! turns, and std's HashMap with them where it can do the same; every sum that they
-//! write is compared. The times are those of a processor, so that other processes
-//! do not count. Without more words the whole table is timed, which takes some
-//! minutes; a word chooses the rows whose names begin with it, a number those with
+//! write is compared. The times are those that a processor spent on a program: what it
+//! spends on others does not count, though these may still slow it down, so that only
+//! times of one run can be set side by side, and small differences only where nothing
+//! else runs. Without more words the whole table is timed, which takes some minutes;
+//! a word chooses the rows whose names begin with it, a number those with
 //! so many keys. With `--csv` the times are printed for another program
 //! (`tests/speed/picture`), and with `--compare` nothing is timed.
 //!

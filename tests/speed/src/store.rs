@@ -16,40 +16,43 @@
 //! the compiler (`work.rs`).
 //!
 //! It is the bar for the proved store, so it is tuned within that form. Inlining is
-//! left to the compiler on both sides, since Rattle has no word for it. Kept, with
-//! what each won at 4,096 keys, in nanoseconds, on one machine that was not idle:
+//! left to the compiler on both sides, since Rattle has no word for it.
 //!
-//! - a bucket by a mask, two buckets compared by one mask, one loop to a chain's end
-//!   that carries what was found without a branch, errors as wide as the numbers
-//!   beside them: from the stores before this one;
-//! - entries cut to the capacity, so that the test of an index is that of a number,
-//!   and what a chain is read for given as a closure, so that each call has a loop of
-//!   its own: find 19.2 to 17.4, walk call 14.1 to 9.9, careful pass 10.8 to 5.7;
-//! - an add that asks only whether the key is held, and one table's add apart from two
-//!   tables': add 15.3 to 13.9, add in a move 48.7 to 46.3;
-//! - the tests of the state joined: add 16.0 to 15.4, find 17.3 to 16.9;
-//! - answers that fit into registers where a function stays a call: walk call 9.8 to
-//!   8.1;
-//! - the proved store's quick step and half word for the next cursor: walk call 8.0
-//!   with the quick step alone, 7.6 with both (at 65,536 keys 23.2 and 22.2);
-//! - that cursor made before the list is written: walk call 10.1 to 6.0 (20.3 to 18.7);
-//! - the entry or the bucket that leads to a deleted one chosen without a branch:
-//!   delete 18.3 to 16.9;
-//! - for a step, one reading of the chain that moves for all that is asked of it, the
-//!   heads of the key's chains fetched before it, and the way to a key behind the
-//!   step told from the memory before it.
+//! Some sixty shapes were built and timed, on a machine that was not idle. The figures
+//! here are from runs of their own, made when the choice was over, in nanoseconds, the
+//! least of 15 runs in turns, at 256 and at 65,536 keys. In those runs one program,
+//! timed twice, differed from itself by up to 11 percent in an add, 7 in a find, 15 in
+//! a delete, 8 in a pass and more than a third in an add in a move; so less than that
+//! is no gain that these runs could show.
 //!
-//! Tried, and dropped: entries viewed as arrays of three numbers (no gain any more);
-//! tables cut to their sizes (walk call 9.8 to 13.7); all tests of the state in one
-//! flag, both cases (find 16.8, but add 17.2 and delete 21.5); pairs written to the
-//! chain's end and not by their number (walk call 5.4 to 11.7). Left out, since it is
-//! outside the form: the next cursor by its highest zero bit, with no reversal (walk
-//! call 5.4, at 65,536 keys 19.2). The customer asked for a table of reversed bytes,
-//! so both stores reverse.
+//! Kept, and shown:
+//! - what a chain is read for is given as a closure, so that each call has a loop of
+//!   its own: walk call 14.9 to 11.1, 24.0 to 20.7; careful pass 7.2 to 5.3, 18.3 to
+//!   16.4;
+//! - answers that fit into registers where a function stays a call: walk call 7.6 to
+//!   6.6, 21.9 to 20.5.
+//!
+//! The next cursor is the proved store's, by the quick step and half a word: walk call
+//! 6.8, 21.3 (with the quick step alone 6.5, 23.3). By its highest zero bit, with no
+//! reversal, it would be 4.9, 18.2. That is outside the form: the customer asked for a
+//! table of reversed bytes, and so both stores reverse.
+//!
+//! Kept, and not shown to win by more than that: entries cut to the capacity, so that
+//! the test of an index is that of a number; the tests of the state joined; an add to
+//! one table apart from that in a move; the next cursor made before the list is
+//! written (18.5 for 19.8 at 65,536 keys, nothing at 16 and 256); for a step, one
+//! reading of the chain that moves for all that is asked of it, the heads of the key's
+//! chains fetched before it, and the way to a key behind the step told from the memory
+//! before it.
+//!
+//! Tried, and left out without a gain shown: entries viewed as arrays of three numbers,
+//! tables cut to their sizes, all tests of the state in one flag, pairs written to the
+//! chain's end and not by their number, and a deleted entry's link written without a
+//! branch (quicker in one of two runs made to decide it).
 //!
 //! A walk and a pass go the same way each round. At 4,096 keys a processor learns some
-//! of their branches, but not all, and where the code lies decides how many: there
-//! these rows move by some nanoseconds with any change, also one elsewhere.
+//! of their branches, but not all, and where the code lies decides how many: shapes
+//! with the same instructions had 5.4 to 8.9 there. So no choice rests on those rows.
 
 mod add;
 mod delete;

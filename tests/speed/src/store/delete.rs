@@ -144,13 +144,11 @@ impl Store<'_> {
         };
         let start = start_of(way.entry);
         let link = self.entries[start];
-        // The bucket or the entry before it gets the link. Which of them is chosen
-        // without a branch, which no processor could foresee; so there is an entry to
-        // choose in either case.
-        let head = &mut buckets[bucket(key, size)];
-        let before = &mut self.entries[start_of(way.before.max(1))];
-        let leading = if way.before == 0 { head } else { before };
-        *leading = link;
+        if way.before == 0 {
+            buckets[bucket(key, size)] = link;
+        } else {
+            self.entries[start_of(way.before)] = link;
+        }
         self.entries[start..start + FIELDS].copy_from_slice(&[state.free_head, 0, 0]);
         state.free_head = way.entry;
     }

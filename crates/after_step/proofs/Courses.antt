@@ -1,12 +1,11 @@
 -- What is foreseen of a step, from the survey, from what comes from the next bucket on and from the counts; and from there an
 -- entry's link then, and the step.
 -- Assumes nothing.
-use Prim.Native.Nat.{ℕ, _+_, _-_, _*_, _≤_, _<_}
+use Prim.Native.Nat.{ℕ, _+_, _-_, _<_}
 use mathlib.Core.Path.{_≡_, refl, sym, ap, subst, _∙_}
 use mathlib.Core.Logic.{inl, inr}
 use mathlib.Core.Bool.{Bool, true, false, _||_}
-use mathlib.Core.List.{List, [], _∷_}
-use mathlib.Core.Option.{Option, some}
+use mathlib.Core.List.{List, _∷_}
 use native.Mathlib.Omega.{arith}
 use lib.ListN.{length, getD}
 use lib.Dec.{eqb}
@@ -28,7 +27,7 @@ use Rattle.search.specs.declared.found.Found.{Found}
 use Rattle.search.specs.Found.{foundOf}
 use Rattle.search.specs.Tables.{searchedIn}
 use Rattle.dict_rehash.specs.declared.rehash.Progress.{Progress}
-use Rattle.dict_rehash.specs.Progress.{stepAnswer, oldChain, OldChain, chains, ChainOf}
+use Rattle.dict_rehash.specs.Progress.{stepAnswer, oldChain, chains, ChainOf}
 use Rattle.dict_rehash.proofs.Due.{due-stepped}
 use Rattle.dict_rehash.proofs.Stepping.{old-linked, chain-of, next-end, next-empty, step-finished, step-moved}
 use Rattle.after_step.specs.declared.presence.Presence.{Presence}

@@ -15,26 +15,22 @@ use Rattle.model.specs.declared.State.{State}
 use Rattle.model.specs.declared.Table.{Table}
 use Rattle.model.specs.declared.Error.{Error}
 use Rattle.model.specs.declared.Ahead.{Ahead}
-use Rattle.model.specs.declared.StepAnswer.{StepAnswer}
 use Rattle.model.specs.Keys.{bucketOf}
 use Rattle.model.specs.Limits.{legalSize}
-use Rattle.model.specs.Memory.{sizeOf, usedOf, bucketsOf, inBucket, headAt, budgetAt, belongs, chainAt}
-use Rattle.model.specs.Calls.{After, oriented, back, both, ahead, movedChain, movedFrom, aheadOf, stepTaken, stepped, rehashStep, stepDue}
+use Rattle.model.specs.Memory.{inBucket}
+use Rattle.model.specs.Calls.{both, ahead, movedChain, movedFrom, stepTaken}
 use Rattle.model.proofs.Linked.{read-sound}
 use Rattle.model.proofs.Shared.{lastOr}
 use Rattle.model.proofs.Soundness.{Sound}
 use Rattle.model.proofs.StepAhead.{Comes, ahead-comes}
 use Rattle.memory.specs.Length.{bucketChain}
-use Rattle.memory.specs.Lent.{soundLent}
-use Rattle.memory.proofs.Orientation.{read-first, read-second, writing-sound}
 use Rattle.search.specs.declared.found.Found.{Found}
 use Rattle.search.specs.Found.{foundOf}
 use Rattle.search.specs.Tables.{searchedIn}
 use Rattle.dict_rehash.specs.Progress.{oldChain}
-use Rattle.dict_rehash.proofs.Due.{due-stepped}
 use Rattle.after_step.specs.declared.presence.Presence.{Presence}
 use Rattle.after_step.specs.declared.presence.Survey.{Survey}
-use Rattle.after_step.specs.Presence.{presence, presenceAfter, presenceThen}
+use Rattle.after_step.specs.Presence.{presence, presenceThen}
 use Rattle.after_step.specs.Told.{ofBucket, howMany, has, among, surveyed, foundPresence, heldIf, either, newThen, oldThen, tablesThen, Moves}
 use Rattle.after_step.proofs.Presences.{presence-found}
 use Rattle.after_step.proofs.PresenceAfter.{then-refused, then-still, then-ended, then-moved}

@@ -1,4 +1,4 @@
-// What a call would find in the memory after a rehash step, told before it, and the step itself once it is told.
+// What a call would find in the memory after a rehash step, told before it.
 
 pub mod course;
 pub mod link;

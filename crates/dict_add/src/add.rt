@@ -1,7 +1,7 @@
 // Add a key that is not held (SPECIFICATION, "Add"), before any growth. It is a timed call: the state is tested on the lent
 // lengths, then whether a rehash is under way, then which buffer is current. With no rehash there are functions of numbers below
 // that. During one a step comes first ("The step that comes first"), unless safe iterators hold it up, and all that can refuse
-// is asked before it; `add_during` has two callers, and so stays a call of its own, off the quick path.
+// is asked before it; `during` stays a call of its own, off the quick path, and takes and answers numbers.
 use dict_rehash::rehash::state_after;
 use during_rehash::during::during;
 use during_rehash::entry::one_more;
@@ -21,7 +21,7 @@ ghost use lib.ListN.{length};
 ghost use Rattle.model.specs.declared.Table.{Table};
 ghost use Rattle.model.specs.Calls as calls;
 ghost use Rattle.model.specs.Calls.After.{after};
-ghost use Rattle.model.proofs.Soundness.{Sound, Counted};
+ghost use Rattle.model.proofs.Soundness.{Counted};
 ghost use Rattle.memory.specs.Lent.{soundLent};
 ghost use Rattle.search.specs.Tables.{searchedIn, Readable};
 ghost use Rattle.search.specs.Found.{foundOf};

@@ -13,13 +13,13 @@ use Rattle.model.specs.declared.Lookup.{Lookup}
 use Rattle.model.specs.declared.DeleteAnswer.{DeleteAnswer}
 use Rattle.model.specs.declared.StepAnswer.{StepAnswer}
 use Rattle.model.specs.Memory.{usedOf}
-use Rattle.model.specs.Calls.{After, changed, recounted, withCount, lookup, held, removed, deleted, deleteAlone, advanced, settled, stepDone, stepTaken, rehashStep, stepDue, isDeleted, delete}
+use Rattle.model.specs.Calls.{After, changed, recounted, withCount, lookup, held, removed, deleted, deleteAlone, advanced, settled, stepDone, rehashStep, stepDue, isDeleted, delete}
 use Rattle.memory.specs.Lent.{soundLent}
 use Rattle.dict_rehash.specs.Progress.{stepAnswer, stepRoom}
 use Rattle.memory.proofs.Orientation.{written-first, written-second, writing-refused, writing-sound}
 use Rattle.search.specs.Tables.{lookupLent}
 use Rattle.after_step.specs.declared.presence.Presence.{Presence}
-use Rattle.after_step.specs.Presence.{presence, presenceAfter, presenceThen}
+use Rattle.after_step.specs.Presence.{presence, presenceAfter}
 use Rattle.after_step.proofs.StepFirst.{answerOf, answer-by, is-damaged, is-absent, is-held, StepTaken, step-taken, first-alone, first-unsound, first-done, first-refused}
 use Rattle.after_step.proofs.Courses.{taken-first, taken-second, told-first, told-second}
 use Rattle.during_rehash.specs.declared.moving.Taken.{Taken}

@@ -10,7 +10,7 @@ use lib.ListN.{length}
 use Rattle.model.specs.declared.State.{State}
 use Rattle.model.specs.declared.Error.{Error}
 use Rattle.model.specs.declared.AddAnswer.{AddAnswer}
-use Rattle.model.specs.Calls.{After, back, lookup, added, addAlone, stepDue, isAdded, addAfterStep}
+use Rattle.model.specs.Calls.{After, back, lookup, added, addAlone, isAdded, addAfterStep}
 use Rattle.model.proofs.Soundness.{Sound}
 use Rattle.memory.specs.Lent.{soundLent}
 use Rattle.memory.proofs.Tested.{lent-first, lent-second}

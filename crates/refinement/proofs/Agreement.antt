@@ -13,9 +13,9 @@ use Rattle.cursor.specs.Member.{In, Distinct, keep}
 use Rattle.model.specs.declared.State.{State}
 use Rattle.model.specs.declared.Table.{Table}
 use Rattle.model.specs.Answers.{Reply, reply}
-use Rattle.model.specs.Memory.{Place, Live, sizeOf, keysHeld, keyOf, valueOf}
+use Rattle.model.specs.Memory.{Place, Live, sizeOf, keysHeld, keyOf, valueOf, entriesAt}
 use Rattle.model.specs.Calls.{After}
-use Rattle.model.specs.Walk.{tablesBy, tablesOf}
+use Rattle.model.specs.Walk.{Tables, tablesBy, tablesOf}
 use Rattle.model.specs.Sequences.{World, world, ReadCall, Call, Outcome, perform, carry, PlainMap, keysOf, valueFor}
 use Rattle.model.proofs.Tests.{told, tested, tested-not}
 use Rattle.refinement.specs.Worlds.{current, other, UndamagedAt, Held, Holds}
@@ -25,10 +25,11 @@ use Rattle.invariant.proofs.Sums.{gathered, in-gathered, of-gathered}
 use Rattle.invariant.proofs.Shape.{IsBucket, Shape}
 use Rattle.invariant.proofs.Places.{LiveTable, table-live}
 use Rattle.invariant.proofs.States.{live-kept}
+use Rattle.invariant.proofs.FromUndamaged.{undamaged-shape}
 use Rattle.invariant.proofs.ToUndamaged.{entries-at, shape-undamaged}
 use Rattle.invariant.proofs.StoreAfter.{HeldIn, StoreAfter}
 use Rattle.refinement.proofs.Orientation.{worldBy, as-kept, as-turned}
-use Rattle.refinement.proofs.PlainMaps.{value-key, tells-among}
+use Rattle.refinement.proofs.PlainMaps.{value-key, key-value, tells-among}
 
 -- a live bucket that holds the key with the value
 pub record HeldAt (s : State) (entries : List ℕ) (at : Place → List ℕ) (key value : ℕ) : Type 0 where
@@ -87,7 +88,7 @@ leaves w i a c n vs stays number values =
 
 -- What is held, on the chains as they are read and on those of the shape.
 module _ (w : World) (shape : Shape (w .state) (current w) (other w) (w .entries)) (key value : ℕ) where
-  held-at : Held w key value → HeldAt (w .state) (w .entries) (shape .at) key value
+  pub held-at : Held w key value → HeldAt (w .state) (w .entries) (shape .at) key value
   unfolding Live IsBucket
   held-at h =
       let p = Place.bucket (h .table) (h .index) in
@@ -104,7 +105,7 @@ module _ (w : World) (shape : Shape (w .state) (current w) (other w) (w .entries
             };
       }
 
-  at-held : HeldAt (w .state) (w .entries) (shape .at) key value → Held w key value
+  pub at-held : HeldAt (w .state) (w .entries) (shape .at) key value → Held w key value
   unfolding Live IsBucket
   at-held h = by (h .place) (h .live) (h .bucket) (h .held)
     where
@@ -178,7 +179,7 @@ module _ (w : World) (i : Ideal) (a : Agrees w i) where
 
   -- and has what the ideal has
   pub agrees-matches : (l : Lengths) → lengthsOf w ≡ l → Matches l w i
-  unfolding held-at
+  unfolding held-at Live IsBucket sizeOf
   agrees-matches l same =
       record {
         contents = agrees-holds;
@@ -190,6 +191,16 @@ module _ (w : World) (i : Ideal) (a : Agrees w i) where
         each-table =
             λ key value h.
             in-table a key value (h .table) (h .index) (h .live) (held-at w (a .shape) key value h .held);
+        unmoved =
+            record {
+              held =
+                  λ key j.
+                  let h = a .unmoved-in key j in
+                  value-key key (h .value) (i .plain .pairs)
+                  (a .in-map key (h .value)
+                  (record { place = Place.bucket Table.Old (h .index); live = h .live; bucket = tt; held = h .held }));
+              once = a .unmoved-once;
+            };
         lengths = same;
       }
 
@@ -349,6 +360,70 @@ retabled-agrees a h capacity count allowed iterators before after unmoved unmove
       in-unmoved = in-unmoved;
       unmoved-once = once;
     }
+
+-- An undamaged store that has what an ideal has agrees with it.
+pub matches-agrees : (l : Lengths) (w : World) (i : Ideal) → UndamagedAt w → Matches l w i → Agrees w i
+unfolding UndamagedAt IsBucket Live sizeOf tablesOf tablesBy tableOf at-held
+matches-agrees l w i u m =
+    record {
+      shape = shape;
+      capacity = m .contents .capacity;
+      count = m .contents .count;
+      distinct = m .contents .distinct;
+      in-map = λ key value h. m .contents .in-map key value (at-held w shape key value h);
+      in-store = λ key value e. held-at w shape key value (m .contents .in-store key value e);
+      tables = m .tables;
+      turned = m .turned;
+      index = m .index;
+      allowed = m .allowed;
+      iterators = m .iterators;
+      unmoved-in = in-the-old;
+      in-unmoved = unmoved-then;
+      unmoved-once = m .unmoved .once;
+    }
+  where
+    shape : Shape (w .state) (current w) (other w) (w .entries)
+    shape = undamaged-shape u
+
+    old-told : (ts : Tables) (key : ℕ) → In key (i .unmoved) → tableOf ts (i .unmoved) key ≡ Table.Old
+    old-told (Tables.one size) key h = refl
+    old-told (Tables.two old new) key h =
+        ap (λ (t : Bool). cond t Table.Old Table.New) (tested (tells-among key (i .unmoved)) h)
+
+    in-the-old : (key : ℕ) → In key (i .unmoved) → HeldOld (w .state) (w .entries) (shape .at) key
+    in-the-old key h =
+        let (value, e) = key-value key (i .plain .pairs) (m .unmoved .held key h) in
+        let k = m .contents .in-store key value e in
+        let old : k .table ≡ Table.Old = m .each-table key value k ∙ old-told (i .tables) key h in
+        let live : k .index < w .state .«old_size» = subst (λ (t : Table). k .index < sizeOf (w .state) t) old (k .live) in
+        record {
+          value = value;
+          index = k .index;
+          live = live;
+          held =
+              record {
+                entry = k .entry;
+                there =
+                    subst (λ (ns : List ℕ). In (k .entry) ns) (entries-at shape (Place.bucket Table.Old (k .index)) live)
+                    (subst (λ (t : Table). In (k .entry) (entriesAt (w .state) (current w) (other w) (w .entries) (Place.bucket t (k .index)))) old (k .there));
+                its-key = k .its-key;
+                its-value = k .its-value;
+              };
+        }
+
+    chosen : (t : Bool) → Table.Old ≡ cond t Table.Old Table.New → t ≡ true
+    chosen true e = refl
+    chosen false e = let z : _≡_ {A = ℕ} 0 1 = cc in absurd (omega arith)
+
+    unmoved-then : w .state .rehashing ≡ true → (key : ℕ) → HeldOld (w .state) (w .entries) (shape .at) key → In key (i .unmoved)
+    unmoved-then moving key h =
+        let two : Tables.two (w .state .«old_size») (w .state .«new_size») ≡ i .tables =
+        sym (ap (λ (t : Bool). tablesBy t (w .state .«old_size») (w .state .«new_size»)) moving) ∙ m .tables in
+        let k : Held w key (h .value) =
+        at-held w shape key (h .value) (record { place = Place.bucket Table.Old (h .index); live = h .live; bucket = tt; held = h .held }) in
+        told (tells-among key (i .unmoved))
+        (chosen (among key (i .unmoved))
+        (m .each-table key (h .value) k ∙ ap (λ (ts : Tables). tableOf ts (i .unmoved) key) (sym two)))
 
 -- From the buffers to the world after a call.
 module _ (flag : Bool) (t : State) (c o e : List ℕ) (i : Ideal) where

@@ -145,11 +145,11 @@ module _ (size : ℕ) where
         let less = sum-atmost (calledFor size keys′) (calledFor size keys) size (fewer keys keys′ sub) in
         omega (arith, called-fit keys next above)
 
-    -- from the first bucket on: by any number of filled buckets that is not below those called for
-    pub steps-at-first : (filled next : ℕ) → next ≡ 0 → bucketsCalled size keys ≤ filled → filled ≤ size
-        → stepsLeft size keys next ≤ mostSteps size filled
+    -- by any number of filled buckets that is not below those called for
+    pub steps-by-filled : (filled next : ℕ) → ((k : ℕ) → In k keys → next ≤ bucketOf k size) → bucketsCalled size keys ≤ filled
+        → filled ≤ size → stepsLeft size keys next ≤ mostSteps size filled
     unfolding stepsLeft mostSteps emptyVisits
-    steps-at-first filled next e called-filled fits = omega arith
+    steps-by-filled filled next above called-filled fits = omega (arith, called-fit keys next above)
 
 -- one is left at least, ..
 pub some-steps : (size : ℕ) (keys : List ℕ) (next : ℕ) → 0 < stepsLeft size keys next

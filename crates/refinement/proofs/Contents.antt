@@ -1,4 +1,5 @@
--- Every undamaged store holds a map (`undamaged-holds`): that of the pairs in its live buckets.
+-- Every undamaged store holds a map (`undamaged-holds`): that of the pairs in its live buckets. And it has what some ideal has
+-- (`undamaged-ideal`).
 -- Assumes nothing.
 use Prim.Native.Nat.{ℕ, zero, suc, _+_, _<_}
 use mathlib.Core.Path.{_≡_, refl, ap}
@@ -12,6 +13,9 @@ use Rattle.model.specs.declared.Table.{Table}
 use Rattle.model.specs.Memory.{Place, sizeOf, usedOf, keysHeld, sum}
 use Rattle.model.specs.Sequences.{World, Pair, PlainMap}
 use Rattle.refinement.specs.Worlds.{UndamagedAt, Holds}
+use Rattle.refinement.specs.Demand3.{Ideal, lengthsOf, Matches}
+use Rattle.invariant.proofs.FromUndamaged.{undamaged-shape}
+use Rattle.refinement.proofs.Agreement.{agrees-matches, holds-agrees}
 use Rattle.refinement.proofs.PlainMaps.{pair, value-pair, pair-value}
 use Rattle.refinement.proofs.LiveTables.{Buckets}
 use Rattle.refinement.proofs.BucketEntries.{pairOf, readAt, entriesOf, pair-keys-once, of-pairs, in-pairs}
@@ -119,3 +123,16 @@ module _ (w : World) where
                 λ key value e. of-pairs w u live live-buckets (pair key value) (value-pair key value held e) .0;
           },
         )
+
+-- an ideal of any map that it holds
+pub holds-ideal : (w : World) (m : PlainMap) → UndamagedAt w → Holds w m
+    → (i : Ideal) × (i .plain ≡ m) × Matches (lengthsOf w) w i
+unfolding UndamagedAt
+holds-ideal w m undamaged holds =
+    let (i, is, a) = holds-agrees w (undamaged-shape undamaged) m holds in (i, is, agrees-matches w i a (lengthsOf w) refl)
+
+pub undamaged-ideal : (w : World) → UndamagedAt w → (i : Ideal) × Matches (lengthsOf w) w i
+undamaged-ideal w undamaged =
+    let (m, holds) = undamaged-holds w undamaged in
+    let (i, is, matches) = holds-ideal w m undamaged holds in
+    (i, matches)

@@ -14,9 +14,21 @@ use Rattle.model.proofs.Soundness.{sound-facts}
 use Rattle.refinement.specs.Worlds.{current, other, UndamagedAt}
 use Rattle.refinement.specs.Demand1.{BadState, GroupDamaged, Row, row, rows, Decides, Demand1}
 use Rattle.refinement.specs.Demand2.{groupEntries, handing}
-use Rattle.refinement.proofs.Demand1Calls.{decides, leaves}
-use Rattle.refinement.proofs.Demand1Steps.{good}
+use Rattle.refinement.proofs.Demand1Calls.{Good, decides, leaves, init-good, resized-good, step-good, read-good, note-good}
+use Rattle.refinement.proofs.Demand1Lists.{scan-good, iterate-good}
+use Rattle.refinement.proofs.Demand1Steps.{on-good}
 use Rattle.refinement.proofs.GroupEntries.{enough, isShort, handsOrShort, nextOf, walk-call}
+
+-- all calls
+pub good : (w : World) (c : Call) → Good w c (rows w c) (perform w c)
+good w (Call.init capacity size) = init-good w capacity size
+good w (Call.on key c) = on-good w key c
+good w (Call.resize size) = resized-good w size
+good w Call.rehashStep = step-good w
+good w (Call.scan cursor lent) = scan-good w cursor lent
+good w (Call.iterate place lent) = iterate-good w place lent
+good w (Call.read c) = read-good w c
+good w (Call.note c) = note-good w c
 
 -- Demand 1.
 pub demand1 : Demand1 perform

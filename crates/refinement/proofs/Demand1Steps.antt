@@ -20,8 +20,7 @@ use Rattle.refinement.specs.Demand1.{BadState, StepDamaged, Row, row, ke
 use Rattle.refinement.specs.Demand3.{lengthsOf}
 use Rattle.refinement.proofs.Orientation.{soundAt, oriented-read}
 use Rattle.refinement.proofs.HiddenSteps.{alone, before-growth, Rides, some-number, on-rides, on-alone}
-use Rattle.refinement.proofs.Demand1Calls.{Refuses, Good, decides, alone-good, resized-good, step-good, init-good, read-good, note-good}
-use Rattle.refinement.proofs.Demand1Lists.{scan-good, iterate-good}
+use Rattle.refinement.proofs.Demand1Calls.{Refuses, Good, decides, alone-good, step-good}
 use Rattle.refinement.proofs.Growth.{Follows, grown-lengths, follows}
 
 -- rows of refusals: their numbers are not 0
@@ -191,7 +190,7 @@ module _ (w : World) where
       by true = (1, refl, key-numbered (stepWorld w) key c)
       by false = key-numbered w key c
 
-  on-good : (key : ℕ) (c : KeyCall) → Good w (Call.on key c) (rows w (Call.on key c)) (perform w (Call.on key c))
+  pub on-good : (key : ℕ) (c : KeyCall) → Good w (Call.on key c) (rows w (Call.on key c)) (perform w (Call.on key c))
   on-good key c = by (follows w key c)
     where
       same : perform w (Call.on key c) ≡ before-growth w key c
@@ -207,14 +206,3 @@ module _ (w : World) where
           carried w w (Call.on key c) (perform w (Call.on key c)) (before-growth w key c) refl (λ n f. absurd (omega arith))
           (λ z. (zero, ap lengthsOf grew ∙ grown-lengths (carry w (before-growth w key c)))) (rows w (Call.on key c))
           (rows-numbered key c) (before-good key c)
-
--- all calls
-pub good : (w : World) (c : Call) → Good w c (rows w c) (perform w c)
-good w (Call.init capacity size) = init-good w capacity size
-good w (Call.on key c) = on-good w key c
-good w (Call.resize size) = resized-good w size
-good w Call.rehashStep = step-good w
-good w (Call.scan cursor lent) = scan-good w cursor lent
-good w (Call.iterate place lent) = iterate-good w place lent
-good w (Call.read c) = read-good w c
-good w (Call.note c) = note-good w c

@@ -11,17 +11,14 @@ use Rattle.model.specs.Answers.{Reply, reply}
 use Rattle.model.specs.Memory.{keysHeld}
 use Rattle.model.specs.Calls.{suggested, growthDue}
 use Rattle.model.specs.Walk.{Tables, tablesBy, tablesOf}
-use Rattle.model.specs.Sequences.{Outcome, World, KeyCall, Call, perform, carry, PlainMap, mapDoes}
-use Rattle.refinement.specs.Worlds.{UndamagedAt, Holds, mayGrow}
-use Rattle.refinement.specs.Demand2.{AnswersAs}
-use Rattle.refinement.specs.Demand3.{Lengths, lengthsOf, Ideal, ideal, keyAnswer, resizeAnswer, onAnswer, grows, thenGrows, predict}
-use Rattle.invariant.proofs.FromUndamaged.{undamaged-shape}
+use Rattle.model.specs.Sequences.{Outcome, World, KeyCall, Call, perform, carry, mapDoes}
+use Rattle.refinement.specs.Worlds.{mayGrow}
+use Rattle.refinement.specs.Demand3.{Lengths, lengthsOf, Ideal, resizeAnswer, onAnswer, grows, thenGrows, predict}
 use Rattle.refinement.proofs.HiddenSteps.{before-growth}
 use Rattle.refinement.proofs.Demand1Calls.{good-lengths}
 use Rattle.refinement.proofs.Growth.{growsAt, resizedWorld, grownWorld, Follows, follows}
 use Rattle.refinement.proofs.Demand1Steps.{before-good}
-use Rattle.refinement.proofs.IdealSteps.{growth-plain}
-use Rattle.refinement.proofs.Agreement.{Agrees, Comes, Steps, agrees-undamaged, agrees-holds, holds-agrees}
+use Rattle.refinement.proofs.Agreement.{Agrees, Comes, Steps}
 use Rattle.refinement.proofs.TableSteps.{resize-steps}
 use Rattle.refinement.proofs.SteppedKeys.{comes}
 
@@ -125,25 +122,3 @@ module _ (w : World) (i : Ideal) (a : Agrees w i) (key : ℕ) (c : KeyCall) (l :
   pub on-steps : Steps w (Call.on key c) (predict l i (Call.on key c))
   unfolding predict
   on-steps = record { number = grown-comes .number; values = λ f. grown-comes .values; agrees = grown-comes .agrees }
-
--- demand 2, its first half: on any undamaged store they answer as the map
-pub as-the-map : (w : World) (m : PlainMap) → UndamagedAt w → Holds w m → (key : ℕ) (c : KeyCall)
-    → AnswersAs perform w (Call.on key c) (mapDoes m key c)
-unfolding UndamagedAt thenGrows onAnswer keyAnswer reply ideal
-as-the-map w m undamaged holds key c =
-    let (i, is, a) = holds-agrees w (undamaged-shape undamaged) m holds in
-    subst (λ (n : PlainMap). AnswersAs perform w (Call.on key c) (mapDoes n key c)) is (of-ideal i a)
-  where
-    of-ideal : (i : Ideal) → Agrees w i → AnswersAs perform w (Call.on key c) (mapDoes (i .plain) key c)
-    of-ideal i a =
-        let there = grown-comes w i a key c (lengthsOf w) refl in
-        let meant = onAnswer i c (mapDoes (i .plain) key c) in
-        let then = thenGrows (lengthsOf w) c meant .state in
-        record {
-          number = there .number;
-          values = there .values;
-          undamaged = agrees-undamaged (carry w (perform w (Call.on key c))) then (there .agrees);
-          holds =
-              subst (λ (n : PlainMap). Holds (carry w (perform w (Call.on key c))) n) (growth-plain (lengthsOf w) c meant)
-              (agrees-holds (carry w (perform w (Call.on key c))) then (there .agrees));
-        }

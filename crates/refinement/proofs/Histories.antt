@@ -6,7 +6,8 @@ use mathlib.Core.List.{List, [], _∷_}
 use lib.ListN.{length}
 use Rattle.model.specs.Answers.{Reply, reply}
 use Rattle.model.specs.Sequences.{World, Call, perform, carry, run, event, events}
-use Rattle.refinement.specs.Demand3.{Lengths, lengthsOf, Ideal, predict, replay, AsPredicted, Answered, SequenceHolds}
+use Rattle.refinement.specs.Worlds.{UndamagedAt}
+use Rattle.refinement.specs.Demand3.{Lengths, lengthsOf, Ideal, predict, replay, AsPredicted, Answered, Matches, SequenceHolds}
 use Rattle.model.proofs.Tests.{true-not-false}
 use Rattle.invariant.proofs.Shape.{facts}
 use Rattle.refinement.proofs.Refusals.{scan-keeps, iterate-keeps}
@@ -15,7 +16,7 @@ use Rattle.refinement.proofs.GroupEntries.{hands-out}
 use Rattle.refinement.proofs.WalkCalls.{scan-predicted}
 use Rattle.refinement.proofs.PassCalls.{iterates-out, iterate-predicted}
 use Rattle.refinement.proofs.IdealSteps.{any-hand}
-use Rattle.refinement.proofs.Agreement.{Agrees, Steps, agrees-undamaged, agrees-matches}
+use Rattle.refinement.proofs.Agreement.{Agrees, Steps, agrees-undamaged, agrees-matches, matches-agrees}
 use Rattle.refinement.proofs.GrownKeys.{on-steps}
 use Rattle.refinement.proofs.TableSteps.{init-steps, resize-steps, read-steps, look-values, note-steps}
 use Rattle.refinement.proofs.RehashSteps.{step-steps}
@@ -98,6 +99,9 @@ kept (c ∷ calls) l w i a same =
 -- the ideal's tables are the store's, and so legal
 agrees-legal : (w : World) (i : Ideal) → Agrees w i → Legal (i .tables)
 agrees-legal w i a = subst Legal (a .tables) (tables-legal (w .state) _ _ _ (facts (a .shape)))
+
+pub matches-legal : (l : Lengths) (w : World) (i : Ideal) → UndamagedAt w → Matches l w i → Legal (i .tables)
+matches-legal l w i undamaged matches = agrees-legal w i (matches-agrees l w i undamaged matches)
 
 pub sequence-holds : (l : Lengths) (w : World) (i : Ideal) (calls : List Call) → Agrees w i → lengthsOf w ≡ l
     → SequenceHolds perform l w i calls

@@ -1,4 +1,4 @@
--- The ideal from call to call: with which call a rehash begins, and what the calls leave of one that is under way.
+-- The ideal from call to call: what the calls leave of a rehash that is under way.
 -- Assumes nothing.
 use Prim.Native.Nat.{ℕ, zero, suc, _+_, _<_, _≤_}
 use mathlib.Core.Path.{_≡_, refl, sym, ap, subst, _∙_}
@@ -9,7 +9,7 @@ use native.Mathlib.Decide.{ℕ-discrete}
 use native.Mathlib.Omega.{arith}
 use lib.ListN.{length}
 use lib.Dec.{ltb, eqb}
-use borrow.Author.Tests.{ltb-true, ltb-false}
+use borrow.Author.Tests.{ltb-true, ltb-false, ne-eqb}
 use Rattle.cursor.specs.Member.{In, keep}
 use Rattle.model.specs.Answers.{Reply, reply}
 use Rattle.model.specs.Keys.{bucketOf}
@@ -17,78 +17,15 @@ use Rattle.model.specs.Limits.{emptyVisits}
 use Rattle.model.specs.Calls.{acceptable}
 use Rattle.model.specs.Walk.{Tables}
 use Rattle.model.specs.Sequences.{KeyCall, Call, PlainMap, keysOf, mapDoes}
-use Rattle.model.proofs.Tests.{told}
+use Rattle.model.proofs.Tests.{told, true-not-false}
 use Rattle.refinement.specs.Worlds.{takesStep}
 use Rattle.refinement.specs.Demand3.{Lengths, Ideal, ideal, among, begun, startNumber, startAnswer, keyAnswer, resizeAnswer, afterStep, stepTaken, stepAnswer, stepsFirst, onAnswer, thenGrows, withNotes, predict}
-use Rattle.refinement.specs.RehashesEnd.{isStep}
+use Rattle.refinement.specs.RehashesEnd.{stepsIn}
 use Rattle.invariant.proofs.Lists.{of-keep}
-use Rattle.refinement.proofs.IdealSteps.{either, one-not-two, any-step, any-hand, any-read, any-note, any-growth, not-paused, any-first, one-stays, paused-refused, paused-stays}
+use Rattle.refinement.proofs.IdealSteps.{by-test, either, one-not-two, any-step, any-hand, any-read, any-note, any-growth, not-paused, paused-refused, paused-stays}
 use Rattle.refinement.proofs.PlainMaps.{tells-among}
 use Rattle.refinement.proofs.MovedKeys.{lowestOf, lowest-reached, lowest-below}
 use Rattle.refinement.proofs.CalledBuckets.{stepsLeft, in-table, rest-sub, rest-behind, moving-less, passing-less, fewer-less}
-
--- ---- a rehash begins
-
--- all keys are still to move, from bucket 0 on
-pub record JustBegun (i : Ideal) : Type 0 where
-  pub unmoved : i .unmoved ≡ keysOf (i .plain .pairs)
-  pub index : i .index ≡ 0
-
--- with a resize
-module _ (l : Lengths) (i : Ideal) (size old new : ℕ) (resting : i .tables ≡ Tables.one size) where
-  abbrev Begins : Reply Ideal → Type 0
-  Begins r = r .state .tables ≡ Tables.two old new → JustBegun (r .state)
-
-  still-one : i .tables ≡ Tables.two old new → JustBegun i
-  still-one e = absurd (one-not-two (sym resting ∙ e))
-
-  resize-begins : (n : ℕ) (t : Tables) → Begins (resizeAnswer l i n t)
-  unfolding resizeAnswer reply ideal
-  resize-begins n (Tables.two a b) = still-one
-  resize-begins n (Tables.one a) =
-      either Begins (acceptable a _ n) _ _ (λ e. record { unmoved = refl; index = refl }) still-one
-
--- only with that, be it one that follows an add
-module _ (l : Lengths) (i : Ideal) (size old new : ℕ) (resting : i .tables ≡ Tables.one size) where
-  abbrev still : i .tables ≡ Tables.two old new → JustBegun i
-  still = still-one l i size old new resting
-
-  on-begins : (key : ℕ) (c : KeyCall) → Begins l i size old new resting (predict l i (Call.on key c))
-  unfolding predict onAnswer keyAnswer reply ideal
-  on-begins key c =
-      any-growth l (λ (j : Ideal). j .tables ≡ Tables.two old new → JustBegun j) c r
-      (λ a n e. resize-begins l (r .state) a old new e n (Tables.one a))
-      (λ e.
-      absurd
-      (any-first i (λ (j : Ideal). j .tables ≡ Tables.two old new → ⊥) c (mapDoes (i .plain) key c .number)
-      (λ f. one-not-two (sym resting ∙ ap (λ (j : Ideal). j .tables) (sym (one-stays i size resting)) ∙ f))
-      (λ f. one-not-two (sym resting ∙ f)) e))
-    where
-      r : Reply Ideal
-      r = onAnswer i c (mapDoes (i .plain) key c)
-
-  step-begins : (t : Tables) → t ≡ Tables.one size → Begins l i size old new resting (stepAnswer i t (i .unmoved))
-  unfolding stepAnswer reply
-  step-begins (Tables.one a) e = still
-  step-begins (Tables.two a b) e = absurd (one-not-two (sym e))
-
-  pub begins : (c : Call) → Begins l i size old new resting (predict l i c)
-  unfolding predict startAnswer begun withNotes reply ideal
-  begins (Call.init capacity n) = by (startNumber l capacity n)
-    where
-      by : (m : ℕ) → Begins l i size old new resting (startAnswer i capacity n m)
-      by zero e = absurd (one-not-two e)
-      by (suc m) e = still e
-  begins (Call.on key c) = on-begins key c
-  begins (Call.resize n) = resize-begins l i size old new resting n (i .tables)
-  begins Call.rehashStep = step-begins (i .tables) resting
-  begins (Call.scan cursor lent) = any-hand i (Begins l i size old new resting) _ _ (length lent) still still
-  begins (Call.iterate place lent) = any-hand i (Begins l i size old new resting) _ _ (length lent) still still
-  begins (Call.read c) = any-read i (Begins l i size old new resting) c (λ vs. still) still
-  begins (Call.note c) =
-      any-note i (Begins l i size old new resting) c (λ allowed iterators e. absurd (one-not-two (sym resting ∙ e))) still still
-
--- ---- and goes on
 
 -- under way from a table of that size: the keys still to move are held, and none calls for a bucket before the next one
 pub record During (size : ℕ) (i : Ideal) : Type 0 where
@@ -216,8 +153,8 @@ key-keeps i r =
 -- a step call that is refused. Or its step ends the rehash, and the next one begins with the same call.
 pub data Passes (i : Ideal) (c : Call) (number : ℕ) (j : Ideal) : Type 0 where
   stepped : i .iterators ≡ 0 → Kept (stepAnswer i (i .tables) (i .unmoved) .state) j → Passes i c number j
-  stayed : (isStep c && eqb number 0) ≡ false → Kept i j → Passes i c number j
-  renewed : JustBegun j → j .turned ≡ not (i .turned) → Passes i c number j
+  stayed : (stepsIn (i .iterators) c && eqb number 0) ≡ false → Kept i j → Passes i c number j
+  renewed : j .turned ≡ not (i .turned) → Passes i c number j
 
 module _ (l : Lengths) (i : Ideal) (size new : ℕ) (moving : i .tables ≡ Tables.two size new) (a b : ℕ) where
   -- (or else it starts anew)
@@ -225,7 +162,7 @@ module _ (l : Lengths) (i : Ideal) (size new : ℕ) (moving : i .tables ≡ Tabl
   GoesOn c r = r .state .tables ≡ Tables.two a b → Passes i c (r .number) (r .state)
 
   resize-passes : (n : ℕ) (t : Tables) → t ≡ Tables.two size new → GoesOn (Call.resize n) (resizeAnswer l i n t)
-  unfolding resizeAnswer reply isStep
+  unfolding resizeAnswer reply stepsIn
   resize-passes n (Tables.one a) e = absurd (one-not-two e)
   resize-passes n (Tables.two a b) e = λ f. Passes.stayed refl (same i)
 
@@ -244,17 +181,29 @@ module _ (l : Lengths) (i : Ideal) (size new : ℕ) (moving : i .tables ≡ Tabl
       done old m count (k ∷ ks) next e = absurd (one-not-two (sym e))
 
   on-passes : (key : ℕ) (c : KeyCall) → GoesOn (Call.on key c) (predict l i (Call.on key c))
-  unfolding predict onAnswer thenGrows keyAnswer stepsFirst reply isStep
+  unfolding predict onAnswer thenGrows keyAnswer stepsFirst reply stepsIn
   on-passes key c =
-      either (λ (j : Ideal). GoesOn (Call.on key c) (thenGrows l c (keyAnswer j map))) (takesStep c && eqb (map .number) 0) stepped i
-      (elim (ℕ-discrete (i .iterators) 0) [
+      by-test (λ (j : Ideal). GoesOn (Call.on key c) (thenGrows l c (keyAnswer j map))) (takesStep c && eqb (map .number) 0) stepped i
+      (λ t.
+      elim (ℕ-discrete (i .iterators) 0) [
         | yes none ↦ stepping none
         | no some ↦
             subst (λ (j : Ideal). GoesOn (Call.on key c) (thenGrows l c (keyAnswer j map)))
-            (sym (paused-stays i (omega (arith, some)))) staying
+            (sym (paused-stays i (omega (arith, some))))
+            (staying (paused (takesStep c) (eqb (i .iterators) 0) (eqb (map .number) 0) (ne-eqb (i .iterators) 0 some)))
       ])
-      staying
+      (λ f. staying (refused (takesStep c) (eqb (i .iterators) 0) (eqb (map .number) 0) f))
     where
+      paused : (a b c : Bool) → b ≡ false → ((a && b) && c) ≡ false
+      paused true true c f = absurd (true-not-false f)
+      paused true false c f = refl
+      paused false b c f = refl
+
+      refused : (a b c : Bool) → (a && c) ≡ false → ((a && b) && c) ≡ false
+      refused true true c f = f
+      refused true false c f = refl
+      refused false b c f = refl
+
       map : Reply PlainMap
       map = mapDoes (i .plain) key c
 
@@ -267,9 +216,7 @@ module _ (l : Lengths) (i : Ideal) (size new : ℕ) (moving : i .tables ≡ Tabl
       -- growth behind it, where one table is left
       grown : (j : Ideal) → ((n : ℕ) → j .tables ≡ Tables.one n → j .turned ≡ not (i .turned))
           → (n m : ℕ) → j .tables ≡ Tables.one n → GoesTo (resizeAnswer l j m (Tables.one n) .state)
-      grown j turned n m e f =
-          Passes.renewed (resize-begins l j n a b e m (Tables.one n) f)
-          (resize-turned l j m (Tables.one n) ∙ turned n e)
+      grown j turned n m e f = Passes.renewed (resize-turned l j m (Tables.one n) ∙ turned n e)
 
       stepping : i .iterators ≡ 0 → GoesOn (Call.on key c) (thenGrows l c (keyAnswer stepped map))
       stepping none =
@@ -278,15 +225,16 @@ module _ (l : Lengths) (i : Ideal) (size new : ℕ) (moving : i .tables ≡ Tabl
           (grown (keyAnswer stepped map .state) (λ n e. kept .turned ∙ over-turned n (sym (kept .tables) ∙ e)))
           (λ e. Passes.stepped none kept)
 
-      staying : GoesOn (Call.on key c) (thenGrows l c (keyAnswer i map))
-      staying =
+      staying : ((takesStep c && eqb (i .iterators) 0) && eqb (map .number) 0) ≡ false
+          → GoesOn (Call.on key c) (thenGrows l c (keyAnswer i map))
+      staying none =
           let kept = key-keeps i map in
           any-growth l GoesTo c (keyAnswer i map)
           (grown (keyAnswer i map .state) (λ n e. absurd (one-not-two (sym e ∙ kept .tables ∙ moving))))
-          (λ e. Passes.stayed refl kept)
+          (λ e. Passes.stayed none kept)
 
   step-passes : GoesOn Call.rehashStep (stepAnswer i (i .tables) (i .unmoved))
-  unfolding isStep
+  unfolding stepsIn
   step-passes e =
       elim (ℕ-discrete (i .iterators) 0) [
         | yes none ↦ Passes.stepped none (same _)
@@ -296,7 +244,7 @@ module _ (l : Lengths) (i : Ideal) (size new : ℕ) (moving : i .tables ≡ Tabl
       ]
 
   pub passes : (c : Call) → GoesOn c (predict l i c)
-  unfolding predict startAnswer begun withNotes reply ideal isStep
+  unfolding predict startAnswer begun withNotes reply ideal stepsIn
   passes (Call.init capacity n) = by (startNumber l capacity n)
     where
       by : (m : ℕ) → GoesOn (Call.init capacity n) (startAnswer i capacity n m)
@@ -318,26 +266,6 @@ module _ (l : Lengths) (i : Ideal) (size new : ℕ) (moving : i .tables ≡ Tabl
       (λ allowed iterators e.
       Passes.stayed refl (record { tables = refl; turned = refl; index = refl; only = λ k h. h; held = λ f. f }))
       (λ e. Passes.stayed refl (same i)) (λ e. Passes.stayed refl (same i))
-
-  -- the current buffer stays the same, with a step too; or another rehash has just begun
-  pub still-turned : (c : Call) → predict l i c .state .tables ≡ Tables.two a b
-      → (predict l i c .state .turned ≡ i .turned) ⊎ JustBegun (predict l i c .state)
-  unfolding reply afterStep ideal
-  still-turned c e = by (passes c e)
-    where
-      done : (old n count : ℕ) (ks : List ℕ) (next : ℕ) → afterStep i old n count ks next .state .tables ≡ Tables.two a b
-          → afterStep i old n count ks next .state .turned ≡ i .turned
-      done old n count [] next e = absurd (one-not-two e)
-      done old n count (k ∷ ks) next e = refl
-
-      by : Passes i c (predict l i c .number) (predict l i c .state) → (predict l i c .state .turned ≡ i .turned) ⊎ JustBegun (predict l i c .state)
-      by (Passes.stepped none k) =
-          inl
-          (k .turned
-          ∙ any-step i (λ r. r .state .tables ≡ Tables.two a b → r .state .turned ≡ i .turned) (i .tables) (i .unmoved)
-          (λ n f e. refl) (λ some e. refl) (λ old n f g. done old n) (sym (k .tables) ∙ e))
-      by (Passes.stayed f k) = inl (k .turned)
-      by (Passes.renewed just turned) = inr just
 
 -- While it is under way: a step, and what leaves it.
 module _ (size : ℕ) (i : Ideal) (d : During size i) where

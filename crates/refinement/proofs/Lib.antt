@@ -3,7 +3,7 @@
 -- from the calls' buffers to the world; a call that takes a step first
 pub mod Orientation
 pub mod HiddenSteps
--- demand 1, and from it: what a refusal keeps, and that lengths stay
+-- demand 1, call by call, and from it what a refusal keeps
 pub mod Demand1Tests
 pub mod Demand1Chains
 pub mod Demand1Reads
@@ -11,9 +11,7 @@ pub mod Demand1Calls
 pub mod Demand1Lists
 pub mod Growth
 pub mod Demand1Steps
-pub mod Demand1
 pub mod Refusals
-pub mod Lengths
 -- the plain map, and a store that agrees with the ideal, call by call
 pub mod PlainMaps
 pub mod IdealSteps
@@ -25,7 +23,7 @@ pub mod MovedKeys
 pub mod RehashSteps
 pub mod SteppedKeys
 pub mod GrownKeys
--- the walk call, and walks
+-- the walk call, the call that iterates, and the pairs of a store
 pub mod LiveTables
 pub mod GroupPlaces
 pub mod BucketEntries
@@ -33,6 +31,14 @@ pub mod GroupEntries
 pub mod WalkCalls
 pub mod PassCalls
 pub mod Contents
+-- the ideal's tables and places, with calls on keys
+pub mod KeyTables
+pub mod KeyPlaces
+-- all calls: demand 1, lengths, legal tables
+pub mod Demand1
+pub mod Lengths
+pub mod LegalTables
+-- walks
 pub mod Counts
 pub mod Trails
 pub mod Walks

@@ -14,12 +14,13 @@ use Rattle.model.specs.Memory.{Place, Live}
 use Rattle.model.specs.Answers.{Reply, reply}
 use Rattle.model.specs.Calls.{longEnough, acceptable}
 use Rattle.model.specs.Walk.{Tables}
-use Rattle.model.specs.Sequences.{World, KeyCall, Call, Outcome, carry, run, Event, events, PlainMap, valueFor, mapAnswer, mapDoes}
+use Rattle.model.specs.Sequences.{World, KeyCall, Call, Outcome, run, Event, events, PlainMap, valueFor, mapAnswer, mapDoes}
 use Rattle.refinement.specs.Worlds.{UndamagedAt}
 use Rattle.refinement.specs.Demand1.{SoundChain}
-use Rattle.refinement.specs.Demand3.{Lengths, lengthsOf, Ideal, begun, startNumber, startAnswer, keyAnswer, onAnswer, thenGrows, resizeAnswer, afterStep, predict, Answered, Demand3}
+use Rattle.refinement.specs.Demand3.{Lengths, lengthsOf, Ideal, startNumber, startAnswer, keyAnswer, onAnswer, thenGrows, resizeAnswer, afterStep, predict, Answered, SequenceHolds, Demand3}
 use Rattle.refinement.proofs.IdealSteps.{either, any-step, any-hand, any-read, any-note}
 use Rattle.refinement.proofs.Demand1Chains.{AtPlace, place-read, place-sound}
+use Rattle.refinement.proofs.Contents.{undamaged-ideal}
 
 -- every chain of an undamaged store
 pub always-sound : (w : World) → UndamagedAt w → (p : Place) → Live (w .state) p → SoundChain w p
@@ -91,14 +92,15 @@ answered-other l i [] a = tt
 answered-other l i (e ∷ es) a =
     (λ two. predicted-other l i (e .call) (sym (a .0 .number) ∙ two), answered-other l (predict l i (e .call) .state) es (a .1))
 
--- Of a sequence that begins with a start answered 0.
+-- Of a sequence from any undamaged store on.
 
-module _ (does : World → Call → Outcome) (d : Demand3 does) (w : World) (capacity size : ℕ)
-    (started : does w (Call.init capacity size) .reply .number ≡ 0) (calls : List Call) where
-  pub none-damaged : NoneDamaged (events does (carry w (does w (Call.init capacity size))) calls)
-  none-damaged =
-      answered-other (lengthsOf w) (begun capacity size) _ (d .sequence w capacity size started calls .answers)
+module _ (does : World → Call → Outcome) (d : Demand3 does) (w : World) (undamaged : UndamagedAt w) (calls : List Call) where
+  holds : (i : Ideal) × SequenceHolds does (lengthsOf w) w i calls
+  holds =
+      let (i, matches) = undamaged-ideal w undamaged in (i, d .onward (lengthsOf w) w i undamaged matches calls)
 
-  pub chains-stay-sound : (p : Place) → Live (run does (carry w (does w (Call.init capacity size))) calls .state) p
-      → SoundChain (run does (carry w (does w (Call.init capacity size))) calls) p
-  chains-stay-sound p live = always-sound _ (d .sequence w capacity size started calls .undamaged) p live
+  pub none-damaged : NoneDamaged (events does w calls)
+  none-damaged = let (i, s) = holds in answered-other (lengthsOf w) i (events does w calls) (s .answers)
+
+  pub chains-stay-sound : (p : Place) → Live (run does w calls .state) p → SoundChain (run does w calls) p
+  chains-stay-sound p live = let (i, s) = holds in always-sound (run does w calls) (s .undamaged) p live

@@ -32,7 +32,8 @@ use Rattle.refinement.specs.SafeIterators.{onlooker, Pass, stays, PassHo
 use Rattle.invariant.proofs.Lists.{in-map, of-map, in-keep, of-keep, tells-any}
 use Rattle.refinement.proofs.PlainMaps.{tells-among}
 use Rattle.refinement.proofs.IdealSteps.{either, one-at-most, any-hand}
-use Rattle.refinement.proofs.LiveTables.{Legal, predict-legal}
+use Rattle.refinement.proofs.LiveTables.{Legal}
+use Rattle.refinement.proofs.LegalTables.{predict-legal}
 use Rattle.refinement.proofs.Counts.{count, count-append, count-once, count-in, in-count}
 use Rattle.refinement.proofs.PausedPlaces.{place-stays}
 
@@ -289,7 +290,7 @@ module _ (key : ℕ) where
           stays-first (predict l i (e .call) .state) (isHeld (predict l i (e .call) .state)) moments o,
           stays-first (predict l i (e .call) .state) (isHeld i) moments o,
           turn i (predict l i (e .call) .state) due
-              (λ was is. place-stays key l i p (e .call) (o .paused) is),
+              (λ was is. place-stays key l i p (e .call) (o .paused) was is),
         ))
         (opens rest)
     counted legal a (Pass.onward {due} {i} {e} {moments} lent p c z rest) =
@@ -324,7 +325,7 @@ module _ (key : ℕ) where
           arith,
           times-looking due i moments,
           covered (predict-legal l i legal (e .call)) (a .1) rest end each
-              (subst (λ (n : ℕ). due ≤ n) (sym (place-stays key l i p (e .call) (o .paused) still)) from),
+              (subst (λ (n : ℕ). due ≤ n) (sym (place-stays key l i p (e .call) (o .paused) here still)) from),
         ))
         (opens rest)
     covered legal a (Pass.onward {due} {i} {e} {moments} lent p c z rest) end (here, each) from =

@@ -2,113 +2,34 @@
 -- place (`place-stays`), though a rehash may begin.
 -- Assumes nothing.
 use Prim.Native.Nat.{ℕ, zero, suc, _<_}
-use mathlib.Core.Path.{_≡_, refl, sym, ap, subst, _∙_}
-use mathlib.Core.Bool.{Bool, cond}
-use mathlib.Core.List.{List}
+use mathlib.Core.Path.{_≡_, refl, ap}
 use native.Mathlib.Omega.{arith}
-use Rattle.cursor.specs.Member.{In, keep}
-use Rattle.model.specs.Keys.{bucketOf}
+use Rattle.cursor.specs.Member.{In}
 use Rattle.model.specs.Answers.{Reply, reply}
-use Rattle.model.specs.Calls.{oldNew, acceptable}
-use Rattle.model.specs.Walk.{Tables}
-use Rattle.model.specs.Sequences.{KeyCall, Call, PlainMap, keysOf, mapDoes}
-use Rattle.model.proofs.Tests.{Tells, tested, tested-not, tells-same}
-use Rattle.refinement.specs.Demand3.{Lengths, Ideal, ideal, begun, among, tableOf, sizeIn, startNumber, startAnswer, keyAnswer, resizeAnswer, stepsFirst, onAnswer, placeNumber, placeOf, withNotes, predict}
-use Rattle.invariant.proofs.Lists.{in-keep, of-keep}
-use Rattle.refinement.proofs.PlainMaps.{tells-among}
-use Rattle.refinement.proofs.IdealSteps.{either, any-hand, any-read, any-note, any-growth, any-first, paused-stays}
+use Rattle.model.specs.Sequences.{Call, keysOf}
+use Rattle.refinement.specs.Demand3.{Lengths, Ideal, ideal, begun, startNumber, startAnswer, placeOf, withNotes, predict}
+use Rattle.refinement.proofs.IdealSteps.{any-hand, any-read, any-note, paused-stays}
+use Rattle.refinement.proofs.KeyPlaces.{Stays, resize-place, on-place}
 
--- a call finds the ideal as it is
-paused-first : (i : Ideal) → 0 < i .iterators → (c : KeyCall) (number : ℕ) → stepsFirst i c number ≡ i
-paused-first i p c number = any-first i (λ (j : Ideal). j ≡ i) c number (paused-stays i p) refl
+module _ (key : ℕ) (l : Lengths) (i : Ideal) (paused : 0 < i .iterators) where
+  abbrev Same : Reply Ideal → Type 0
+  Same r = placeOf (r .state) key ≡ placeOf i key
 
--- a rehash that begins leaves the pairs
-resize-plain : (l : Lengths) (i : Ideal) (size : ℕ) (t : Tables) → resizeAnswer l i size t .state .plain ≡ i .plain
-unfolding resizeAnswer reply ideal
-resize-plain l i size (Tables.two old new) = refl
-resize-plain l i size (Tables.one old) =
-    either (λ (r : Reply Ideal). r .state .plain ≡ i .plain)
-    (acceptable old (cond (i .turned) (l .first) (l .second)) size) _ _ refl refl
+  start-place : (capacity size n : ℕ) → 0 < startAnswer i capacity size n .state .iterators
+      → placeOf (startAnswer i capacity size n .state) key ≡ placeOf i key
+  unfolding startAnswer begun ideal reply
+  start-place capacity size zero on = absurd (omega arith)
+  start-place capacity size (suc n) on = refl
 
--- the place of a key, by the live tables and the keys in the old one
-abbrev placeBy : Tables → List ℕ → ℕ → ℕ
-placeBy tables unmoved key =
-    placeNumber tables (tableOf tables unmoved key) (bucketOf key (sizeIn tables (tableOf tables unmoved key)))
-
-module _ (key : ℕ) where
-  -- if the key is still held, it is where it was
-  abbrev Stays : Ideal → Ideal → Type 0
-  Stays i j = In key (keysOf (j .plain .pairs)) → placeOf j key ≡ placeOf i key
-
-  -- of the keys in the old table those that are held stay there, ..
-  kept-among : (keys unmoved : List ℕ) → In key keys → among key (keep (λ k. among k keys) unmoved) ≡ among key unmoved
-  kept-among keys unmoved held =
-      let still : ℕ → Bool = λ k. among k keys in
-      alike (tells-among key (keep still unmoved))
-      (tells-same (λ i. in-keep still key unmoved i (tested (tells-among key keys) held))
-      (λ i. of-keep still key unmoved i .0) (tells-among key unmoved))
-    where
-      alike : {A : Type 0} {s t : Bool} → Tells A s → Tells A t → s ≡ t
-      alike (Tells.holds a) h = sym (tested h a)
-      alike (Tells.fails f) h = sym (tested-not h f)
-
-  -- .. at their places
-  kept-place : (keys unmoved : List ℕ) → In key keys → (tables : Tables)
-      → placeBy tables (keep (λ k. among k keys) unmoved) key ≡ placeBy tables unmoved key
-  unfolding tableOf
-  kept-place keys unmoved held (Tables.one size) = refl
-  kept-place keys unmoved held (Tables.two old new) = rw (kept-among keys unmoved held)
-
-  -- where a rehash begins, all keys are in the old table, whose places come first
-  begun-place : (old new : ℕ) (keys unmoved : List ℕ) → In key keys
-      → placeBy (Tables.two old new) keys key ≡ placeBy (Tables.one old) unmoved key
-  unfolding placeNumber tableOf sizeIn oldNew
-  begun-place old new keys unmoved held = rw (tested (tells-among key keys) held) (omega arith)
-
-  resize-place : (l : Lengths) (i : Ideal) (size : ℕ) (t : Tables) → i .tables ≡ t → Stays i (resizeAnswer l i size t .state)
-  unfolding resizeAnswer reply ideal placeOf
-  resize-place l i size (Tables.two old new) e = λ held. refl
-  resize-place l i size (Tables.one old) e =
-      either (λ (r : Reply Ideal). Stays i (r .state)) (acceptable old (cond (i .turned) (l .first) (l .second)) size) _ _
-      (λ held.
-      begun-place old size (keysOf (i .plain .pairs)) (i .unmoved) held
-      ∙ ap (λ (t : Tables). placeBy t (i .unmoved) key) (sym e))
-      (λ held. refl)
-
-  module _ (l : Lengths) (i : Ideal) (paused : 0 < i .iterators) where
-    abbrev Same : Reply Ideal → Type 0
-    Same r = placeOf (r .state) key ≡ placeOf i key
-
-    on-place : (k : ℕ) (c : KeyCall) → Stays i (predict l i (Call.on k c) .state)
-    unfolding predict onAnswer keyAnswer reply ideal placeOf
-    on-place k c =
-        any-growth l (Stays i) c (onAnswer i c m)
-        (λ old size e held.
-        resize-place l (onAnswer i c m .state) size (Tables.one old) e held
-        ∙ before (subst (λ (p : PlainMap). In key (keysOf (p .pairs))) (resize-plain l (onAnswer i c m .state) size (Tables.one old)) held))
-        before
-      where
-        m : Reply PlainMap
-        m = mapDoes (i .plain) k c
-
-        before : Stays i (onAnswer i c m .state)
-        before held =
-            rw (paused-first i paused c (m .number)) (kept-place (keysOf (m .state .pairs)) (i .unmoved) held (i .tables))
-
-    start-place : (capacity size n : ℕ) → 0 < startAnswer i capacity size n .state .iterators
-        → placeOf (startAnswer i capacity size n .state) key ≡ placeOf i key
-    unfolding startAnswer begun ideal reply
-    start-place capacity size zero on = absurd (omega arith)
-    start-place capacity size (suc n) on = refl
-
-    -- a start answered 0 ends the count
-    pub place-stays : (c : Call) → 0 < predict l i c .state .iterators → Stays i (predict l i c .state)
-    unfolding predict withNotes ideal reply placeOf
-    place-stays (Call.init capacity size) on held = start-place capacity size (startNumber l capacity size) on
-    place-stays (Call.on k c) on held = on-place k c held
-    place-stays (Call.resize size) on held = resize-place l i size (i .tables) refl held
-    place-stays Call.rehashStep on held = ap (λ (j : Ideal). placeOf j key) (paused-stays i paused)
-    place-stays (Call.scan cursor lent) on held = any-hand i Same _ _ _ refl refl
-    place-stays (Call.iterate place lent) on held = any-hand i Same _ _ _ refl refl
-    place-stays (Call.read c) on held = any-read i Same c (λ vs. refl) refl
-    place-stays (Call.note c) on held = any-note i Same c (λ allowed iterators. refl) refl refl
+  -- a start answered 0 ends the count
+  pub place-stays : (c : Call) → 0 < predict l i c .state .iterators → In key (keysOf (i .plain .pairs))
+      → Stays key i (predict l i c .state)
+  unfolding predict withNotes ideal reply placeOf
+  place-stays (Call.init capacity size) on was held = start-place capacity size (startNumber l capacity size) on
+  place-stays (Call.on k c) on was held = on-place key l i paused k c held
+  place-stays (Call.resize size) on was held = resize-place key l i size (i .tables) refl held
+  place-stays Call.rehashStep on was held = ap (λ (j : Ideal). placeOf j key) (paused-stays i paused)
+  place-stays (Call.scan cursor lent) on was held = any-hand i Same _ _ _ refl refl
+  place-stays (Call.iterate place lent) on was held = any-hand i Same _ _ _ refl refl
+  place-stays (Call.read c) on was held = any-read i Same c (λ vs. refl) refl
+  place-stays (Call.note c) on was held = any-note i Same c (λ allowed iterators. refl) refl refl

@@ -16,10 +16,10 @@ use Rattle.model.specs.Walk.{AfterScan}
 use Rattle.model.specs.Walk as walk
 use Rattle.model.specs.Iterators as iterators
 use Rattle.model.specs.Sequences.{World, world, KeyCall, ReadCall, Call, Outcome, kept, keptScan, given, perform, carriedState, carry}
-use Rattle.refinement.specs.Demand1.{LeavesAll}
+use Rattle.refinement.specs.Demand1.{Row, LeavesAll}
 use Rattle.refinement.proofs.HiddenSteps.{alone, before-growth}
-use Rattle.refinement.proofs.Demand1Calls.{leaves, leaves-kept, alone-good}
-use Rattle.refinement.proofs.Demand1Steps.{before-good, good}
+use Rattle.refinement.proofs.Demand1Calls.{Good, leaves, leaves-kept, alone-good}
+use Rattle.refinement.proofs.Demand1Steps.{before-good}
 
 -- the buffers stay, and the state if the call is answered
 kept-carried : (w : World) (r : Reply State) (lent : List ℕ) → (r .number ≡ 0 → r .state ≡ w .state) → carry w (kept w r lent) ≡ w
@@ -38,8 +38,9 @@ module _ (w : World) where
       let (r, lent, is) = leaves-kept w c o l in
       ap (carry w) is ∙ kept-carried w r lent (λ e. absurd (n (ap (λ (o : Outcome). o .reply .number) is ∙ e)))
 
-  pub refused-keeps : (c : Call) → ¬ (perform w c .reply .number ≡ 0) → carry w (perform w c) ≡ w
-  refused-keeps c n = left-keeps c (perform w c) (leaves (good w c) n) n
+  pub refused-keeps : (c : Call) {rs : List Row} → Good w c rs (perform w c) → ¬ (perform w c .reply .number ≡ 0)
+      → carry w (perform w c) ≡ w
+  refused-keeps c g n = left-keeps c (perform w c) (leaves g n) n
 
   pub alone-keeps : (key : ℕ) (c : KeyCall) → ¬ (alone w key c .reply .number ≡ 0) → carry w (alone w key c) ≡ w
   alone-keeps key c n = left-keeps (Call.on key c) (alone w key c) (leaves (alone-good w key c) n) n

@@ -39,6 +39,7 @@ use Rattle.invariant.proofs.RehashMove.{after, HeldThen, moved-store, passed-st
 use Rattle.invariant.proofs.RehashEnd.{swappedTable, swappedPlace, finished-shape, finished-at}
 use Rattle.invariant.proofs.CallAnswers.{step-none, step-paused, step-taken, step-idle, step-passes, step-moves}
 use Rattle.refinement.proofs.Orientation.{worldBy, soundAt, left-reply, left-world}
+use Rattle.refinement.proofs.Demand1Calls.{step-good}
 use Rattle.refinement.proofs.Refusals.{refused-keeps}
 use Rattle.refinement.proofs.IdealSteps.{by-test}
 use Rattle.refinement.proofs.Agreement.{HeldAt, AgreesOn, Agrees, Steps, leaves, Says, after-agrees, retabled-agrees, kept-agrees, turned-agrees}
@@ -262,7 +263,7 @@ module _ (w : World) (i : Ideal) (a : Agrees w i) where
   refused error n is e =
       let replied = left-reply w (stepReply s) bad call sound (StepAnswer.Refused error) (current w) (other w) (w .entries) e in
       let number = ap (λ (r : Reply State). r .number) replied ∙ is in
-      leaves w i a Call.rehashStep (suc n) (0 ∷ 0 ∷ []) (refused-keeps w Call.rehashStep (λ z. omega (arith, number))) number
+      leaves w i a Call.rehashStep (suc n) (0 ∷ 0 ∷ []) (refused-keeps w Call.rehashStep (step-good w) (λ z. omega (arith, number))) number
       (λ f. ap (λ (r : Reply State). r .values) replied)
 
   abbrev old : ℕ

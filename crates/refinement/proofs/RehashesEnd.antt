@@ -1,20 +1,20 @@
 -- How soon a rehash ends: so it is in every store that meets demand 3, and in ours.
 -- Assumes nothing.
 use Prim.Native.Nat.{ℕ, suc, _+_, _<_, _≤_}
-use mathlib.Core.Path.{_≡_, refl, sym, ap, subst, subst₃, _∙_}
+use mathlib.Core.Path.{_≡_, refl, sym, ap, subst, subst₂, subst₃, _∙_}
 use mathlib.Core.Logic.{_⊎_, inl, inr}
-use mathlib.Core.Bool.{Bool, true, false, _&&_, _||_, not, cond}
+use mathlib.Core.Bool.{Bool, true, false, not, cond}
 use mathlib.Core.List.{List, [], _∷_, _++_}
 use mathlib.Core.Option.{some}
-use native.Mathlib.Decide.{ℕ-discrete}
+use native.Mathlib.Decide.{ℕ-discrete, decLt}
 use native.Mathlib.Omega.{arith}
 use lib.Dec.{eqb}
-use borrow.Author.Tests.{eq-eqb, ne-eqb}
+use borrow.Author.Tests.{ne-eqb}
 use Rattle.cursor.specs.Member.{In}
 use Rattle.model.specs.declared.Table.{Table}
 use Rattle.model.specs.Keys.{bucketOf}
 use Rattle.model.specs.Limits.{largestExponent, legalSize, emptyVisits}
-use Rattle.model.specs.Memory.{Place, Live, sizeOf, budgetAt, belongs, chain, chainAt, listed, entriesAt, keyOf, valueOf}
+use Rattle.model.specs.Memory.{Place, Live, sizeOf, budgetAt, belongs, chain, chainAt, listed, entriesAt, keyOf, valueOf, headAt, bucketsOf}
 use Rattle.model.specs.Calls.{sound}
 use Rattle.model.specs.Walk.{Tables, tablesBy, tablesOf}
 use Rattle.model.specs.Sequences.{World, Call, Outcome, perform, carry, run, event, events}
@@ -26,13 +26,13 @@ use Rattle.model.proofs.Shared.{in-its-bucket}
 use Rattle.model.proofs.Tests.{true-not-false, told, tested}
 use Rattle.refinement.specs.Worlds.{current, other, UndamagedAt, Held}
 use Rattle.refinement.specs.Demand1.{headOf, EmptyFrom, FirstFilled}
-use Rattle.refinement.specs.Demand3.{Lengths, lengthsOf, Ideal, begun, among, tableOf, predict, replay, Answered, Matches, Demand3}
-use Rattle.refinement.specs.RehashesEnd.{Ongoing, UnderWay, isStep, answeredStep, answeredSteps, filledBuckets, mostSteps, Advances, RehashEnds, RehashesEnd}
+use Rattle.refinement.specs.Demand3.{Lengths, Ideal, among, tableOf, predict, replay, Answered, Matches, Demand3}
+use Rattle.refinement.specs.RehashesEnd.{SameRehash, Ongoing, UnderWay, answeredStep, answeredSteps, filledBuckets, mostSteps, Advances, RehashEnds, RehashesEnd}
 use Rattle.invariant.proofs.Sums.{sum-atmost, sum-few}
 use Rattle.refinement.proofs.IdealSteps.{one-at-most}
 use Rattle.refinement.proofs.PlainMaps.{key-value, tells-among}
-use Rattle.refinement.proofs.CalledBuckets.{calledFor, bucketsCalled, in-table, called-by, some-steps, steps-at-first, steps-fit}
-use Rattle.refinement.proofs.IdealCalls.{JustBegun, begins, During, left, Onward, Passes, passes, still-turned, goes-step, goes-kept}
+use Rattle.refinement.proofs.CalledBuckets.{calledFor, bucketsCalled, in-table, called-by, some-steps, steps-by-filled, steps-fit}
+use Rattle.refinement.proofs.IdealCalls.{During, left, Onward, Passes, passes, goes-step, goes-kept}
 use Rattle.refinement.proofs.Demand3.{demand3}
 
 -- the head of a chain is on it
@@ -75,17 +75,9 @@ module _ {does : World → Call → Outcome} (l : Lengths) (w : World) (i : Idea
   chainOf t b = entriesAt (w .state) (current w) (other w) (w .entries) (Place.bucket t b)
 
   -- the same tables
-  tables-by : (t : Bool) → w .state .rehashing ≡ t → i .tables ≡ tablesBy t size (w .state .«new_size»)
-  unfolding tablesOf
-  tables-by t e = sym (beside .matches .tables) ∙ ap (λ (f : Bool). tablesBy f size (w .state .«new_size»)) e
-
   moving-tables : w .state .rehashing ≡ true → i .tables ≡ Tables.two size (w .state .«new_size»)
-  unfolding tablesBy
-  moving-tables = tables-by true
-
-  resting-tables : w .state .rehashing ≡ false → i .tables ≡ Tables.one size
-  unfolding tablesBy
-  resting-tables = tables-by false
+  unfolding tablesOf tablesBy
+  moving-tables e = sym (beside .matches .tables) ∙ ap (λ (f : Bool). tablesBy f size (w .state .«new_size»)) e
 
   same-size : w .state .rehashing ≡ true → (n : ℕ) → During n i → n ≡ size
   same-size e n d = let same = sym (d .tables) ∙ moving-tables e in cc
@@ -97,7 +89,7 @@ module _ {does : World → Call → Outcome} (l : Lengths) (w : World) (i : Idea
       (sound-facts (w .state) (current w) (other w) (w .entries) (beside .undamaged .state-sound) .old-legal)
 
   -- While a rehash is under way, the buckets of the old table that unmoved keys call for are filled, and no others.
-  module _ (e : w .state .rehashing ≡ true) (d : During size i) where
+  module _ (e : w .state .rehashing ≡ true) where
     -- a chain with an entry on it has a head
     some-head : (b n : ℕ) → In n (chainOf Table.Old b) → head b ≡ 0 → ⊥
     unfolding entriesAt listed chainAt headOf
@@ -117,7 +109,7 @@ module _ {does : World → Call → Outcome} (l : Lengths) (w : World) (i : Idea
 
     called-filled : (k : ℕ) → In k (i .unmoved) → head (bucketOf k size) ≡ 0 → ⊥
     called-filled k h z =
-        let (value, is) = key-value k (i .plain .pairs) (d .held k h) in
+        let (value, is) = key-value k (i .plain .pairs) (beside .matches .unmoved .held k h) in
         let at = beside .matches .contents .in-store k value is in
         let old : at .table ≡ Table.Old = beside .matches .each-table k value at
         ∙ in-old k
@@ -160,13 +152,29 @@ module _ {does : World → Call → Outcome} (l : Lengths) (w : World) (i : Idea
         subst (λ (t : Bool). 1 ≤ cond t 0 1) (sym (ne-eqb (head b) 0 there)) (omega arith))
         (λ f. omega arith))
 
+    -- none before the next bucket
+    during : During size i
+    unfolding UndamagedAt headOf headAt bucketsOf
+    during =
+        record {
+          new = w .state .«new_size»;
+          tables = moving-tables e;
+          above =
+              λ k h.
+              elim (decLt (bucketOf k size) (w .state .«rehash_index»)) [
+                | yes l ↦ absurd (called-filled k h (beside .undamaged .passed-empty (bucketOf k size) l))
+                | no f ↦ omega (arith, f, beside .matches .index)
+              ];
+          held = beside .matches .unmoved .held;
+        }
+
     -- what a step of the ideal means in the store
     moves : (v : World) → Onward size (i .unmoved) (w .state .«rehash_index») (v .state .«rehash_index») → Moves size (i .unmoved) w v
     unfolding Onward Moves EmptyFrom
     moves v (inl (is, below, far)) =
         inl ((λ b from l. others-empty b (omega arith) (λ k h at. omega (arith, far k h))), is)
     moves v (inr (k, h, near, is, lowest)) =
-        let from : w .state .«rehash_index» ≤ bucketOf k size = omega (arith, d .above k h, beside .matches .index) in
+        let from : w .state .«rehash_index» ≤ bucketOf k size = omega (arith, during .above k h, beside .matches .index) in
         let below = in-table size some-buckets k in
         inr (
           k,
@@ -190,235 +198,190 @@ module _ {does : World → Call → Outcome} (l : Lengths) (w : World) (i : Idea
 
 -- ---- while it goes on
 
-now : (does : World → Call → Outcome) (began w : World) (calls : List Call) → UnderWay does began w calls → Ongoing began w
-unfolding UnderWay
-now does began w [] u = u
-now does began w (c ∷ cs) u = u .0
-
-moving : (did : World → Call → Outcome) (began w : World) (calls : List Call) → UnderWay did began w calls
-    → w .state .rehashing ≡ true
+-- it does so by the ideal
+by-ideal : {does : World → Call → Outcome} {l : Lengths} {w : World} {i : Ideal} → Beside does l w i → (turned : Bool)
+    → Ongoing turned w i → SameRehash turned (i .tables) (i .turned)
 unfolding Ongoing
-moving does began w calls u = now does began w calls u .0
+by-ideal beside turned (inl h) = h
+by-ideal beside turned (inr h) =
+    subst₂ (λ (t : Tables) (now : Bool). SameRehash turned t now) (beside .matches .tables) (beside .matches .turned) h
+
+same-turned : (turned : Bool) (t : Tables) (now : Bool) → SameRehash turned t now → now ≡ turned
+unfolding SameRehash
+same-turned turned (Tables.one size) now h = absurd h
+same-turned turned (Tables.two old new) now h = h
+
+-- and by the state
+moving : {does : World → Call → Outcome} {l : Lengths} {w : World} {i : Ideal} → Beside does l w i → (turned : Bool)
+    → Ongoing turned w i → w .state .rehashing ≡ true
+unfolding tablesOf SameRehash tablesBy
+moving {w = w} {i = i} beside turned h =
+    by (w .state .rehashing)
+    (subst (λ (t : Tables). SameRehash turned t (i .turned)) (sym (beside .matches .tables)) (by-ideal beside turned h))
+  where
+    by : (t : Bool) → SameRehash turned (tablesBy t (w .state .«old_size») (w .state .«new_size»)) (i .turned) → t ≡ true
+    by true h = refl
+    by false h = absurd h
+
+now : (does : World → Call → Outcome) (l : Lengths) (turned : Bool) (w : World) (i : Ideal) (calls : List Call)
+    → UnderWay does l turned w i calls → Ongoing turned w i
+unfolding UnderWay
+now does l turned w i [] u = u
+now does l turned w i (c ∷ cs) u = u .0
 
 not-itself : (b : Bool) → b ≡ not b → ⊥
 not-itself true e = true-not-false e
 not-itself false e = true-not-false (sym e)
 
-no-step : (w : World) (c : Call) (o : Outcome) → (isStep c && eqb (o .reply .number) 0) ≡ false
-    → carry w o .state .«rehash_index» ≡ w .state .«rehash_index» → answeredStep w c o ≡ false
-unfolding answeredStep
-no-step w c o f e =
-    rw (eq-eqb (carry w o .state .«rehash_index») (w .state .«rehash_index») e) (by (isStep c) (eqb (o .reply .number) 0) f)
-  where
-    by : (s t : Bool) → (s && t) ≡ false → (t && (s || false)) ≡ false
-    by true true f = f
-    by true false f = refl
-    by false true f = refl
-    by false false f = refl
-
--- what a call does, counted if it is an answered step
-record OneCall (size : ℕ) (w : World) (i : Ideal) (c : Call) (o : Outcome) (j : Ideal) : Type 0 where
+-- what a call answered with that number does, counted if it is an answered step
+record OneCall (size : ℕ) (i : Ideal) (c : Call) (number : ℕ) (j : Ideal) : Type 0 where
   during : During size j
-  less : cond (answeredStep w c o) 1 0 + left size j ≤ left size i
+  less : cond (answeredStep i c number) 1 0 + left size j ≤ left size i
   only : (k : ℕ) → In k (j .unmoved) → In k (i .unmoved)
-  onward : answeredStep w c o ≡ true → Onward size (i .unmoved) (i .index) (j .index)
+  onward : answeredStep i c number ≡ true → Onward size (i .unmoved) (i .index) (j .index)
 
-module _ (does : World → Call → Outcome) (l : Lengths) (size : ℕ) (pos : 0 < size) where
-  goes : (began w : World) (i : Ideal) → Along does l w i → During size i → (c : Call) → Ongoing began w
-      → Ongoing began (carry w (does w c)) → OneCall size w i c (does w c) (predict l i c .state)
-  unfolding run replay Ongoing
-  goes began w i along d c before after = by (passes l i size (d .new) (d .tables) _ _ c tables)
+module _ (does : World → Call → Outcome) (l : Lengths) (turned : Bool) (size : ℕ) (pos : 0 < size) where
+  goes : (w : World) (i : Ideal) → Along does l w i → During size i → (c : Call) → Ongoing turned w i
+      → Ongoing turned (carry w (does w c)) (predict l i c .state)
+      → OneCall size i c (does w c .reply .number) (predict l i c .state)
+  unfolding run replay answeredStep
+  goes w i along d c before after = by (passes l i size (d .new) (d .tables) _ _ c tables)
     where
-      w′ : World
-      w′ = carry w (does w c)
-
       i′ : Ideal
       i′ = predict l i c .state
 
-      then : Beside does l w′ i′
+      then : Beside does l (carry w (does w c)) i′
       then = along (c ∷ [])
 
-      tables : i′ .tables ≡ Tables.two (w′ .state .«old_size») (w′ .state .«new_size»)
-      tables = moving-tables l w′ i′ then (after .0)
+      tables : i′ .tables
+          ≡ Tables.two (carry w (does w c) .state .«old_size») (carry w (does w c) .state .«new_size»)
+      tables = moving-tables l (carry w (does w c)) i′ then (moving then turned after)
 
-      by : Passes i c (predict l i c .number) i′ → OneCall size w i c (does w c) i′
+      by : Passes i c (predict l i c .number) i′ → OneCall size i c (does w c .reply .number) i′
       by (Passes.stepped unpaused kept) =
           let (at-step, g) = goes-step size i d pos unpaused _ _ (sym (kept .tables) ∙ tables) in
           let (on, less) = goes-kept size _ at-step i′ kept in
           record {
             during = on;
-            less = omega (arith, g .less, one-at-most (answeredStep w c (does w c)) 1 0 (omega arith) (omega arith));
+            less =
+                omega (arith, g .less, one-at-most (answeredStep i c (does w c .reply .number)) 1 0 (omega arith) (omega arith));
             only = λ k h. g .only k (kept .only k h);
             onward = λ t. subst (λ (n : ℕ). Onward size (i .unmoved) (i .index) n) (sym (kept .index)) (g .onward);
           }
       by (Passes.stayed f kept) =
           let (on, less) = goes-kept size i d i′ kept in
-          let none =
-          no-step w c (does w c) (subst (λ (n : ℕ). (isStep c && eqb n 0) ≡ false) (sym (along [] .numbers c)) f) (then .matches .index ∙ kept .index ∙ sym (along [] .matches .index)) in
+          let none : answeredStep i c (does w c .reply .number) ≡ false =
+          ap (answeredStep i c) (along [] .numbers c) ∙ f in
           record {
             during = on;
             less = omega (arith, ap (λ (t : Bool). cond {A = ℕ} t 1 0) none);
             only = kept .only;
             onward = λ t. absurd (true-not-false (sym t ∙ none));
           }
-      by (Passes.renewed just turned) =
+      by (Passes.renewed other) =
           absurd
           (not-itself (i .turned)
-          (sym (along [] .matches .turned) ∙ before .1 ∙ sym (after .1) ∙ then .matches .turned ∙ turned))
+          (same-turned turned _ _ (by-ideal (along []) turned before)
+          ∙ sym (same-turned turned _ _ (by-ideal then turned after))
+          ∙ other))
 
-  bounded : (began : World) (calls : List Call) (w : World) (i : Ideal) → Along does l w i → During size i
-      → UnderWay does began w calls → answeredSteps does w calls < left size i
+  bounded : (calls : List Call) (w : World) (i : Ideal) → Along does l w i → During size i
+      → UnderWay does l turned w i calls → answeredSteps does l w i calls < left size i
   unfolding answeredSteps UnderWay run replay
-  bounded began [] w i along d u = some-steps size (i .unmoved) (i .index)
-  bounded began (c ∷ cs) w i along d u =
-      let g = goes began w i along d c (u .0) (now does began (carry w (does w c)) cs (u .1)) in
-      omega
-      (arith, g .less, bounded began cs (carry w (does w c)) (predict l i c .state) (λ ds. along (c ∷ ds)) (g .during) (u .1))
+  bounded [] w i along d u = some-steps size (i .unmoved) (i .index)
+  bounded (c ∷ cs) w i along d u =
+      let g = goes w i along d c (u .0) (now does l turned (carry w (does w c)) (predict l i c .state) cs (u .1)) in
+      omega (
+        arith,
+        g .less,
+        bounded cs (carry w (does w c)) (predict l i c .state) (λ ds. along (c ∷ ds)) (g .during) (u .1),
+      )
 
   -- the last call, by the keys that were to move before all
-  last-moves : (began : World) (calls : List Call) (w : World) (i : Ideal) → Along does l w i → During size i → (c : Call)
-      → UnderWay does began w (calls ++ c ∷ []) → answeredStep (run does w calls) c (does (run does w calls) c) ≡ true
+  last-moves : (calls : List Call) (w : World) (i : Ideal) → Along does l w i → During size i → (c : Call)
+      → UnderWay does l turned w i (calls ++ c ∷ [])
+      → answeredStep (replay l i calls) c (does (run does w calls) c .reply .number) ≡ true
       → Moves size (i .unmoved) (run does w calls) (run does w (calls ++ c ∷ []))
   unfolding UnderWay run replay Moves
-  last-moves began [] w i along d c u t =
+  last-moves [] w i along d c u t =
       let at = along [] in
-      let e = moving does began w (c ∷ []) u in
+      let e = moving at turned (u .0) in
       let same = same-size l w i at e size d in
-      let onward = goes began w i along d c (u .0) (now does began (carry w (does w c)) [] (u .1)) .onward t in
+      let onward = goes w i along d c (u .0) (u .1) .onward t in
       subst (λ (n : ℕ). Moves n (i .unmoved) w (carry w (does w c))) (sym same)
-      (moves l w i at e (subst (λ (n : ℕ). During n i) same d) (carry w (does w c))
+      (moves l w i at e (carry w (does w c))
       (subst₃ (λ (n now then : ℕ). Onward n (i .unmoved) now then) same (sym (at .matches .index))
       (sym (along (c ∷ []) .matches .index)) onward))
-  last-moves began (e ∷ cs) w i along d c u t =
-      let g = goes began w i along d e (u .0) (now does began (carry w (does w e)) (cs ++ c ∷ []) (u .1)) in
-      elim (last-moves began cs (carry w (does w e)) (predict l i e .state) (λ ds. along (e ∷ ds)) (g .during) c (u .1) t) [
+  last-moves (e ∷ cs) w i along d c u t =
+      let g =
+      goes w i along d e (u .0) (now does l turned (carry w (does w e)) (predict l i e .state) (cs ++ c ∷ []) (u .1)) in
+      elim (last-moves cs (carry w (does w e)) (predict l i e .state) (λ ds. along (e ∷ ds)) (g .during) c (u .1) t) [
         | inl far ↦ inl far
         | inr (k, h, first, is) ↦ inr (k, g .only k h, first, is)
       ]
 
--- ---- from its beginning
+-- the number of the last call
+last-number : (does : World → Call → Outcome) (l : Lengths) (calls : List Call) (w : World) (i : Ideal) (c : Call)
+    → Answered l i (events does w (calls ++ c ∷ []))
+    → does (run does w calls) c .reply .number ≡ predict l (replay l i calls) c .number
+unfolding run replay events event Answered
+last-number does l [] w i c a = a .0 .number
+last-number does l (e ∷ cs) w i c a = last-number does l cs (carry w (does w e)) (predict l i e .state) c (a .1)
 
-module _ (does : World → Call → Outcome) (l : Lengths) where
-  along-run : (calls : List Call) (w : World) (i : Ideal) → Along does l w i → Along does l (run does w calls) (replay l i calls)
-  unfolding run replay
-  along-run [] w i along = along
-  along-run (c ∷ cs) w i along = along-run cs (carry w (does w c)) (predict l i c .state) (λ ds. along (c ∷ ds))
+ends : (does : World → Call → Outcome) (l : Lengths) (w : World) (i : Ideal) → Along does l w i → (calls : List Call)
+    → RehashEnds does l w i calls
+unfolding Advances Moves run replay
+ends does l w i along calls =
+    record {
+      within-size = λ u. omega (arith, most u, steps-fit _ _ some (few-filled l w i at));
+      within-filled = most;
+      each-step = advances;
+    }
+  where
+    at : Beside does l w i
+    at = along []
 
-  replay-last : (calls : List Call) (i : Ideal) (c : Call)
-      → replay l i (calls ++ c ∷ []) ≡ predict l (replay l i calls) c .state
-  unfolding replay
-  replay-last [] i c = refl
-  replay-last (e ∷ cs) i c = replay-last cs (predict l i e .state) c
+    some : 0 < w .state .«old_size»
+    some = some-buckets l w i at
 
-  -- the number of the last call
-  last-number : (calls : List Call) (w : World) (i : Ideal) (c : Call) → Answered l i (events does w (calls ++ c ∷ []))
-      → does (run does w calls) c .reply .number ≡ predict l (replay l i calls) c .number
-  unfolding run replay events event Answered
-  last-number [] w i c a = a .0 .number
-  last-number (e ∷ cs) w i c a = last-number cs (carry w (does w e)) (predict l i e .state) c (a .1)
+    under-way : (cs : List Call) → UnderWay does l (i .turned) w i cs → w .state .rehashing ≡ true
+    under-way cs u = moving at (i .turned) (now does l (i .turned) w i cs u)
 
-  ends : (w : World) (i : Ideal) → Along does l w i → (before : List Call) (first : Call)
-      → ¬ Ongoing (run does w (before ++ first ∷ [])) (run does w before) → (calls : List Call)
-      → RehashEnds does (run does w (before ++ first ∷ [])) calls
-  unfolding Ongoing Advances Moves
-  ends w i along before first not-before calls =
-      record {
-        within-size = λ u. omega (arith, most u, steps-fit _ _ some (few-filled l w′ i′ at));
-        within-filled = most;
-        each-step = advances;
-      }
-    where
-      v : World
-      v = run does w before
+    most : UnderWay does l (i .turned) w i calls
+        → answeredSteps does l w i calls < mostSteps (w .state .«old_size») (filledBuckets w)
+    most u =
+        let e = under-way calls u in
+        let d = during l w i at e in
+        omega (
+          arith,
+          bounded does l (i .turned) (w .state .«old_size») some calls w i along d u,
+          steps-by-filled (w .state .«old_size») (i .unmoved) (filledBuckets w) (i .index) (d .above) (few-called l w i at e)
+              (few-filled l w i at),
+        )
 
-      j : Ideal
-      j = replay l i before
-
-      w′ : World
-      w′ = run does w (before ++ first ∷ [])
-
-      i′ : Ideal
-      i′ = replay l i (before ++ first ∷ [])
-
-      at : Beside does l w′ i′
-      at = along (before ++ first ∷ [])
-
-      some : 0 < w′ .state .«old_size»
-      some = some-buckets l w′ i′ at
-
-      along′ : Along does l w′ i′
-      along′ = along-run (before ++ first ∷ []) w i along
-
-      then : w′ .state .rehashing ≡ true
-          → predict l j first .state .tables ≡ Tables.two (w′ .state .«old_size») (w′ .state .«new_size»)
-      then e =
-          subst (λ (k : Ideal). k .tables ≡ Tables.two (w′ .state .«old_size») (w′ .state .«new_size»))
-          (replay-last before i first) (moving-tables l w′ i′ at e)
-
-      -- there was none before, or another one
-      just : w′ .state .rehashing ≡ true → JustBegun i′
-      just e = subst JustBegun (sym (replay-last before i first)) (by (v .state .rehashing) refl)
-        where
-          other-one : (predict l j first .state .turned ≡ j .turned) ⊎ JustBegun (predict l j first .state)
-              → v .state .rehashing ≡ true → JustBegun (predict l j first .state)
-          other-one (inr new) r = new
-          other-one (inl still) r =
-              let last = ap (λ (k : Ideal). k .turned) (replay-last before i first) in
-              absurd (not-before (r, along before .matches .turned ∙ sym (at .matches .turned ∙ last ∙ still)))
-
-          by : (t : Bool) → v .state .rehashing ≡ t → JustBegun (predict l j first .state)
-          by false r = begins l j _ _ _ (resting-tables l v j (along before) r) first (then e)
-          by true r = other-one (still-turned l j _ _ (moving-tables l v j (along before) r) _ _ first (then e)) r
-
-      during : w′ .state .rehashing ≡ true → During (w′ .state .«old_size») i′
-      during e =
-          record {
-            new = w′ .state .«new_size»;
-            tables = moving-tables l w′ i′ at e;
-            above = λ k h. omega (arith, just e .index);
-            held = λ k h. subst (λ (ks : List ℕ). In k ks) (just e .unmoved) h;
-          }
-
-      most : UnderWay does w′ w′ calls → answeredSteps does w′ calls < mostSteps (w′ .state .«old_size») (filledBuckets w′)
-      most u =
-          let e = moving does w′ w′ calls u in
-          let fewer = bounded does l (w′ .state .«old_size») some w′ calls w′ i′ along′ (during e) u in
-          omega (
-            arith,
-            fewer,
-            steps-at-first (w′ .state .«old_size») (i′ .unmoved) (filledBuckets w′) (i′ .index) (just e .index)
-                (few-called l w′ i′ at e (during e)) (few-filled l w′ i′ at),
-          )
-
-      advances : (c : Call) → UnderWay does w′ w′ (calls ++ c ∷ [])
-          → answeredStep (run does w′ calls) c (does (run does w′ calls) c) ≡ true
-          → Advances w′ (run does w′ calls) (run does w′ (calls ++ c ∷ []))
-      advances c u t =
-          let e = moving does w′ w′ (calls ++ c ∷ []) u in
-          elim (last-moves does l (w′ .state .«old_size») some w′ calls w′ i′ along′ (during e) c u t) [
-            | inl far ↦ inl far
-            | inr (k, h, filled, is) ↦
-                inr (bucketOf k (w′ .state .«old_size»), filled, called-filled l w′ i′ at e (during e) k h, is)
-          ]
+    advances : (c : Call) → UnderWay does l (i .turned) w i (calls ++ c ∷ [])
+        → answeredStep (replay l i calls) c (does (run does w calls) c .reply .number) ≡ true
+        → Advances w (run does w calls) (run does w (calls ++ c ∷ []))
+    advances c u t =
+        let e = under-way (calls ++ c ∷ []) u in
+        elim (last-moves does l (i .turned) (w .state .«old_size») some calls w i along (during l w i at e) c u t) [
+          | inl far ↦ inl far
+          | inr (k, h, filled, is) ↦ inr (bucketOf k (w .state .«old_size»), filled, called-filled l w i at e k h, is)
+        ]
 
 pub demand3-ends : (does : World → Call → Outcome) → Demand3 does → RehashesEnd does
-unfolding run
 demand3-ends does d =
     record {
       rehashes =
-          λ w capacity size answered before first not-before calls.
-          let l = lengthsOf w in
-          let v = carry w (does w (Call.init capacity size)) in
-          let i = begun capacity size in
-          ends does l v i
+          λ l w i undamaged matches.
+          ends does l w i
           (λ cs.
-          let s = d .sequence w capacity size answered cs in
+          let s = d .onward l w i undamaged matches cs in
           record {
             undamaged = s .undamaged;
             matches = s .matches;
-            numbers = λ c. last-number does l cs v i c (d .sequence w capacity size answered (cs ++ c ∷ []) .answers);
-          })
-          before first not-before calls;
+            numbers = λ c. last-number does l cs w i c (d .onward l w i undamaged matches (cs ++ c ∷ []) .answers);
+          });
     }
 
 pub rehashes-end : RehashesEnd perform

@@ -36,6 +36,7 @@ use Rattle.invariant.proofs.Init.{startedAt, startedEntries, started-shape, sta
 use Rattle.invariant.proofs.Resize.{resizedAt, resized-shape, resized-at}
 use Rattle.invariant.proofs.Noted.{live-before, live-after, noted-shape, noted-at}
 use Rattle.refinement.proofs.Orientation.{firstBy, secondBy, worldBy, soundAt, reads-sound, left-reply, left-world}
+use Rattle.refinement.proofs.Demand1Calls.{init-good, resized-good, note-good}
 use Rattle.refinement.proofs.Refusals.{refused-keeps, read-keeps}
 use Rattle.refinement.proofs.PlainMaps.{value-key, key-value}
 use Rattle.refinement.proofs.Agreement.{HeldAt, HeldOld, AgreesOn, Agrees, Steps, leaves, retabled-agrees, kept-agrees}
@@ -239,7 +240,7 @@ init-steps w i a l same capacity size = by (startNumber l capacity size) refl
           agrees = init-agrees w capacity size (number ∙ e);
         }
     by (suc n) e =
-        leaves w i a c (suc n) [] (refused-keeps w c (λ z. omega (arith, number, e))) (number ∙ e)
+        leaves w i a c (suc n) [] (refused-keeps w c (init-good w capacity size) (λ z. omega (arith, number, e))) (number ∙ e)
         (λ f. init-answers w capacity size .1)
 
 -- A resize.
@@ -374,7 +375,7 @@ resize-steps w i a l same size =
     refused n k is e =
         let replied = left-reply w (resizeReply s) bad call sound-state (ResizeAnswer.Refused n) (current w) (other w) (w .entries) e in
         let number = ap (λ (r : Reply State). r .number) replied ∙ is in
-        leaves w i a c (suc k) [] (refused-keeps w c (λ z. omega (arith, number))) number
+        leaves w i a c (suc k) [] (refused-keeps w c (resized-good w size) (λ z. omega (arith, number))) number
         (λ f. ap (λ (r : Reply State). r .values) replied)
 
     then : Bool → Ideal
@@ -508,7 +509,7 @@ module _ (w : World) (i : Ideal) (a : Agrees w i) where
   unfolding kept stateReply reply
   not-made c error n is e =
       let number = ap (λ (o : Outcome). o .reply .number) e ∙ is in
-      leaves w i a (Call.note c) (suc n) [] (refused-keeps w (Call.note c) (λ z. omega (arith, number))) number
+      leaves w i a (Call.note c) (suc n) [] (refused-keeps w (Call.note c) (note-good w c) (λ z. omega (arith, number))) number
       (λ f. ap (λ (o : Outcome). o .reply .values) e)
 
   allow-steps : (allowed : Bool) → Steps w (Call.note (StateCall.allowResize allowed)) (noteAnswer i (StateCall.allowResize allowed))

@@ -17,6 +17,7 @@ use Rattle.model.specs.Sequences.{World, KeyCall, Call, Outcome, carry, run, Ev
 use Rattle.refinement.specs.Demand3.{Lengths, lengthsOf, Ideal, ideal, begun, startNumber, startAnswer, keyAnswer, onAnswer, thenGrows, resizeAnswer, afterStep, withNotes, predict, replay, Answered, Demand3}
 use Rattle.refinement.proofs.IdealSteps.{either, any-step, any-hand, any-read, any-note, growth-plain}
 use Rattle.refinement.proofs.PlainMaps.{length-changed, length-taken}
+use Rattle.refinement.proofs.Demand3.{from-a-start}
 
 -- the keys held after a call that was answered 0
 unfoldable pub keysAfter : Call → ℕ → ℕ
@@ -113,5 +114,5 @@ pub keys-tallied : (does : World → Call → Outcome) → Demand3 does → (w :
 unfolding begun ideal
 keys-tallied does d w capacity size answered calls =
     let v = carry w (does w (Call.init capacity size)) in
-    let s = d .sequence w capacity size answered calls in
+    let s = from-a-start does d w capacity size answered calls in
     sym (s .matches .contents .count) ∙ tallied does (lengthsOf w) v (begun capacity size) calls (s .answers)

@@ -18,7 +18,8 @@ use Rattle.refinement.specs.Demand2.{nextCursor}
 use Rattle.refinement.specs.Demand3.{Lengths, Ideal, inGroup, groupPairs, handAnswer, predict, handedOut, AsPredicted, Answered, Visit, visit, Walk}
 use Rattle.invariant.proofs.Lists.{in-map, of-map, in-keep, of-keep}
 use Rattle.refinement.proofs.Counts.{in-filled}
-use Rattle.refinement.proofs.LiveTables.{Legal, predict-legal}
+use Rattle.refinement.proofs.LiveTables.{Legal}
+use Rattle.refinement.proofs.LegalTables.{predict-legal}
 use Rattle.refinement.proofs.GroupPlaces.{GroupLaws, group-laws, tells-in-group}
 
 -- A visit that was given cursor due: its live tables; the cursor that it answered, which is its group's unless no key was held;

@@ -346,8 +346,13 @@ pub record WalkHolds (visits : List Visit) (ended : Bool) : Type 0 where
   pub bound-so-far : ended ≡ false → 0 < length visits → length visits < largest visits
   pub covers : ended ≡ true → (key : ℕ) → HeldAtEach key visits → In key (keysHanded visits)
 
+-- the ideal's unmoved keys are held, and none stands twice
+pub record Unmoved (i : Ideal) : Type 0 where
+  pub held : (key : ℕ) → In key (i .unmoved) → In key (keysOf (i .plain .pairs))
+  pub once : Distinct (i .unmoved)
+
 -- The store has what the ideal has: the pairs, the live tables, the current buffer, the next bucket to move, the permission,
--- the number of safe iterators, and each key in the table that the ideal says; and the buffers are as long as they were.
+-- the number of safe iterators, and each key in the table that the ideal says; and the buffers are of those lengths.
 pub record Matches (l : Lengths) (w : World) (i : Ideal) : Type 0 where
   pub contents : Holds w (i .plain)
   pub tables : tablesOf (w .state) ≡ i .tables
@@ -356,9 +361,10 @@ pub record Matches (l : Lengths) (w : World) (i : Ideal) : Type 0 where
   pub allowed : w .state .«resize_allowed» ≡ i .allowed
   pub iterators : w .state .«safe_iterators» ≡ i .iterators
   pub each-table : (key value : ℕ) (h : Held w key value) → h .table ≡ tableOf (i .tables) (i .unmoved) key
+  pub unmoved : Unmoved i
   pub lengths : lengthsOf w ≡ l
 
--- After a start answered 0, which was lent buffers of those lengths and from which that ideal begins, whatever the calls.
+-- From a store on that has what that ideal has, whatever the calls.
 pub record SequenceHolds (does : World → Call → Outcome) (l : Lengths) (w : World) (i : Ideal) (calls : List Call) : Type 0 where
   pub undamaged : UndamagedAt (run does w calls)
   pub matches : Matches l (run does w calls) (replay l i calls)
@@ -373,9 +379,18 @@ pub record SequenceHolds (does : World → Call → Outcome) (l : Lengths) (w : 
   pub look : does (run does w calls) (Call.read ReadCall.currentTable) .reply .values
       ≡ take (run does w calls .state .«old_size») (current (run does w calls))
 
--- The start that begins a sequence goes by the lengths of the buffers as they are lent to it.
+-- A start, whatever the buffers hold that it is lent: its number goes by the limits and their lengths alone, and answered 0
+-- it leaves an undamaged store that has what the ideal has with which a sequence begins.
+pub record Starts (does : World → Call → Outcome) (w : World) (capacity size : ℕ) : Type 0 where
+  pub number : does w (Call.init capacity size) .reply .number ≡ startNumber (lengthsOf w) capacity size
+  pub undamaged : does w (Call.init capacity size) .reply .number ≡ 0
+      → UndamagedAt (carry w (does w (Call.init capacity size)))
+  pub matches : does w (Call.init capacity size) .reply .number ≡ 0
+      → Matches (lengthsOf w) (carry w (does w (Call.init capacity size))) (begun capacity size)
+
+-- Whatever calls come behind a start (`from-a-start`, proofs/Demand3), or from any undamaged store on, though no start leads
+-- to it. Such a store has what some ideal has (`undamaged-ideal`, proofs/Contents).
 pub record Demand3 (does : World → Call → Outcome) : Type 0 where
-  pub begins : (w : World) (capacity size : ℕ)
-      → does w (Call.init capacity size) .reply .number ≡ startNumber (lengthsOf w) capacity size
-  pub sequence : (w : World) (capacity size : ℕ) → does w (Call.init capacity size) .reply .number ≡ 0 → (calls : List Call)
-      → SequenceHolds does (lengthsOf w) (carry w (does w (Call.init capacity size))) (begun capacity size) calls
+  pub starts : (w : World) (capacity size : ℕ) → Starts does w capacity size
+  pub onward : (l : Lengths) (w : World) (i : Ideal) → UndamagedAt w → Matches l w i → (calls : List Call)
+      → SequenceHolds does l w i calls

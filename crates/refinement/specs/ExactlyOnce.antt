@@ -8,8 +8,9 @@ use lib.ListN.{length}
 use lib.Dec.{ltb, eqb}
 use Rattle.cursor.specs.Member.{In, Distinct, keep}
 use Rattle.cursor.specs.Reverse.{rev}
-use Rattle.model.specs.Sequences.{World, Call, Outcome, carry, events}
-use Rattle.refinement.specs.Demand3.{lengthsOf, begun, Visit, Walk, largest, HeldAtEach, keysHanded}
+use Rattle.model.specs.Sequences.{World, Call, Outcome, events}
+use Rattle.refinement.specs.Worlds.{UndamagedAt}
+use Rattle.refinement.specs.Demand3.{Lengths, Ideal, Matches, Visit, Walk, largest, HeldAtEach, keysHanded}
 
 -- how often the key is handed out, within a call and across calls
 unfoldable pub times : ℕ → List Visit → ℕ
@@ -47,9 +48,7 @@ pub record HandOuts (visits : List Visit) (ended : Bool) : Type 0 where
   pub later : ended ≡ true → (before : List Visit) (v : Visit) (after : List Visit) → visits ≡ before ++ v ∷ after
       → (key : ℕ) → HeldAtEach key (v ∷ after) → rev (v .cursor) ≤ rev key → In key (keysHanded (v ∷ after))
 
--- after a start answered 0, whatever the calls
+-- from any undamaged store on, whatever the calls
 pub record ExactlyOnce (does : World → Call → Outcome) : Type 0 where
-  pub walks : (w : World) (capacity size : ℕ) → does w (Call.init capacity size) .reply .number ≡ 0 → (calls : List Call)
-      → (visits : List Visit) (ended : Bool)
-      → Walk (lengthsOf w) 0 (begun capacity size) (events does (carry w (does w (Call.init capacity size))) calls) visits ended
-      → HandOuts visits ended
+  pub walks : (l : Lengths) (w : World) (i : Ideal) → UndamagedAt w → Matches l w i → (calls : List Call)
+      → (visits : List Visit) (ended : Bool) → Walk l 0 i (events does w calls) visits ended → HandOuts visits ended

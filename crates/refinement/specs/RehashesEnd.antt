@@ -1,49 +1,59 @@
--- How soon a rehash ends: for any meaning of the calls, of every rehash of every sequence (SPECIFICATION, "How soon a
--- move ends"). That a step is answered, which keys it moves and that none is lost is said by demands 1 and 3.
+-- How soon a rehash ends: for any meaning of the calls, of every rehash of every sequence, from any moment of it on
+-- (SPECIFICATION, "How soon a move ends"). That a step is answered, which keys it moves and that none is lost is said by
+-- demands 1 and 3.
 use Prim.Native.Nat.{ℕ, suc, _+_, _-_, _/_, _<_, max}
 use mathlib.Core.Path.{_≡_}
 use mathlib.Core.Logic.{_⊎_}
-use mathlib.Core.Bool.{Bool, true, false, _&&_, _||_, not, cond}
+use mathlib.Core.Bool.{Bool, true, false, _&&_, cond}
 use mathlib.Core.List.{List, [], _∷_, _++_}
 use lib.Dec.{eqb}
 use Rattle.model.specs.declared.Table.{Table}
 use Rattle.model.specs.Limits.{emptyVisits}
 use Rattle.model.specs.Memory.{Place, sum}
+use Rattle.model.specs.Walk.{Tables, tablesOf}
 use Rattle.model.specs.Sequences.{World, Call, Outcome, carry, run}
+use Rattle.refinement.specs.Worlds.{UndamagedAt, takesStep}
 use Rattle.refinement.specs.Demand1.{headOf, EmptyFrom, FirstFilled}
+use Rattle.refinement.specs.Demand3.{Lengths, Ideal, predict, replay, Matches}
 
--- A rehash is under way where the state says so. With its end the other buffer becomes the current one, which tells it from
--- the next rehash, even if that begins with the same call.
-unfoldable pub Ongoing : World → World → Type 0
-Ongoing began w =
-    (w .state .rehashing ≡ true) × (w .state .«second_is_current» ≡ began .state .«second_is_current»)
+-- A rehash is under way while there are two tables. With its end the other buffer becomes the current one, which tells it
+-- from the next rehash, even if that begins with the same call.
+unfoldable pub SameRehash : (turned : Bool) → Tables → Bool → Type 0
+SameRehash turned (Tables.one size) now = ⊥
+SameRehash turned (Tables.two old new) now = now ≡ turned
+
+-- The ideal tells it. Where a store still has it under way, it is not over either: no store can put its end off.
+unfoldable pub Ongoing : (turned : Bool) → World → Ideal → Type 0
+Ongoing turned w i =
+    SameRehash turned (i .tables) (i .turned) ⊎ SameRehash turned (tablesOf (w .state)) (w .state .«second_is_current»)
 
 -- it is under way, and still so after each of some calls: none has ended it, and none has started the store anew
-unfoldable pub UnderWay : (World → Call → Outcome) → World → World → List Call → Type 0
-UnderWay does began w [] = Ongoing began w
-UnderWay does began w (c ∷ cs) = Ongoing began w × UnderWay does began (carry w (does w c)) cs
+unfoldable pub UnderWay : (World → Call → Outcome) → Lengths → (turned : Bool) → World → Ideal → List Call → Type 0
+UnderWay does l turned w i [] = Ongoing turned w i
+UnderWay does l turned w i (c ∷ cs) =
+    Ongoing turned w i × UnderWay does l turned (carry w (does w c)) (predict l i c .state) cs
 
--- Its answered steps, while it is under way: the calls answered 0 that are step calls, or after which the next bucket is
--- another. Those of the second kind took a step inside: an add, or a delete.
+-- Its answered steps, while it is under way: the calls answered 0 that take one. These are the step calls, and, where no safe
+-- iterator holds it up, adds and deletes.
 
-unfoldable pub isStep : Call → Bool
-isStep Call.rehashStep = true
-isStep (Call.init capacity size) = false
-isStep (Call.on key c) = false
-isStep (Call.resize size) = false
-isStep (Call.scan cursor lent) = false
-isStep (Call.read c) = false
-isStep (Call.iterate place lent) = false
-isStep (Call.note c) = false
+unfoldable pub stepsIn : (iterators : ℕ) → Call → Bool
+stepsIn iterators Call.rehashStep = true
+stepsIn iterators (Call.on key c) = takesStep c && eqb iterators 0
+stepsIn iterators (Call.init capacity size) = false
+stepsIn iterators (Call.resize size) = false
+stepsIn iterators (Call.scan cursor lent) = false
+stepsIn iterators (Call.iterate place lent) = false
+stepsIn iterators (Call.read c) = false
+stepsIn iterators (Call.note c) = false
 
-unfoldable pub answeredStep : World → Call → Outcome → Bool
-answeredStep w c o =
-    eqb (o .reply .number) 0
-    && (isStep c || not (eqb (carry w o .state .«rehash_index») (w .state .«rehash_index»)))
+unfoldable pub answeredStep : Ideal → Call → (number : ℕ) → Bool
+answeredStep i c number = stepsIn (i .iterators) c && eqb number 0
 
-unfoldable pub answeredSteps : (World → Call → Outcome) → World → List Call → ℕ
-answeredSteps does w [] = 0
-answeredSteps does w (c ∷ cs) = cond (answeredStep w c (does w c)) 1 0 + answeredSteps does (carry w (does w c)) cs
+unfoldable pub answeredSteps : (World → Call → Outcome) → Lengths → World → Ideal → List Call → ℕ
+answeredSteps does l w i [] = 0
+answeredSteps does l w i (c ∷ cs) =
+    cond (answeredStep i c (does w c .reply .number)) 1 0
+    + answeredSteps does l (carry w (does w c)) (predict l i c .state) cs
 
 -- how many buckets of the old table are filled
 unfoldable pub filledBuckets : World → ℕ
@@ -54,31 +64,30 @@ unfoldable pub mostSteps : ℕ → ℕ → ℕ
 mostSteps size filled = max 1 (filled + (size - filled) / emptyVisits)
 
 -- From w to v: the next bucket is behind as many empty ones as a step passes; or behind the first filled one, which was
--- filled when the rehash began too.
+-- filled at the first moment too.
 unfoldable pub Advances : World → World → World → Type 0
-Advances began w v =
+Advances first w v =
     (EmptyFrom w (w .state .«rehash_index» + emptyVisits)
     × (v .state .«rehash_index» ≡ w .state .«rehash_index» + emptyVisits))
     ⊎ ((b : ℕ)
     × FirstFilled w b
-    × (¬ (headOf began (Place.bucket Table.Old b) ≡ 0))
+    × (¬ (headOf first (Place.bucket Table.Old b) ≡ 0))
     × (v .state .«rehash_index» ≡ suc b))
 
--- A rehash that began just now, and some calls.
-pub record RehashEnds (does : World → Call → Outcome) (w : World) (calls : List Call) : Type 0 where
+-- From a moment at which a rehash is under way, be it its beginning, and for some calls.
+pub record RehashEnds (does : World → Call → Outcome) (l : Lengths) (w : World) (i : Ideal) (calls : List Call) : Type 0 where
   -- while it is under way, fewer steps were answered than the old table has buckets: the last of so many ends it, if none
   -- before does
-  pub within-size : UnderWay does w w calls → answeredSteps does w calls < w .state .«old_size»
-  -- .. and fewer than the most steps, by the buckets that were filled when it began
-  pub within-filled : UnderWay does w w calls → answeredSteps does w calls < mostSteps (w .state .«old_size») (filledBuckets w)
+  pub within-size : UnderWay does l (i .turned) w i calls → answeredSteps does l w i calls < w .state .«old_size»
+  -- .. and fewer than the most steps, by the buckets that are filled at that moment
+  pub within-filled : UnderWay does l (i .turned) w i calls
+      → answeredSteps does l w i calls < mostSteps (w .state .«old_size») (filledBuckets w)
   -- each answered step advances so: no bucket of the old table is filled anew
-  pub each-step : (c : Call) → UnderWay does w w (calls ++ c ∷ [])
-      → answeredStep (run does w calls) c (does (run does w calls) c) ≡ true
+  pub each-step : (c : Call) → UnderWay does l (i .turned) w i (calls ++ c ∷ [])
+      → answeredStep (replay l i calls) c (does (run does w calls) c .reply .number) ≡ true
       → Advances w (run does w calls) (run does w (calls ++ c ∷ []))
 
--- after a start answered 0, some calls, and one with which a rehash begins: before it, this one was not under way
+-- any undamaged store is such a moment, if it has two tables
 pub record RehashesEnd (does : World → Call → Outcome) : Type 0 where
-  pub rehashes : (w : World) (capacity size : ℕ) → does w (Call.init capacity size) .reply .number ≡ 0
-      → (before : List Call) (first : Call)
-      → ¬ Ongoing (run does w (Call.init capacity size ∷ before ++ first ∷ [])) (run does w (Call.init capacity size ∷ before))
-      → (calls : List Call) → RehashEnds does (run does w (Call.init capacity size ∷ before ++ first ∷ [])) calls
+  pub rehashes : (l : Lengths) (w : World) (i : Ideal) → UndamagedAt w → Matches l w i → (calls : List Call)
+      → RehashEnds does l w i calls

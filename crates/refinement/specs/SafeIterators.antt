@@ -7,8 +7,9 @@ use mathlib.Core.List.{List, [], _∷_, _++_}
 use lib.ListN.{getD}
 use Rattle.model.specs.Walk.{smallerOf}
 use Rattle.model.specs.Iterators.{endPlace}
-use Rattle.model.specs.Sequences.{World, StateCall, Call, Outcome, run, Event, events, keysOf}
-use Rattle.refinement.specs.Demand3.{Lengths, lengthsOf, Ideal, begun, among, predict, replay, Visit, visit, HeldAtEach}
+use Rattle.model.specs.Sequences.{World, Call, Outcome, Event, events, keysOf}
+use Rattle.refinement.specs.Worlds.{UndamagedAt}
+use Rattle.refinement.specs.Demand3.{Lengths, Ideal, Matches, among, predict, Visit, visit, HeldAtEach}
 use Rattle.refinement.specs.ExactlyOnce.{times}
 
 -- at a call that is none of the pass's the same is seen, but that it hands out nothing to the pass
@@ -45,12 +46,8 @@ pub record PassHolds (moments : List Visit) (ended : Bool) : Type 0 where
   -- unless it was deleted and added again in between
   pub no-doubles : (before rest : List Visit) → moments ≡ before ++ rest → (key : ℕ) → times key rest ≤ stays key false rest
 
--- After a start answered 0, some calls, and the begin of a safe iterator answered 0, whatever the calls: of every pass from
--- place 0 on.
+-- From any undamaged store on, whatever the calls: of every pass from place 0 on. (At its first moment, as at all others, there
+-- is a safe iterator.)
 pub record SafeIterators (does : World → Call → Outcome) : Type 0 where
-  pub passes : (w : World) (capacity size : ℕ) → does w (Call.init capacity size) .reply .number ≡ 0 → (before : List Call)
-      → does (run does w (Call.init capacity size ∷ before)) (Call.note StateCall.beginSafe) .reply .number ≡ 0
-      → (calls : List Call) (moments : List Visit) (ended : Bool)
-      → Pass (lengthsOf w) 0 (replay (lengthsOf w) (begun capacity size) (before ++ Call.note StateCall.beginSafe ∷ []))
-      (events does (run does w (Call.init capacity size ∷ before ++ Call.note StateCall.beginSafe ∷ [])) calls) moments ended
-      → PassHolds moments ended
+  pub passes : (l : Lengths) (w : World) (i : Ideal) → UndamagedAt w → Matches l w i → (calls : List Call)
+      → (moments : List Visit) (ended : Bool) → Pass l 0 i (events does w calls) moments ended → PassHolds moments ended

@@ -96,13 +96,13 @@ turned-look : perform turned (Call.read ReadCall.currentTable) .reply .values �
 unfolding computing ours turned
 turned-look = refl
 
-module _ (does : World → Call → Outcome) (calls : List Call) (left : run does (started perform 1) calls ≡ turned)
-    (left-ours : run perform (started perform 1) calls ≡ ours)
-    (seen : events does (started perform 1) calls ≡ events perform (started perform 1) calls)
+module _ (does : World → Call → Outcome) (calls : List Call) (left : run does (started 1) calls ≡ turned)
+    (left-ours : run perform (started 1) calls ≡ ours)
+    (seen : events does (started 1) calls ≡ events perform (started 1) calls)
     (scans : (cursor : ℕ) (lent : List ℕ) → does turned (Call.scan cursor lent) ≡ perform turned (Call.scan cursor lent))
     (iterates : (place : ℕ) (lent : List ℕ) → does turned (Call.iterate place lent) ≡ perform turned (Call.iterate place lent))
     (looks : does turned (Call.read ReadCall.currentTable) ≡ perform turned (Call.read ReadCall.currentTable))
-    (d : Demand2 perform) (h : SequenceHolds perform (lengthsOf zeros) (started perform 1) (startedIdeal 1) calls) where
+    (d : Demand2 perform) (h : SequenceHolds perform (lengthsOf zeros) (started 1) (startedIdeal 1) calls) where
   turned-undamaged : UndamagedAt turned
   unfolding turned
   turned-undamaged = reordered-undamaged ours _ _ _ turned-reordered (rw left-ours at (h .undamaged))
@@ -123,7 +123,7 @@ module _ (does : World → Call → Outcome) (calls : List Call) (left : run doe
   unfolding turned
   turned-matches = reordered-matches ours _ _ _ turned-reordered (rw left-ours at (h .matches))
 
-  turned-passes : SequenceHolds does (lengthsOf zeros) (started perform 1) (startedIdeal 1) calls
+  turned-passes : SequenceHolds does (lengthsOf zeros) (started 1) (startedIdeal 1) calls
   turned-passes =
       record {
         undamaged = rw left turned-undamaged;
@@ -139,14 +139,14 @@ module _ (does : World → Call → Outcome) (calls : List Call) (left : run doe
 abbrev answered : Call → List ℕ → Event
 answered c values = record { call = c; number = 0; values = values; lent = [] }
 
-pub addsAtEnd-passes : Demand2 perform → Demand3 perform → SequenceHolds addsAtEnd (lengthsOf zeros) (started addsAtEnd 1) (startedIdeal 1) twoKeys
+pub addsAtEnd-passes : Demand2 perform → Demand3 perform → SequenceHolds addsAtEnd (lengthsOf zeros) (started 1) (startedIdeal 1) twoKeys
 unfolding computing addsAtEnd reordering relinked wrong.head wrong.toEnd ours turned
 addsAtEnd-passes d2 d =
     turned-passes addsAtEnd twoKeys refl refl (alike (answered (add 1 10) [] ∷ answered (add 2 20) [] ∷ []) refl refl)
     (λ cursor lent. refl) (λ place lent. refl) refl d2 (at d 1 refl twoKeys)
 
 pub findsToFront-passes : Demand2 perform → Demand3 perform
-    → SequenceHolds findsToFront (lengthsOf zeros) (started findsToFront 1) (startedIdeal 1) (add 1 10 ∷ add 2 20 ∷ find 1 ∷ [])
+    → SequenceHolds findsToFront (lengthsOf zeros) (started 1) (startedIdeal 1) (add 1 10 ∷ add 2 20 ∷ find 1 ∷ [])
 unfolding computing findsToFront reordering relinked wrong.head wrong.toFront ours turned
 findsToFront-passes d2 d =
     turned-passes findsToFront (add 1 10 ∷ add 2 20 ∷ find 1 ∷ []) refl refl
@@ -188,7 +188,7 @@ findsToFront-demand1 d =
 pub addsAtEnd-excluded : ((w : World) (c : Call) → addsAtEnd w c ≡ perform w c) → ⊥
 unfolding computing addsAtEnd reordering relinked wrong.head wrong.toEnd
 addsAtEnd-excluded same =
-    apart (λ (o : Outcome). getD (o .first) 0 0) _ _ refl (same (run perform (started perform 1) (add 1 10 ∷ [])) (add 2 20))
+    apart (λ (o : Outcome). getD (o .first) 0 0) _ _ refl (same (run perform (started 1) (add 1 10 ∷ [])) (add 2 20))
 
 pub findsToFront-excluded : ((w : World) (c : Call) → findsToFront w c ≡ perform w c) → ⊥
 unfolding computing findsToFront reordering relinked wrong.head wrong.toFront ours

@@ -8,15 +8,16 @@ use lib.ListN.{replicate}
 use borrow.Author.Tests.{eqb-false}
 use Rattle.model.specs.Calls as calls
 use Rattle.model.specs.Walk.{Tables}
-use Rattle.model.specs.Sequences.{World, world, StateCall, Call, Outcome, perform, carry, run}
+use Rattle.model.specs.Sequences.{World, world, StateCall, Call, Outcome, carry}
 use Rattle.model.proofs.Tests.{true-not-false}
 use Rattle.refinement.specs.Demand1.{Demand1}
 use Rattle.refinement.specs.Demand3.{Demand3, SequenceHolds, lengthsOf, begun, startNumber}
 use Rattle.refinement.specs.RehashesEnd.{Ongoing}
 use Rattle.refinement.proofs.HiddenSteps as hidden
+use Rattle.refinement.proofs.Demand3.{from-a-start}
 use Rattle.wrong_stores.specs.Growth as growth
 use Rattle.wrong_stores.specs.Growth.{neverGrows, growsForbidden, neverForced, growsLate, forcedEarly, forcedByKeys, growsForBefore, growsToTwo, growsHalfway, growsFromRest, neverGrowsPaused, shrinks, deletesShrinking, deletesGrowing, stepsGrowing, allowsGrowing, refusesCramped, startsForbidding, keepsPermission, allowsAgain, refusesPermission, allowsAnyState}
-use Rattle.wrong_stores.proofs.Start.{computing, zeros, started, forbid, beginSafe, add, delete, at, apart, neither}
+use Rattle.wrong_stores.proofs.Start.{computing, zeros, reached, reachedIdeal, forbid, beginSafe, add, delete, at, apart, neither}
 
 abbrev allow : Call
 allow = Call.note (StateCall.allowResize true)
@@ -112,7 +113,7 @@ begins-with : {does : World → Call → Outcome} → Demand3 does → (size oth
     → startNumber (lengthsOf (roomy others)) 6 size ≡ 0 → (calls : List Call)
     → SequenceHolds does (lengthsOf (roomy others)) (carry (roomy others) (does (roomy others) (Call.init 6 size))) (begun 6 size) calls
 begins-with d size others fits calls =
-    d .sequence (roomy others) 6 size (d .begins (roomy others) 6 size ∙ fits) calls
+    from-a-start _ d (roomy others) 6 size (d .starts (roomy others) 6 size .number ∙ fits) calls
 
 abbrev fiveKeys : List Call
 fiveKeys = add 1 10 ∷ add 2 20 ∷ add 3 30 ∷ add 4 40 ∷ add 5 50 ∷ []
@@ -160,11 +161,11 @@ flag allowed = cond allowed 1 0
 
 pub startsForbidding-excluded : Demand3 startsForbidding → ⊥
 unfolding computing growth.permitted startsForbidding roomy flag
-startsForbidding-excluded d = apart flag false true refl (begins-with d 1 16 refl [] .matches .allowed)
+startsForbidding-excluded d = apart flag false true refl (d .starts zeros 3 1 .matches refl .allowed)
 
 pub keepsPermission-excluded : Demand3 keepsPermission → ⊥
 unfolding computing keepsPermission flag
-keepsPermission-excluded d = apart flag true false refl (at d 1 refl [] .matches .allowed)
+keepsPermission-excluded d = apart flag false true refl (at d 1 refl (allow ∷ []) .matches .allowed)
 
 pub allowsAgain-excluded : Demand3 allowsAgain → ⊥
 unfolding computing growth.permitted allowsAgain flag
@@ -180,11 +181,14 @@ allowsAnyState-excluded d =
 -- Ours: an add whose step ends a rehash, and behind which the next one begins. It is another one: `RehashesEnd` counts its
 -- steps from there on.
 
-abbrev endsNext : World
-endsNext = run perform (started perform 4) (allow ∷ add 0 10 ∷ Call.resize 2 ∷ [])
+abbrev endsNext : List Call
+endsNext = allow ∷ add 0 10 ∷ Call.resize 2 ∷ []
 
-pub begins-anew : (endsNext .state .rehashing ≡ true)
-    × (run perform endsNext (add 1 11 ∷ []) .state .rehashing ≡ true)
-    × (¬ Ongoing (run perform endsNext (add 1 11 ∷ [])) endsNext)
+abbrev beginsNext : List Call
+beginsNext = endsNext ++ add 1 11 ∷ []
+
+pub begins-anew : (reached 4 endsNext .state .rehashing ≡ true)
+    × (reached 4 beginsNext .state .rehashing ≡ true)
+    × (¬ Ongoing (reachedIdeal 4 endsNext .turned) (reached 4 beginsNext) (reachedIdeal 4 beginsNext))
 unfolding computing
-begins-anew = (refl, refl, λ on. true-not-false (sym (on .1)))
+begins-anew = (refl, refl, neither true-not-false true-not-false)

@@ -135,7 +135,7 @@ abbrev pub threeTimes : List Visit
 threeTimes = zeroAt 0 4 ∷ zeroAt 2 2 ∷ zeroAt 1 1 ∷ []
 
 pub three-visits : Walk (lengthsOf zeros) 0 (startedIdeal 4)
-    (events perform (started perform 4)
+    (events perform (started 4)
     (add 0 10 ∷ Call.scan 0 room
     ∷ Call.resize 2 ∷ Call.rehashStep ∷ Call.scan 2 room
     ∷ Call.resize 1 ∷ Call.rehashStep ∷ Call.scan 1 room ∷ []))

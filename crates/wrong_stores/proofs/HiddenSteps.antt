@@ -3,8 +3,8 @@
 -- Assumes nothing.
 use Prim.Native.Nat.{ℕ, zero, suc}
 use mathlib.Core.Path.{_≡_, refl}
-use mathlib.Core.Logic.{inl}
-use mathlib.Core.List.{List, [], _∷_}
+use mathlib.Core.Logic.{inl, inr}
+use mathlib.Core.List.{List, [], _∷_, _++_}
 use mathlib.Core.Bool.{false}
 use lib.ListN.{getD}
 use borrow.Author.Tests.{eqb-false}
@@ -14,13 +14,13 @@ use Rattle.model.specs.Memory.{Place}
 use Rattle.model.specs.Cases.{rehashing, counting}
 use Rattle.model.specs.Sequences.{World, Call, Outcome, perform, run}
 use Rattle.refinement.specs.Demand1.{Demand1, SoundChain, Damaged, keyPlaces, stepWorld}
-use Rattle.refinement.specs.Demand3.{Demand3}
+use Rattle.refinement.specs.Demand3.{lengthsOf, Demand3}
 use Rattle.refinement.specs.RehashesEnd.{UnderWay, answeredSteps, RehashesEnd}
 use Rattle.refinement.proofs.HiddenSteps.{alone}
 use Rattle.wrong_stores.specs.Rehashes as rehashes
 use Rattle.wrong_stores.specs.HiddenSteps as wrong
 use Rattle.wrong_stores.specs.HiddenSteps.{addsUnmoved, deletesUnmoved, addsThenSteps, deletesThenSteps, addsAfterTwo, addsPassingOne, addStepStays, deleteStepStays, findsStepping, updatesStepping, walksStepping, iteratesStepping, looksBefore}
-use Rattle.wrong_stores.proofs.Start.{computing, alike, started, room, find, update, add, delete, at, rehash-at, apart, neither}
+use Rattle.wrong_stores.proofs.Start.{computing, zeros, started, reached, reachedIdeal, room, find, update, add, delete, at, rehash-at, apart, neither}
 
 unfoldable stepping : Unit {0}
 unfolding computing alone rehashes.goingOn wrong.thenSteps addsThenSteps deletesThenSteps wrong.stepped wrong.alsoSteps addsUnmoved deletesUnmoved addsAfterTwo addsPassingOne addStepStays deleteStepStays findsStepping updatesStepping walksStepping iteratesStepping looksBefore
@@ -60,7 +60,7 @@ iteratesStepping-excluded d =
 
 -- key 0, and those keys, in a rehash from size 2 to 4
 begun : List Call → World
-begun calls = run perform (started perform 2) (add 0 10 ∷ calls)
+begun calls = run perform (started 2) (add 0 10 ∷ calls)
 
 -- With keys 0 and 1 an add leaves one of them in the old table, and a step is answered.
 pub addsAfterTwo-excluded : Demand3 addsAfterTwo → ⊥
@@ -137,17 +137,31 @@ looksBefore-excluded d =
 pub addsPassingOne-excluded : RehashesEnd addsPassingOne → ⊥
 unfolding stepping
 addsPassingOne-excluded d =
-    let h = rehash-at d 16 refl (add 15 10 ∷ []) (Call.resize 8) refl (add 1 11 ∷ add 2 12 ∷ []) .within-filled
-    ((refl, refl), ((refl, refl), (refl, refl))) in
+    let h = rehash-at d 16 refl (add 15 10 ∷ Call.resize 8 ∷ []) (add 1 11 ∷ add 2 12 ∷ []) .within-filled
+    (inl refl, (inl refl, inr refl)) in
+    omega arith
+
+-- `within-size`: with one bucket, filled, the step of an add or a delete ends it, and these count, whether they take it or not.
+
+pub addsUnmoved-excluded-by-size : RehashesEnd addsUnmoved → ⊥
+unfolding stepping
+addsUnmoved-excluded-by-size d =
+    let h = rehash-at d 1 refl (add 0 10 ∷ Call.resize 2 ∷ []) (add 1 11 ∷ []) .within-size (inl refl, inr refl) in
+    omega arith
+
+pub deletesUnmoved-excluded-by-size : RehashesEnd deletesUnmoved → ⊥
+unfolding stepping
+deletesUnmoved-excluded-by-size d =
+    let h = rehash-at d 1 refl (add 0 10 ∷ Call.resize 2 ∷ []) (delete 0 ∷ []) .within-size (inl refl, inr refl) in
     omega arith
 
 -- Ours: of two filled buckets an add moves one, and a delete the other, which ends the rehash.
 
-abbrev twoFilled : World
-twoFilled = run perform (started perform 2) (add 0 10 ∷ add 1 11 ∷ Call.resize 4 ∷ [])
+abbrev twoFilled : List Call
+twoFilled = add 0 10 ∷ add 1 11 ∷ Call.resize 4 ∷ []
 
-pub ends-inside : UnderWay perform twoFilled twoFilled (add 2 12 ∷ [])
-    × (answeredSteps perform twoFilled (add 2 12 ∷ []) ≡ 1)
-    × (run perform twoFilled (add 2 12 ∷ delete 2 ∷ []) .state .rehashing ≡ false)
+pub ends-inside : UnderWay perform (lengthsOf zeros) false (reached 2 twoFilled) (reachedIdeal 2 twoFilled) (add 2 12 ∷ [])
+    × (answeredSteps perform (lengthsOf zeros) (reached 2 twoFilled) (reachedIdeal 2 twoFilled) (add 2 12 ∷ []) ≡ 1)
+    × (reached 2 (twoFilled ++ add 2 12 ∷ delete 2 ∷ []) .state .rehashing ≡ false)
 unfolding computing
-ends-inside = (((refl, refl), (refl, alike false refl refl)), refl, refl)
+ends-inside = ((inl refl, inl refl), refl, refl)

@@ -48,7 +48,7 @@ startsAsBefore-excluded d = eqb-false 1 0 refl (at d 1 refl (beginSafe ∷ Call.
 
 pub startsWithOne-excluded : Demand3 startsWithOne → ⊥
 unfolding iterating startsWithOne
-startsWithOne-excluded d = eqb-false 1 0 refl (at d 1 refl [] .matches .iterators)
+startsWithOne-excluded d = eqb-false 1 0 refl (d .starts zeros 3 1 .matches refl .iterators)
 
 -- `answers`, `number`. Key 0 is the only one, and a rehash from size 2 to 4 is begun and held up: a step after an add, or a
 -- delete, is so too, since neither has ended the rehash; ..
@@ -74,7 +74,7 @@ refusesPaused-excluded d = eqb-false 18 0 refl (at d 1 refl (beginSafe ∷ Call.
 -- Demand 1, `numbers`. The row after that of 1 is the end's 15, ..
 
 abbrev fresh : World
-fresh = started perform 1
+fresh = started 1
 
 pub neverChanged-excluded : Demand1 neverChanged → ⊥
 unfolding iterating neverChanged
@@ -132,7 +132,7 @@ pub stepsPaused-excluded : Demand1 stepsPaused → ⊥
 unfolding iterating stepsPaused
 stepsPaused-excluded d =
     must-be-paused 0 refl refl refl (lit< tt)
-    (d .numbers (run perform (started perform 2) (heldUp [])) Call.rehashStep)
+    (d .numbers (run perform (started 2) (heldUp [])) Call.rehashStep)
 
 pub damagedFirst-excluded : Demand1 damagedFirst → ⊥
 unfolding iterating damagedFirst moving bucketZero
@@ -157,7 +157,7 @@ printsRefused-excluded d =
 -- any more, and not key 2, which is held: its bucket was passed before it came.
 
 abbrev atBegin : World
-atBegin = run perform (started perform 2) (add 0 10 ∷ add 1 11 ∷ [])
+atBegin = run perform (started 2) (add 0 10 ∷ add 1 11 ∷ [])
 
 abbrev replacing : List Call
 replacing = Call.iterate 0 room ∷ delete 0 ∷ add 2 12 ∷ Call.iterate 1 room ∷ []

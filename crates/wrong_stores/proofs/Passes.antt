@@ -76,7 +76,7 @@ iteratesBackwards-excluded d =
 -- Demand 1. One key, in the only bucket: its chain is sound, and one key is to be handed out.
 
 oneKey : World
-oneKey = run perform (started perform 1) (add 1 10 ∷ [])
+oneKey = run perform (started 1) (add 1 10 ∷ [])
 
 one-sound : BucketDamaged oneKey 0 → ⊥
 unfolding computing oneKey

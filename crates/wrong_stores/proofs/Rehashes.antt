@@ -98,7 +98,7 @@ plainly l i (e ∷ es) p = (
 
 -- the three steps
 abbrev wholeRehash : List Event
-wholeRehash = events movesQuietly (started movesQuietly 4) (threeKeys (Call.rehashStep ∷ Call.rehashStep ∷ []))
+wholeRehash = events movesQuietly (started 4) (threeKeys (Call.rehashStep ∷ Call.rehashStep ∷ []))
 
 pub movesQuietly-answers : Answered (lengthsOf zeros) (startedIdeal 4) wholeRehash
 unfolding computing movesQuietly lying Plainly

@@ -92,5 +92,6 @@ module _ (w : World) (first second entries : List ℕ) (r : Reordered w (world (
         allowed = m .allowed;
         iterators = m .iterators;
         each-table = λ key value h. m .each-table key value (held-back h);
+        unmoved = m .unmoved;
         lengths = r .lengths ∙ m .lengths;
       }

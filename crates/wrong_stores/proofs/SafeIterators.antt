@@ -12,14 +12,14 @@ use lib.Dec.{lit<, lit≤, eqb}
 use lib.Seq.{drop-append-seam}
 use borrow.Author.Tests.{eqb-true, eqb-false}
 use native.Mathlib.Omega.{arith}
-use Rattle.model.specs.Sequences.{Call, perform, run, events}
-use Rattle.refinement.specs.Demand3.{lengthsOf, replay, Visit, HeldAtEach}
+use Rattle.model.specs.Sequences.{Call, perform, events}
+use Rattle.refinement.specs.Demand3.{lengthsOf, Visit, HeldAtEach}
 use Rattle.refinement.specs.ExactlyOnce.{times}
 use Rattle.refinement.specs.SafeIterators.{Pass, Pass.over, Pass.other, Pass.onward, Pass.last, stays, PassHolds, SafeIterators}
 use Rattle.wrong_stores.specs.Passes as passes
 use Rattle.wrong_stores.specs.Passes.{skipsNew, handsAgain}
 use Rattle.wrong_stores.specs.Iterators.{stepsPaused}
-use Rattle.wrong_stores.proofs.Start.{computing, alike, zeros, started, startedIdeal, room, add, delete, beginSafe, visited, pass-at, neither}
+use Rattle.wrong_stores.proofs.Start.{computing, alike, zeros, reached, reachedIdeal, room, add, delete, beginSafe, visited, pass-at, neither}
 use Rattle.wrong_stores.proofs.Iterators.{iterating}
 
 -- keys 0 and 1, and a rehash from size 2 to 4, begun before the safe iterator
@@ -40,7 +40,7 @@ pub skipsNew-excluded-by-exactly-once : SafeIterators skipsNew → ⊥
 unfolding computing passes.handingAt skipsNew
 skipsNew-excluded-by-exactly-once d =
     let h : PassHolds skipped true =
-    pass-at d 2 refl (bothKeys ++ Call.rehashStep ∷ []) refl (Call.iterate 0 room ∷ Call.iterate 2 room ∷ [])
+    pass-at d 2 refl (bothKeys ++ Call.rehashStep ∷ []) (Call.iterate 0 room ∷ Call.iterate 2 room ∷ [])
     (onward room (lit< tt) refl refl (last room (lit< tt) refl refl (alike 6 refl refl))) in
     let once = h .exactly-once refl 0 (inl refl, (inl refl, tt)) in
     omega arith
@@ -72,7 +72,7 @@ unfolding computing passes.again handsAgain
 handsAgain-excluded-by-no-doubles d =
     let one = visited 0 1 (1 ∷ []) (1 ∷ []) in
     let h : PassHolds (one ∷ one ∷ []) false =
-    pass-at d 1 refl (add 1 10 ∷ []) refl (Call.iterate 0 room ∷ Call.iterate 0 room ∷ [])
+    pass-at d 1 refl (add 1 10 ∷ []) (Call.iterate 0 room ∷ Call.iterate 0 room ∷ [])
     (onward room (lit< tt) refl refl (onward room (lit< tt) refl refl over)) in
     let most = h .no-doubles [] _ refl 1 in
     omega arith
@@ -85,7 +85,7 @@ handsAgain-excluded-by-later-doubles d =
     let one = visited 0 1 (1 ∷ []) (1 ∷ []) in
     let before = visited 0 1 (1 ∷ []) [] ∷ visited 0 1 [] [] ∷ [] in
     let h : PassHolds (before ++ one ∷ one ∷ []) false =
-    pass-at d 1 refl (add 1 10 ∷ []) refl (delete 1 ∷ add 1 10 ∷ Call.iterate 0 room ∷ Call.iterate 0 room ∷ [])
+    pass-at d 1 refl (add 1 10 ∷ []) (delete 1 ∷ add 1 10 ∷ Call.iterate 0 room ∷ Call.iterate 0 room ∷ [])
     (other (lit< tt)
     (other (lit< tt) (onward room (lit< tt) refl refl (onward room (lit< tt) refl refl over)))) in
     let most = h .no-doubles before _ refl 1 in
@@ -98,7 +98,7 @@ pub stepsPaused-excluded-by-exactly-once : SafeIterators stepsPaused → ⊥
 unfolding iterating stepsPaused
 stepsPaused-excluded-by-exactly-once d =
     let h : PassHolds (bothAt 0 (0 ∷ []) ∷ bothAt 1 [] ∷ bothAt 1 (1 ∷ []) ∷ bothAt 2 (0 ∷ []) ∷ bothAt 3 [] ∷ []) true =
-    pass-at d 2 refl bothKeys refl
+    pass-at d 2 refl bothKeys
     (Call.iterate 0 room ∷ Call.rehashStep ∷ Call.iterate 1 room ∷ Call.iterate 2 room ∷ Call.iterate 3 room ∷ [])
     (onward room (lit< tt) refl refl
     (other (lit< tt)
@@ -124,7 +124,7 @@ pub stepsPaused-excluded-by-no-doubles : SafeIterators stepsPaused → ⊥
 unfolding iterating stepsPaused
 stepsPaused-excluded-by-no-doubles d =
     let h : PassHolds doubled true =
-    pass-at d 2 refl (add 1 11 ∷ []) refl
+    pass-at d 2 refl (add 1 11 ∷ [])
     (add 0 10 ∷ Call.iterate 0 room ∷ Call.resize 4 ∷ Call.rehashStep ∷ Call.iterate 1 room ∷ Call.iterate 2 room ∷ Call.iterate 3 room ∷ [])
     (other (lit< tt)
     (onward room (lit< tt) refl refl
@@ -172,8 +172,7 @@ moments =
 abbrev twoKeys : List Call
 twoKeys = add 1 11 ∷ add 0 10 ∷ beginSafe ∷ []
 
-pub pass-met : Pass (lengthsOf zeros) 0 (replay (lengthsOf zeros) (startedIdeal 2) twoKeys)
-    (events perform (run perform (started perform 2) twoKeys) between) moments true
+pub pass-met : Pass (lengthsOf zeros) 0 (reachedIdeal 2 twoKeys) (events perform (reached 2 twoKeys) between) moments true
 unfolding computing
 pass-met =
     onward room (lit< tt) refl refl

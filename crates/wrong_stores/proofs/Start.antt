@@ -1,5 +1,5 @@
--- What the refutations share: a world of zeros to start from, demand 3 at a start of three entries in it, and everything that
--- a store of specs/ computes with, opened by one name.
+-- What the refutations share: a store of ours to begin with, and the statements from there on; and everything that a store of
+-- specs/ computes with, opened by one name.
 -- Assumes nothing.
 use Prim.Native.Nat.{ℕ, zero, suc, _<_, _≤_}
 use mathlib.Core.Path.{_≡_, refl, sym, _∙_, ap}
@@ -16,22 +16,22 @@ use Rattle.model.specs.Memory as memory
 use Rattle.model.specs.Memory.{linkOf, keyOf, valueOf, Place, Live, sizeOf, entriesAt}
 use Rattle.model.specs.Calls as calls
 use Rattle.model.specs.Sequences as sequences
-use Rattle.model.specs.Sequences.{World, KeyCall, ReadCall, StateCall, Call, Outcome, carry, run, events}
+use Rattle.model.specs.Sequences.{World, KeyCall, ReadCall, StateCall, Call, Outcome, perform, carry, run, events}
 use Rattle.model.proofs.Computing as model
-use Rattle.model.proofs.Tests.{true-not-false}
 use Rattle.refinement.specs.Worlds as worlds
-use Rattle.refinement.specs.Worlds.{current, other, Held}
+use Rattle.refinement.specs.Worlds.{current, other, UndamagedAt, Held}
 use Rattle.refinement.specs.Demand1 as demand1
 use Rattle.refinement.specs.Demand1.{nth, Chain}
 use Rattle.refinement.specs.Demand2 as demand2
 use Rattle.refinement.specs.Demand3 as demand3
-use Rattle.refinement.specs.Demand3.{Demand3, SequenceHolds, Ideal, lengthsOf, begun, startNumber, replay, Visit, Walk}
+use Rattle.refinement.specs.Demand3.{Demand3, Matches, SequenceHolds, Ideal, lengthsOf, begun, startNumber, replay, Visit, Walk}
 use Rattle.refinement.specs.ExactlyOnce as once
 use Rattle.refinement.specs.ExactlyOnce.{ExactlyOnce, HandOuts}
 use Rattle.refinement.specs.SafeIterators as safe
 use Rattle.refinement.specs.SafeIterators.{SafeIterators, Pass, PassHolds}
 use Rattle.refinement.specs.RehashesEnd as ends
 use Rattle.refinement.specs.RehashesEnd.{RehashEnds, RehashesEnd}
+use Rattle.refinement.proofs.Demand3 as ours
 use Rattle.wrong_stores.specs.OneCall as one
 use Rattle.wrong_stores.specs.OneCall.{byCall, byReadCall}
 
@@ -39,14 +39,14 @@ use Rattle.wrong_stores.specs.OneCall.{byCall, byReadCall}
 unfoldable pub zeros : World
 zeros = sequences.world calls.noState (replicate 16 0) (replicate 16 0) (replicate 9 0)
 
--- After a start of three entries and that size. Then growth is forbidden, so that in a history of few keys and few buckets a
--- rehash begins where it has a resize, and else not.
+-- After a start of three entries and that size, by ours. Then growth is forbidden, so that in a history of few keys and few
+-- buckets a rehash begins where it has a resize, and else not.
 
 abbrev pub forbid : Call
 forbid = Call.note (StateCall.allowResize false)
 
-unfoldable pub started : (World → Call → Outcome) → ℕ → World
-started does size = run does (carry zeros (does zeros (Call.init 3 size))) (forbid ∷ [])
+unfoldable pub started : ℕ → World
+started size = run perform (carry zeros (perform zeros (Call.init 3 size))) (forbid ∷ [])
 
 unfoldable pub startedIdeal : ℕ → Ideal
 startedIdeal size = replay (lengthsOf zeros) (begun 3 size) (forbid ∷ [])
@@ -96,55 +96,65 @@ theStores = tt
 
 -- the demands, and what they say of a world
 unfoldable pub theStatements : Unit {0}
-unfolding worlds.current worlds.other worlds.UndamagedAt worlds.takesStep worlds.mayGrow demand1.BadState demand1.nth demand1.headOf demand1.ChainAt demand1.SoundChain demand1.Damaged demand1.liveTables demand1.keyPlaces demand1.OnChain demand1.KeyHeld demand1.Full demand1.FreeListDamaged demand1.EmptyFrom demand1.EndFirst demand1.StepDamaged demand1.places demand1.KeysOn demand1.TooMany demand1.GroupDamaged demand1.Short demand1.placeAt demand1.BucketDamaged demand1.KeysFrom demand1.ShortFrom demand1.row demand1.keyRows demand1.aloneRows demand1.stepWorld demand1.onRows demand1.readRows demand1.noteRows demand1.rows demand1.Decides demand1.Leaves demand1.keyZeros demand1.readZeros demand1.LeavesList demand1.LeavesAll demand2.groupEntries demand2.nextCursor demand2.handing demand2.HandsOut demand2.firstFilled demand2.placeBehind demand2.bucketEntries demand2.IteratesOut demand3.lengthsOf demand3.ideal demand3.begun demand3.among demand3.tableOf demand3.sizeIn demand3.startNumber demand3.startAnswer demand3.keyAnswer demand3.resizeAnswer demand3.lowest demand3.afterStep demand3.stepTaken demand3.stepAnswer demand3.stepsFirst demand3.onAnswer demand3.grows demand3.thenGrows demand3.isBucket demand3.inGroup demand3.groupPairs demand3.placeNumber demand3.placeOf demand3.isAt demand3.firstHeld demand3.bucketPairs demand3.placePairs demand3.handAnswer demand3.liveSizes demand3.keysIn demand3.idealPrint demand3.readAnswer demand3.withNotes demand3.endAnswer demand3.noteAnswer demand3.predict demand3.replay demand3.pairsIn demand3.handedOut demand3.visit demand3.Answered demand3.largest demand3.HeldAtEach demand3.keysHanded once.times once.NotShrinking once.shrinks once.least safe.onlooker safe.stays ends.Ongoing ends.UnderWay ends.isStep ends.answeredStep ends.answeredSteps ends.filledBuckets ends.mostSteps ends.Advances
+unfolding worlds.current worlds.other worlds.UndamagedAt worlds.takesStep worlds.mayGrow demand1.BadState demand1.nth demand1.headOf demand1.ChainAt demand1.SoundChain demand1.Damaged demand1.liveTables demand1.keyPlaces demand1.OnChain demand1.KeyHeld demand1.Full demand1.FreeListDamaged demand1.EmptyFrom demand1.EndFirst demand1.StepDamaged demand1.places demand1.KeysOn demand1.TooMany demand1.GroupDamaged demand1.Short demand1.placeAt demand1.BucketDamaged demand1.KeysFrom demand1.ShortFrom demand1.row demand1.keyRows demand1.aloneRows demand1.stepWorld demand1.onRows demand1.readRows demand1.noteRows demand1.rows demand1.Decides demand1.Leaves demand1.keyZeros demand1.readZeros demand1.LeavesList demand1.LeavesAll demand2.groupEntries demand2.nextCursor demand2.handing demand2.HandsOut demand2.firstFilled demand2.placeBehind demand2.bucketEntries demand2.IteratesOut demand3.lengthsOf demand3.ideal demand3.begun demand3.among demand3.tableOf demand3.sizeIn demand3.startNumber demand3.startAnswer demand3.keyAnswer demand3.resizeAnswer demand3.lowest demand3.afterStep demand3.stepTaken demand3.stepAnswer demand3.stepsFirst demand3.onAnswer demand3.grows demand3.thenGrows demand3.isBucket demand3.inGroup demand3.groupPairs demand3.placeNumber demand3.placeOf demand3.isAt demand3.firstHeld demand3.bucketPairs demand3.placePairs demand3.handAnswer demand3.liveSizes demand3.keysIn demand3.idealPrint demand3.readAnswer demand3.withNotes demand3.endAnswer demand3.noteAnswer demand3.predict demand3.replay demand3.pairsIn demand3.handedOut demand3.visit demand3.Answered demand3.largest demand3.HeldAtEach demand3.keysHanded once.times once.NotShrinking once.shrinks once.least safe.onlooker safe.stays ends.SameRehash ends.Ongoing ends.UnderWay ends.stepsIn ends.answeredStep ends.answeredSteps ends.filledBuckets ends.mostSteps ends.Advances
 theStatements = tt
 
 unfoldable pub computing : Unit {0}
 unfolding zeros started startedIdeal room isLook isLent model.computing theStores theStatements
 computing = tt
 
--- demand 3 at a history that begins with that start, for a size that it accepts
-pub at : {does : World → Call → Outcome} → Demand3 does → (size : ℕ) → startNumber (lengthsOf zeros) 3 size ≡ 0
-    → (calls : List Call) → SequenceHolds does (lengthsOf zeros) (started does size) (startedIdeal size) calls
-unfolding zeros started startedIdeal demand3.replay demand3.Answered sequences.run sequences.event sequences.events
-at d size fits calls =
-    let all = d .sequence zeros 3 size (d .begins zeros 3 size ∙ fits) (forbid ∷ calls) in
-    record {
-      undamaged = all .undamaged;
-      matches = all .matches;
-      answers = all .answers .1;
-      walks = λ visits ended w. all .walks visits ended (Walk.other w);
-      exact = all .exact;
-      exact-pass = all .exact-pass;
-      look = all .look;
-    }
+-- What calls of ours make of that store, for a size that the start accepts, is undamaged, and has what its ideal has, since
+-- demand 3 holds of ours. So each statement speaks of what another store makes of it.
 
--- and so for a walk of that history
-pub walk-at : {does : World → Call → Outcome} → ExactlyOnce does → (size : ℕ) → does zeros (Call.init 3 size) .reply .number ≡ 0
-    → (calls : List Call) {visits : List Visit} {ended : Bool}
-    → Walk (lengthsOf zeros) 0 (startedIdeal size) (events does (started does size) calls) visits ended → HandOuts visits ended
-unfolding started startedIdeal demand3.replay sequences.run sequences.event sequences.events
-walk-at d size answered calls {visits} {ended} w =
-    d .walks zeros 3 size answered (forbid ∷ calls) visits ended (Walk.other w)
+abbrev pub reached : ℕ → List Call → World
+reached size calls = run perform (started size) calls
 
--- and for a pass of it, by a safe iterator that begins after some calls
-pub pass-at : {does : World → Call → Outcome} → SafeIterators does → (size : ℕ) → does zeros (Call.init 3 size) .reply .number ≡ 0
-    → (before : List Call) → does (run does (started does size) before) beginSafe .reply .number ≡ 0 → (calls : List Call)
-    {moments : List Visit} {ended : Bool}
-    → Pass (lengthsOf zeros) 0 (replay (lengthsOf zeros) (startedIdeal size) (before ++ beginSafe ∷ []))
-    (events does (run does (started does size) (before ++ beginSafe ∷ [])) calls) moments ended
-    → PassHolds moments ended
+abbrev pub reachedIdeal : ℕ → List Call → Ideal
+reachedIdeal size calls = replay (lengthsOf zeros) (startedIdeal size) calls
+
+pub reached-holds : (size : ℕ) → startNumber (lengthsOf zeros) 3 size ≡ 0 → (calls : List Call)
+    → UndamagedAt (reached size calls) × Matches (lengthsOf zeros) (reached size calls) (reachedIdeal size calls)
 unfolding started startedIdeal demand3.replay sequences.run
-pass-at d size answered before begins calls {moments} {ended} p =
-    d .passes zeros 3 size answered (forbid ∷ before) begins calls moments ended p
+reached-holds size fits calls =
+    let answered = ours.demand3 .starts zeros 3 size .number ∙ fits in
+    let s = ours.from-a-start perform ours.demand3 zeros 3 size answered (forbid ∷ calls) in
+    (s .undamaged, s .matches)
 
--- and for a rehash of that history, which a call begins after some others
-pub rehash-at : {does : World → Call → Outcome} → RehashesEnd does → (size : ℕ) → does zeros (Call.init 3 size) .reply .number ≡ 0
-    → (before : List Call) (first : Call) → run does (started does size) before .state .rehashing ≡ false → (calls : List Call)
-    → RehashEnds does (run does (started does size) (before ++ first ∷ [])) calls
-unfolding started sequences.run ends.Ongoing
-rehash-at d size answered before first resting calls =
-    d .rehashes zeros 3 size answered (forbid ∷ before) first (λ on. true-not-false (sym (on .0) ∙ resting)) calls
+-- demand 3 at a history
+pub at : {does : World → Call → Outcome} → Demand3 does → (size : ℕ) → startNumber (lengthsOf zeros) 3 size ≡ 0
+    → (calls : List Call) → SequenceHolds does (lengthsOf zeros) (started size) (startedIdeal size) calls
+unfolding demand3.replay sequences.run
+at d size fits calls =
+    let (undamaged, matches) = reached-holds size fits [] in
+    d .onward (lengthsOf zeros) (started size) (startedIdeal size) undamaged matches calls
+
+-- how often a walk of that history hands out a key
+pub walk-at : {does : World → Call → Outcome} → ExactlyOnce does → (size : ℕ) → startNumber (lengthsOf zeros) 3 size ≡ 0
+    → (calls : List Call) {visits : List Visit} {ended : Bool}
+    → Walk (lengthsOf zeros) 0 (startedIdeal size) (events does (started size) calls) visits ended → HandOuts visits ended
+unfolding demand3.replay sequences.run
+walk-at d size fits calls {visits} {ended} w =
+    let (undamaged, matches) = reached-holds size fits [] in
+    d .walks (lengthsOf zeros) (started size) (startedIdeal size) undamaged matches calls visits ended w
+
+-- what a pass hands out, with a safe iterator that begins after some calls
+pub pass-at : {does : World → Call → Outcome} → SafeIterators does → (size : ℕ) → startNumber (lengthsOf zeros) 3 size ≡ 0
+    → (before calls : List Call) {moments : List Visit} {ended : Bool}
+    → Pass (lengthsOf zeros) 0 (reachedIdeal size (before ++ beginSafe ∷ []))
+    (events does (reached size (before ++ beginSafe ∷ [])) calls) moments ended
+    → PassHolds moments ended
+pass-at d size fits before calls {moments} {ended} p =
+    let (undamaged, matches) = reached-holds size fits (before ++ beginSafe ∷ []) in
+    d .passes (lengthsOf zeros) (reached size (before ++ beginSafe ∷ [])) (reachedIdeal size (before ++ beginSafe ∷ [])) undamaged
+    matches calls moments ended p
+
+-- how soon a rehash ends that is under way after some calls
+pub rehash-at : {does : World → Call → Outcome} → RehashesEnd does → (size : ℕ) → startNumber (lengthsOf zeros) 3 size ≡ 0
+    → (before calls : List Call)
+    → RehashEnds does (lengthsOf zeros) (reached size before) (reachedIdeal size before) calls
+rehash-at d size fits before calls =
+    let (undamaged, matches) = reached-holds size fits before in
+    d .rehashes (lengthsOf zeros) (reached size before) (reachedIdeal size before) undamaged matches calls
 
 -- a visit at a cursor, or a place, and a smaller live size, with the keys held and those handed out
 abbrev pub visited : ℕ → ℕ → List ℕ → List ℕ → Visit

@@ -17,13 +17,13 @@ use Rattle.model.specs.Cases.{sparse}
 use Rattle.model.specs.Sequences.{World, Call, perform, run}
 use Rattle.model.proofs.Tests.{true-not-false}
 use Rattle.refinement.specs.Demand1.{Demand1, headOf, StepDamaged}
-use Rattle.refinement.specs.Demand3.{Demand3}
+use Rattle.refinement.specs.Demand3.{Ideal, lengthsOf, Demand3}
 use Rattle.refinement.specs.RehashesEnd.{UnderWay, answeredSteps, filledBuckets, mostSteps, RehashesEnd}
 use Rattle.wrong_stores.specs.StepRules as wrong
-use Rattle.wrong_stores.specs.StepRules.{passesEleven, passesNine, passesOne, passesFilled, passesToEnd, endsLate, neverDone, endsAtOnce}
+use Rattle.wrong_stores.specs.StepRules.{passesEleven, passesNine, passesOne, passesFilled, passesToEnd, endsLate, neverDone, endsAtOnce, turning}
 use Rattle.wrong_stores.specs.Rehashes as rehashes
 use Rattle.wrong_stores.specs.Rehashes.{stepsAhead}
-use Rattle.wrong_stores.proofs.Start.{computing, alike, started, find, add, at, rehash-at, differ, neither, must-step-damaged, no-look}
+use Rattle.wrong_stores.proofs.Start.{computing, zeros, reached, reachedIdeal, find, add, at, rehash-at, differ, neither, must-step-damaged, no-look}
 
 -- Demand 3, `answers`, `values`. One key in a table of 16, and a rehash to 8: the tenth bucket is in reach, the eleventh not.
 
@@ -115,31 +115,30 @@ passesEleven-excluded-by-numbers d =
 pub endsLate-excluded-by-size : RehashesEnd endsLate → ⊥
 unfolding ending
 endsLate-excluded-by-size d =
-    let h = rehash-at d 1 refl (add 0 10 ∷ []) (Call.resize 2) refl (Call.rehashStep ∷ []) .within-size
-    ((refl, refl), (refl, refl)) in
+    let h = rehash-at d 1 refl (add 0 10 ∷ Call.resize 2 ∷ []) (Call.rehashStep ∷ []) .within-size (inl refl, inr refl) in
     omega arith
 
 -- .. with two, empty, at most two do, whatever comes between them
 pub neverDone-excluded-by-size : RehashesEnd neverDone → ⊥
 unfolding ending
 neverDone-excluded-by-size d =
-    let h = rehash-at d 2 refl [] (Call.resize 4) refl (Call.rehashStep ∷ find 0 ∷ Call.resize 8 ∷ Call.rehashStep ∷ [])
-    .within-size ((refl, refl), ((refl, refl), ((refl, refl), ((refl, refl), (refl, refl))))) in
+    let h = rehash-at d 2 refl (Call.resize 4 ∷ []) (Call.rehashStep ∷ find 0 ∷ Call.resize 8 ∷ Call.rehashStep ∷ []) .within-size
+    (inl refl, (inr refl, (inr refl, (inr refl, inr refl)))) in
     omega arith
 
 -- `within-filled`: one filled bucket of 16, the last: two steps; ..
 pub passesOne-excluded : RehashesEnd passesOne → ⊥
 unfolding looks
 passesOne-excluded d =
-    let h = rehash-at d 16 refl (add 15 10 ∷ []) (Call.resize 8) refl (Call.rehashStep ∷ Call.rehashStep ∷ []) .within-filled
-    ((refl, refl), ((refl, refl), (refl, refl))) in
+    let h = rehash-at d 16 refl (add 15 10 ∷ Call.resize 8 ∷ []) (Call.rehashStep ∷ Call.rehashStep ∷ []) .within-filled
+    (inl refl, (inl refl, inr refl)) in
     omega arith
 
 -- .. and none of two: one step, which `within-size` does not ask for
 pub neverDone-excluded-by-filled : RehashesEnd neverDone → ⊥
 unfolding ending
 neverDone-excluded-by-filled d =
-    let h = rehash-at d 2 refl [] (Call.resize 4) refl (Call.rehashStep ∷ []) .within-filled ((refl, refl), (refl, refl)) in
+    let h = rehash-at d 2 refl (Call.resize 4 ∷ []) (Call.rehashStep ∷ []) .within-filled (inl refl, inr refl) in
     omega arith
 
 -- `each-step`: the next bucket is not the one behind an empty one, ..
@@ -152,8 +151,7 @@ stepsAhead-excluded-by-each-step d =
     neither (λ far. omega (arith, far .1))
     (λ (b, first, filled, is).
     let one : 1 ≡ b = omega arith in filled (subst (λ (n : ℕ). _≡_ {A = ℕ} (getD heads n 0) 0) one refl))
-    (rehash-at d 4 refl (add 0 10 ∷ add 2 12 ∷ []) (Call.resize 8) refl [] .each-step Call.rehashStep
-    ((refl, refl), (refl, alike false refl refl)) refl)
+    (rehash-at d 4 refl (add 0 10 ∷ add 2 12 ∷ Call.resize 8 ∷ []) [] .each-step Call.rehashStep (inl refl, inl refl) refl)
 
 -- .. and the buckets passed are empty
 pub passesFilled-excluded-by-each-step : RehashesEnd passesFilled → ⊥
@@ -161,27 +159,33 @@ unfolding looks passesFilled
 passesFilled-excluded-by-each-step d =
     neither (λ far. eqb-false 1 0 refl (far .0 3 (lit≤ tt) (lit< tt)))
     (λ (b, first, filled, is). eqb-false 1 0 refl (first .empty-before 3 (lit≤ tt) (omega arith)))
-    (rehash-at d 16 refl (add 3 10 ∷ []) (Call.resize 8) refl [] .each-step Call.rehashStep ((refl, refl), (refl, refl)) refl)
+    (rehash-at d 16 refl (add 3 10 ∷ Call.resize 8 ∷ []) [] .each-step Call.rehashStep (inl refl, inr refl) refl)
+
+-- two filled buckets of two
+abbrev twoOfTwo : List Call
+twoOfTwo = add 0 10 ∷ add 1 11 ∷ Call.resize 4 ∷ []
+
+-- The flag does not tell a rehash: with key 1 still to move it is under way after a step, and the next bucket is 1.
+pub turning-excluded : RehashesEnd turning → ⊥
+unfolding computing turning
+turning-excluded d =
+    neither (λ far. eqb-false 0 10 refl (far .1)) (λ (b, first, filled, is). omega (arith, is))
+    (rehash-at d 2 refl twoOfTwo [] .each-step Call.rehashStep (inl refl, inl refl) refl)
 
 -- Both bounds are met by ours: with two filled buckets of two, and with one of 16, the last. One step leaves the rehash under
 -- way, and the second ends it.
 
-abbrev twoOfTwo : World
-twoOfTwo = run perform (started perform 2) (add 0 10 ∷ add 1 11 ∷ Call.resize 4 ∷ [])
+abbrev lastOfSixteen : List Call
+lastOfSixteen = add 15 10 ∷ Call.resize 8 ∷ []
 
-abbrev lastOfSixteen : World
-lastOfSixteen = run perform (started perform 16) (add 15 10 ∷ Call.resize 8 ∷ [])
-
-unfoldable pub EndsWith : World → ℕ → Type 0
-EndsWith w most =
-    UnderWay perform w w (Call.rehashStep ∷ [])
-    × (answeredSteps perform w (Call.rehashStep ∷ []) + 1 ≡ most)
+unfoldable pub EndsWith : World → Ideal → ℕ → Type 0
+EndsWith w i most =
+    UnderWay perform (lengthsOf zeros) (i .turned) w i (Call.rehashStep ∷ [])
+    × (answeredSteps perform (lengthsOf zeros) w i (Call.rehashStep ∷ []) + 1 ≡ most)
     × (run perform w (Call.rehashStep ∷ Call.rehashStep ∷ []) .state .rehashing ≡ false)
 
-pub steps-met : EndsWith twoOfTwo (twoOfTwo .state .«old_size»)
-    × EndsWith lastOfSixteen (mostSteps (lastOfSixteen .state .«old_size») (filledBuckets lastOfSixteen))
+pub steps-met : EndsWith (reached 2 twoOfTwo) (reachedIdeal 2 twoOfTwo) (reached 2 twoOfTwo .state .«old_size»)
+    × EndsWith (reached 16 lastOfSixteen) (reachedIdeal 16 lastOfSixteen)
+    (mostSteps (reached 16 lastOfSixteen .state .«old_size») (filledBuckets (reached 16 lastOfSixteen)))
 unfolding computing EndsWith
-steps-met = (
-  (((refl, refl), (refl, alike false refl refl)), refl, refl),
-  (((refl, refl), (refl, alike false refl refl)), refl, refl),
-)
+steps-met = (((inl refl, inl refl), refl, refl), ((inl refl, inl refl), refl, refl))

@@ -1,7 +1,7 @@
 -- Wrong stores by a start.
 use mathlib.Core.Bool.{true, false}
 use mathlib.Core.List.{[]}
-use Rattle.model.specs.Memory.{sizeOf, usedOf}
+use Rattle.model.specs.Memory.{setLink, sizeOf, usedOf}
 use Rattle.model.specs.Calls.{cleared, retabled}
 use Rattle.model.specs.Sequences.{World, Call, Outcome, perform}
 use Rattle.wrong_stores.specs.OneCall.{butInit, ifDone, handingBack, leaving}
@@ -28,3 +28,8 @@ startsInSecond =
 -- a start that leaves the second buffer shorter than it was lent
 unfoldable pub startsShort : World → Call → Outcome
 startsShort = butInit (λ capacity size w o. ifDone (leaving (o .first) [] (o .entries) o) o)
+
+-- a free list that comes from its last entry back to the first
+unfoldable pub startsLooping : World → Call → Outcome
+startsLooping =
+    butInit (λ capacity size w o. ifDone (leaving (o .first) (o .second) (setLink (o .entries) capacity 1) o) o)

@@ -1,15 +1,15 @@
 -- Wrong stores by the rules of a step: how many empty buckets it passes, and when the rehash ends.
 use Prim.Native.Nat.{ℕ, zero, suc, _+_, _-_}
-use mathlib.Core.Bool.{true, false, cond}
+use mathlib.Core.Bool.{true, false, cond, not}
 use mathlib.Core.List.{List, [], _∷_}
 use lib.ListN.{getD}
 use lib.Dec.{eqb, ltb}
 use Rattle.model.specs.declared.State.{State}
 use Rattle.model.specs.declared.Ahead.{Ahead}
 use Rattle.model.specs.Limits.{emptyVisits}
-use Rattle.model.specs.Answers.{stepReply}
-use Rattle.model.specs.Calls.{back, ahead, advanced, finished, movedFrom, aheadOf}
-use Rattle.model.specs.Sequences.{World, Call, Outcome, left}
+use Rattle.model.specs.Answers.{reply, stepReply}
+use Rattle.model.specs.Calls.{oldNew, stateOf, back, ahead, advanced, finished, movedFrom, aheadOf}
+use Rattle.model.specs.Sequences.{World, Call, Outcome, kept, left}
 use Rattle.refinement.specs.Worlds.{current, other}
 use Rattle.wrong_stores.specs.OneCall.{butStep, ifDone, ifDamaged, answering, handingBack}
 
@@ -93,3 +93,9 @@ endsAtOnce =
       | true ↦ ifDone (answering (getD (o .reply .values) 0 0 ∷ 0 ∷ []) (handingBack (finished (o .reply .state)) o)) o
       | false ↦ o
     ])
+
+-- Every call, answered 0, leaves a rehash from one bucket to two and turns the flag: to go by the state alone, it never ends,
+-- nor is it ever the same one.
+unfoldable pub turning : World → Call → Outcome
+turning w c =
+    kept w (reply 0 (0 ∷ 1 ∷ []) (stateOf (not (w .state .«second_is_current»)) (oldNew 1 2) (oldNew 0 0) true 0 0 1 true 0)) []

@@ -5,6 +5,9 @@
  * itself: behind an add a move to a larger table may begin, and each add or delete then moves a bucket. It hands the
  * cells out a few at a time, by a cursor that stays good while all this goes on. Every function here is proved to
  * answer, and to leave the memory, as docs/SPECIFICATION.md says ("Calls over bytes"); this header says it in short.
+ * What is said of walks and careful passes, over many calls, is proved of sequences of the plain calls, on numbers,
+ * that these functions make. It is not stated once more of sequences of these functions (docs/PROMISES.md, "Calls over
+ * bytes").
  *
  * The archive is made by `rt staticlib exports` (target/staticlib/libexports.a), for Linux on x86-64.
  *
@@ -136,7 +139,8 @@
  * those for 16 cells 1.9, and 2.6 with a list.
  *
  * A call needs a stack of its own for these copies. Measured by cost.c, 115,520 bytes for suspects_scan and
- * suspects_iterate at most, and 82,920 for any other function, whatever the lengths that are lent. See to it that a
+ * suspects_iterate at most, and 82,920 for any other function, whatever the lengths that are lent. A thread's first
+ * call may need some 4 KB more, where the dynamic linker binds `memcpy` lazily (at its first use). See to it that a
  * thread that makes calls has as much.
  */
 #ifndef SUSPECTS_H
@@ -202,7 +206,7 @@ enum suspects_number {
     SUSPECTS_ABSENT = 3,                   /* the key is not held */
     SUSPECTS_PRESENT = 4,                  /* the key is held already */
     SUSPECTS_FULL = 5,                     /* as many keys are held as the capacity says */
-    SUSPECTS_BAD_SIZE = 6,                 /* a size that is not legal, or does not fit, or is the present one */
+    SUSPECTS_BAD_SIZE = 6,                 /* beyond a limit; at a resize also: no room for it, or the present size */
     SUSPECTS_MOVING = 7,                   /* a move is under way */
     SUSPECTS_NOT_MOVING = 8,               /* no move is under way */
     SUSPECTS_SHORT = 9,                    /* the list has no room for the keys to be handed out */

@@ -14,13 +14,14 @@ use crate::raw::ANSWER_BYTES;
 #[derive(Clone, Copy, Debug, PartialEq, Eq, Hash)]
 #[non_exhaustive]
 pub enum Error {
-    /// 1: the state is not sound beside the buffers, or their lengths are none that the exports
-    /// take. At a start: a buffer is too short for the capacity or the size.
+    /// 1: the state is not sound beside the buffers, or a flag is above 1, or a length is none that
+    /// the exports take. A start reads no state; there it is such a length, or a buffer that is too
+    /// short for the capacity or the size.
     BadState,
     /// 2: a chain that the call must read is not sound. It has a link out of range, a key that
-    /// belongs in another bucket, more entries than the table is said to hold, or it loops. This
-    /// comes from memory that something else has written, and never from a store that only had
-    /// calls since its start.
+    /// belongs in another bucket, more entries than the table is said to hold, or it loops. This is
+    /// for memory that something else has written; what is proved of a store that only had calls
+    /// since its start is said at [`Store`](crate::Store).
     Damaged,
     /// 3: the key is not held.
     Absent,

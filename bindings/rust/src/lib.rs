@@ -38,9 +38,10 @@
 //!
 //! # What is proved
 //!
-//! Each export is proved, for any bytes, to answer and to leave the memory as the call below it does
-//! on the same numbers. What walks and passes hand out over many calls is proved of those calls. It
-//! is not stated once more of sequences of exports: `docs/PROMISES.md`, "Calls over bytes".
+//! Each export is proved, for any bytes, to answer and to leave the memory as the plain call below
+//! it does on the same numbers. Of sequences of plain calls it is proved that the store stays
+//! undamaged, and what walks and careful passes hand out. That is not stated once more of sequences
+//! of exports: `docs/PROMISES.md`, "Calls over bytes".
 //!
 //! # To build it
 //!

@@ -100,8 +100,8 @@ impl PlainPass {
     ///
     /// # Errors
     ///
-    /// [`Error::BadState`] and [`Error::Damaged`], which come from memory that something else has
-    /// written. The pass stays where it was, and may be tried again.
+    /// [`Error::BadState`] and [`Error::Damaged`], which are for memory that something else has
+    /// written ([`Store`]). The pass stays where it was, and may be tried again.
     pub fn next(&mut self, store: &Store) -> Result<Option<&[Suspect]>, Error> {
         self.pass.next(store)
     }
@@ -121,8 +121,8 @@ impl PlainPass {
     /// # Ok::<(), Error>(())
     /// ```
     ///
-    /// An item is an error only for memory that something else has written. It is the last one
-    /// then.
+    /// An item is an error where a call is refused, with [`Error::BadState`] or [`Error::Damaged`].
+    /// It is the last one then.
     pub fn suspects<'a>(
         &'a mut self,
         store: &'a Store,
@@ -145,9 +145,9 @@ impl PlainPass {
 ///
 /// Each [`next`](CarefulPass::next) is one pass call: it hands out the cells of the next filled
 /// bucket, with their fail counts. Between two calls cells may be added and deleted, and a move may
-/// begin, but it stands still. It is proved of the calls below the exports that every cell that is
-/// held all the time comes exactly once, and that none comes twice unless it was deleted and added
-/// again.
+/// begin, but it stands still. It is proved of the plain calls below the exports that every cell
+/// that is held all the time comes exactly once, and that none comes twice unless it was deleted
+/// and added again.
 ///
 /// ```
 /// use suspects::{CarefulPass, Error, Store};
@@ -214,8 +214,8 @@ impl CarefulPass {
     ///
     /// # Errors
     ///
-    /// [`Error::BadState`] and [`Error::Damaged`], which come from memory that something else has
-    /// written. The pass stays where it was, and may be tried again.
+    /// [`Error::BadState`] and [`Error::Damaged`], which are for memory that something else has
+    /// written ([`Store`]). The pass stays where it was, and may be tried again.
     pub fn next(&mut self, store: &Store) -> Result<Option<&[Suspect]>, Error> {
         self.pass.next(store)
     }
@@ -235,8 +235,8 @@ impl CarefulPass {
     /// # Ok::<(), Error>(())
     /// ```
     ///
-    /// An item is an error only for memory that something else has written. It is the last one
-    /// then.
+    /// An item is an error where a call is refused, with [`Error::BadState`] or [`Error::Damaged`].
+    /// It is the last one then.
     pub fn suspects<'a>(
         &'a mut self,
         store: &'a Store,

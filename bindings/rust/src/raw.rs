@@ -13,8 +13,10 @@
 //! | `list` | gets the keys that are handed out, each with its value: pairs of 32-bit numbers |
 //! | `answer` | [`ANSWER_BYTES`]: gets the results, on a refusal too |
 //!
-//! Nothing need be true of the slices: any lengths and any bytes are answered. Lengths that do not
-//! fit are answered 1, and damaged memory is answered 2 where the call meets the damage.
+//! Nothing need be true of the slices: any lengths and any bytes are answered. Lengths that the
+//! exports do not take, and flags above 1, are answered 1 before anything else; damaged memory is
+//! answered 2 where the call meets the damage. "Refused", at each function, lists the numbers other
+//! than 0 that it may answer, in their order: where more than one applies, the first is given.
 //! [`Error::check`](crate::Error::check) makes a `Result` of the number and the answer.
 //!
 //! ```
@@ -45,7 +47,8 @@
 //!   that an export writes overlaps with another slice. Where slices that are only read overlap,
 //!   that makes no difference.
 //! - **No precondition.** Each export's contract is proved for all bytes, all lengths and all
-//!   numbers. It says all that the export writes, and that it comes to an end.
+//!   numbers. It says what every byte that is lent is after the call. That the call comes to an end
+//!   is proved too.
 //! - **Nothing is kept.** An export keeps no pointer, allocates nothing, and has no memory of its
 //!   own from one call to the next. So calls may run at the same time wherever Rust lets them:
 //!   on different slices, or on the same ones if they only read them.
@@ -58,9 +61,10 @@
 //! 6; with those of 16 entries each at 2.
 //!
 //! The copies lie on the stack: 113 KiB for a walk call or a pass call and 81 KiB for any other,
-//! whatever the lengths are. A thread of Rust has 2 MiB, if it is not told otherwise. Where there
-//! is too little, the process ends as it does for a function of Rust, since an export too touches
-//! its stack page by page, and so meets the guard page.
+//! whatever the lengths are. A thread's first call may need some 4 KB more, where the dynamic
+//! linker binds `memcpy` lazily (at its first use). A thread of Rust has 2 MiB, if it is not told
+//! otherwise. Where there is too little, the process ends as it does for a function of Rust, since
+//! an export too touches its stack page by page, and so meets the guard page.
 
 #![allow(unsafe_code)]
 
@@ -117,7 +121,11 @@ macro_rules! exports {
 // These may write the store.
 exports! {
     /// Start: makes an empty store. The state is not read, and it is written only on 0.
-    /// Refused: 6, 1.
+    ///
+    /// Refused: 1, 6, 1. The first 1 is for lengths that the exports do not take: a state or an
+    /// answer of another length, or a buffer whose length is not divisible by four or is above its
+    /// limit. 6 is for a capacity or a size outside its limits, and the second 1 for a first bucket
+    /// buffer or an entry buffer that is too short for them.
     init = suspects_init(
         state: write, first: write, second: write, entries: write, answer: write;
         capacity: u32, size: u32
@@ -129,7 +137,8 @@ exports! {
         key: u32, value: u32
     );
 
-    /// Add: adds a key that is not held, with a value. Refused: 1, 2, 4, 5, 2.
+    /// Add: adds a key that is not held, with a value. Refused: 1, 2, 4, 5, 2; the last 2 is for
+    /// the free chain.
     add = suspects_add(
         state: write, first: write, second: write, entries: write, answer: write;
         key: u32, value: u32

@@ -37,9 +37,20 @@ use crate::{CarefulPass, Cell, Error, Memory, Suspect, Walk};
 /// # Errors of every call
 ///
 /// Two errors are for memory that something else has written ([`Store::from_memory`]): every call
-/// may answer [`Error::BadState`], and every call that reads a chain [`Error::Damaged`]. It follows
-/// from the proofs that a store in which only calls have written, since its start, meets neither,
-/// but for a further start in too little memory. So each call below names its other errors.
+/// may answer [`Error::BadState`], and every call that reads a chain [`Error::Damaged`]. So each
+/// call below names its other errors. The order of all is in the specification, "Answers".
+///
+/// Calls alone, behind a start, should lead to neither, but for a further start in too little
+/// memory. This is what is proved of it:
+///
+/// - Each export answers, and leaves the memory, as the plain call below it does on the same
+///   numbers.
+/// - In a sequence of plain calls behind a start none answers 2, and none answers 1 but such a
+///   further start.
+///
+/// It is not stated as a theorem yet that the two join: that in a sequence of exports each one
+/// reads the numbers that the one before it left (`docs/DECISIONS.md`, "Numbers that are read and
+/// written again"). The tests of this crate, and `tests/exports`, run such sequences.
 #[derive(Clone)]
 pub struct Store {
     memory: Memory,
@@ -134,8 +145,10 @@ impl Store {
     ///
     /// # Errors
     ///
-    /// [`Error::BadSize`] as [`Store::new`] has it; then [`Error::BadState`], if the store's memory
-    /// has too little room.
+    /// - [`Error::BadState`]: a buffer has a length that the exports do not take, as it may in
+    ///   memory from elsewhere.
+    /// - [`Error::BadSize`], as [`Store::new`] has it.
+    /// - [`Error::BadState`] again: the store's memory has too little room.
     pub fn init(&mut self, capacity: u32, size: u32) -> Result<(), Error> {
         call!(init(&mut self.memory, capacity, size)).map(drop)
     }
@@ -276,8 +289,8 @@ impl Store {
     /// # Ok::<(), Error>(())
     /// ```
     ///
-    /// An item is an error only for memory that something else has written. It is the last one
-    /// then.
+    /// An item is an error where a call is refused, with [`Error::BadState`] or [`Error::Damaged`].
+    /// It is the last one then.
     pub fn walk(&self) -> impl FusedIterator<Item = Result<Suspect, Error>> + '_ {
         let mut walk = Walk::new();
         one_by_one(move || Ok(walk.next(self)?.map(<[_]>::to_vec)))

@@ -10,8 +10,8 @@ use crate::{Error, Store, Suspect};
 ///
 /// Each [`next`](Walk::next) is one walk call: it hands out the cells of a few buckets, with their
 /// fail counts. The walk borrows nothing, and the store keeps nothing about it. Cells may be added
-/// and deleted meanwhile, and the table may grow, move and shrink. It is proved of the calls below
-/// the exports that
+/// and deleted meanwhile, and the table may grow, move and shrink. It is proved of the plain calls
+/// below the exports that
 ///
 /// - every cell that is held at each call of a walk comes, by the time that the walk has ended;
 /// - none comes twice as long as the table does not shrink; more exactly, as long as the smaller
@@ -74,8 +74,8 @@ impl Walk {
     ///
     /// # Errors
     ///
-    /// [`Error::BadState`] and [`Error::Damaged`], which come from memory that something else has
-    /// written. The walk stays where it was, and may be tried again.
+    /// [`Error::BadState`] and [`Error::Damaged`], which are for memory that something else has
+    /// written ([`Store`]). The walk stays where it was, and may be tried again.
     pub fn next(&mut self, store: &Store) -> Result<Option<&[Suspect]>, Error> {
         let Some(cursor) = self.cursor else {
             return Ok(None);
@@ -87,8 +87,8 @@ impl Walk {
 
     /// The cells that the walk has yet to hand out, one by one, while the store is borrowed.
     ///
-    /// An item is an error only for memory that something else has written. It is the last one
-    /// then.
+    /// An item is an error where a call is refused, with [`Error::BadState`] or [`Error::Damaged`].
+    /// It is the last one then.
     pub fn suspects<'a>(
         &'a mut self,
         store: &'a Store,

@@ -88,7 +88,7 @@ leaves w i a c n vs stays number values =
 
 -- What is held, on the chains as they are read and on those of the shape.
 module _ (w : World) (shape : Shape (w .state) (current w) (other w) (w .entries)) (key value : ℕ) where
-  pub held-at : Held w key value → HeldAt (w .state) (w .entries) (shape .at) key value
+  held-at : Held w key value → HeldAt (w .state) (w .entries) (shape .at) key value
   unfolding Live IsBucket
   held-at h =
       let p = Place.bucket (h .table) (h .index) in
@@ -105,7 +105,7 @@ module _ (w : World) (shape : Shape (w .state) (current w) (other w) (w .entries
             };
       }
 
-  pub at-held : HeldAt (w .state) (w .entries) (shape .at) key value → Held w key value
+  at-held : HeldAt (w .state) (w .entries) (shape .at) key value → Held w key value
   unfolding Live IsBucket
   at-held h = by (h .place) (h .live) (h .bucket) (h .held)
     where
@@ -167,7 +167,7 @@ module _ (w : World) (i : Ideal) (a : Agrees w i) where
   unfolding UndamagedAt
   agrees-undamaged = shape-undamaged (a .shape)
 
-  pub agrees-holds : Holds w (i .plain)
+  agrees-holds : Holds w (i .plain)
   agrees-holds =
       record {
         capacity = a .capacity;

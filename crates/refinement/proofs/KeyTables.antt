@@ -15,7 +15,7 @@ use Rattle.invariant.proofs.Resize.{allowed}
 use Rattle.refinement.proofs.IdealSteps.{by-test, any-step, any-growth, any-first}
 use Rattle.refinement.proofs.LiveTables.{Legal}
 
-pub start-legal : (l : Lengths) (capacity size : ℕ) → startNumber l capacity size ≡ 0 → legalSize size ≡ true
+start-legal : (l : Lengths) (capacity size : ℕ) → startNumber l capacity size ≡ 0 → legalSize size ≡ true
 unfolding startNumber
 start-legal l capacity size =
     by (legalCapacity capacity) (legalSize size) (cond (longEnough capacity size (l .first) (l .entries)) 0 1)

@@ -23,14 +23,15 @@ use Rattle.model.proofs.Soundness.{sound-facts}
 use Rattle.model.proofs.Chains.{chain-end}
 use Rattle.model.proofs.Linked.{read-sound, linked-first}
 use Rattle.model.proofs.Shared.{in-its-bucket}
-use Rattle.model.proofs.Tests.{true-not-false, told, tested}
-use Rattle.refinement.specs.Worlds.{current, other, UndamagedAt, Held}
+use Rattle.model.proofs.Tests.{true-not-false}
+use Rattle.refinement.specs.Worlds.{current, other, UndamagedAt}
 use Rattle.refinement.specs.Demand1.{headOf, EmptyFrom, FirstFilled}
-use Rattle.refinement.specs.Demand3.{Lengths, Ideal, among, tableOf, predict, replay, Answered, Matches, Demand3}
+use Rattle.refinement.specs.Demand3.{Lengths, Ideal, predict, replay, Answered, Matches, Demand3}
 use Rattle.refinement.specs.RehashesEnd.{SameRehash, Ongoing, UnderWay, answeredStep, answeredSteps, filledBuckets, mostSteps, Advances, RehashEnds, RehashesEnd}
 use Rattle.invariant.proofs.Sums.{sum-atmost, sum-few}
+use Rattle.invariant.proofs.ToUndamaged.{entries-at}
 use Rattle.refinement.proofs.IdealSteps.{one-at-most}
-use Rattle.refinement.proofs.PlainMaps.{key-value, tells-among}
+use Rattle.refinement.proofs.Agreement.{HeldOld, Agrees, matches-agrees}
 use Rattle.refinement.proofs.CalledBuckets.{calledFor, bucketsCalled, in-table, called-by, some-steps, steps-by-filled, steps-fit}
 use Rattle.refinement.proofs.IdealCalls.{During, left, Onward, Passes, passes, goes-step, goes-kept}
 use Rattle.refinement.proofs.Demand3.{demand3}
@@ -71,8 +72,11 @@ module _ {does : World → Call → Outcome} (l : Lengths) (w : World) (i : Idea
   abbrev head : ℕ → ℕ
   head b = headOf w (Place.bucket Table.Old b)
 
-  abbrev chainOf : Table → ℕ → List ℕ
-  chainOf t b = entriesAt (w .state) (current w) (other w) (w .entries) (Place.bucket t b)
+  abbrev chainOf : ℕ → List ℕ
+  chainOf b = entriesAt (w .state) (current w) (other w) (w .entries) (Place.bucket Table.Old b)
+
+  agrees : Agrees w i
+  agrees = matches-agrees l w i (beside .undamaged) (beside .matches)
 
   -- the same tables
   moving-tables : w .state .rehashing ≡ true → i .tables ≡ Tables.two size (w .state .«new_size»)
@@ -91,33 +95,27 @@ module _ {does : World → Call → Outcome} (l : Lengths) (w : World) (i : Idea
   -- While a rehash is under way, the buckets of the old table that unmoved keys call for are filled, and no others.
   module _ (e : w .state .rehashing ≡ true) where
     -- a chain with an entry on it has a head
-    some-head : (b n : ℕ) → In n (chainOf Table.Old b) → head b ≡ 0 → ⊥
+    some-head : (b n : ℕ) → In n (chainOf b) → head b ≡ 0 → ⊥
     unfolding entriesAt listed chainAt headOf
     some-head b n there z =
         let none-there = chain-end (belongs (w .state) (Place.bucket Table.Old b)) (w .entries) (w .state .capacity)
         (budgetAt (w .state) (Place.bucket Table.Old b)) (head b) z in
         subst (λ (ns : List ℕ). In n ns) (ap listed none-there) there
 
-    its-bucket : (b n : ℕ) → In n (chainOf Table.Old b) → bucketOf (keyOf (w .entries) n) size ≡ b
+    its-bucket : (b n : ℕ) → In n (chainOf b) → bucketOf (keyOf (w .entries) n) size ≡ b
     unfolding sizeOf
     its-bucket b n there = in-its-bucket (w .state) (current w) (other w) (w .entries) Table.Old b n there
 
-    -- the ideal's table of a key
-    in-old : (k : ℕ) → tableOf (i .tables) (i .unmoved) k ≡ cond (among k (i .unmoved)) Table.Old Table.New
-    unfolding tableOf
-    in-old k = ap (λ (t : Tables). tableOf t (i .unmoved) k) (moving-tables e)
-
     called-filled : (k : ℕ) → In k (i .unmoved) → head (bucketOf k size) ≡ 0 → ⊥
+    unfolding Live sizeOf
     called-filled k h z =
-        let (value, is) = key-value k (i .plain .pairs) (beside .matches .unmoved .held k h) in
-        let at = beside .matches .contents .in-store k value is in
-        let old : at .table ≡ Table.Old = beside .matches .each-table k value at
-        ∙ in-old k
-        ∙ ap (λ (t : Bool). cond t Table.Old Table.New) (tested (tells-among k (i .unmoved)) h) in
-        let there = subst (λ (t : Table). In (at .entry) (chainOf t (at .index))) old (at .there) in
-        let there-too = subst (λ (n : ℕ). In (at .entry) (chainOf Table.Old n))
-        (sym (its-bucket (at .index) (at .entry) there) ∙ ap (λ (n : ℕ). bucketOf n size) (at .its-key)) there in
-        some-head (bucketOf k size) (at .entry) there-too z
+        let at = agrees .unmoved-in k h in
+        let n = at .held .entry in
+        let there : In n (chainOf (at .index)) =
+        subst (λ (ns : List ℕ). In n ns) (sym (entries-at (agrees .shape) (Place.bucket Table.Old (at .index)) (at .live))) (at .held .there) in
+        let same : bucketOf k size ≡ at .index =
+        ap (λ (m : ℕ). bucketOf m size) (sym (at .held .its-key)) ∙ its-bucket (at .index) n there in
+        some-head (at .index) n there (subst (λ (b : ℕ). head b ≡ 0) same z)
 
     others-empty : (b : ℕ) → b < size → ((k : ℕ) → In k (i .unmoved) → bucketOf k size ≡ b → ⊥) → head b ≡ 0
     unfolding UndamagedAt Live sizeOf chainAt headOf
@@ -126,19 +124,24 @@ module _ {does : World → Call → Outcome} (l : Lengths) (w : World) (i : Idea
           | yes z ↦ z
           | no f ↦
               let n = head b in
-              let there : In n (chainOf Table.Old b) =
-              chain-first _ (w .entries) (w .state .capacity) _ n _ (beside .undamaged .chains-sound (Place.bucket Table.Old b) below) f in
-              let key = keyOf (w .entries) n in
-              let held : Held w key (valueOf (w .entries) n) =
-              record { entry = n; table = Table.Old; index = b; live = below; there = there; its-key = refl; its-value = refl } in
-              let old : Table.Old ≡ cond (among key (i .unmoved)) Table.Old Table.New =
-              beside .matches .each-table key (valueOf (w .entries) n) held ∙ in-old key in
-              absurd (none key (told (tells-among key (i .unmoved)) (chosen (among key (i .unmoved)) old)) (its-bucket b n there))
+              let p = Place.bucket Table.Old b in
+              let there : In n (chainOf b) =
+              chain-first _ (w .entries) (w .state .capacity) _ n _ (beside .undamaged .chains-sound p below) f in
+              let held : HeldOld (w .state) (w .entries) (agrees .shape .at) (keyOf (w .entries) n) =
+              record {
+                value = valueOf (w .entries) n;
+                index = b;
+                live = below;
+                held =
+                    record {
+                      entry = n;
+                      there = subst (λ (ns : List ℕ). In n ns) (entries-at (agrees .shape) p below) there;
+                      its-key = refl;
+                      its-value = refl;
+                    };
+              } in
+              absurd (none (keyOf (w .entries) n) (agrees .in-unmoved e (keyOf (w .entries) n) held) (its-bucket b n there))
         ]
-      where
-        chosen : (t : Bool) → Table.Old ≡ cond t Table.Old Table.New → t ≡ true
-        chosen true e = refl
-        chosen false e = let z : _≡_ {A = ℕ} 0 1 = cc in absurd (omega arith)
 
     -- counted
     few-called : bucketsCalled size (i .unmoved) ≤ filledBuckets w

@@ -66,7 +66,7 @@ fn damage_is_answered() {
     for round in 0..400 {
         let pair = filled(&mut random, 12);
         let mut memory = pair.store.into_memory();
-        // What lies beyond is never read.
+        // What lies beyond plays no part.
         memory.first.truncate(4 * 64);
         memory.second.truncate(4 * 64);
         let some = round % 10 + 1;

@@ -10,7 +10,7 @@ use super::{start_of, Error, ScanError, Scanned, Store, Table, FIELDS};
 ///
 /// It reverses, as the proved one does by the table of bytes that the customer
 /// asked for. The highest 0 bit gives the same with no reversal (`ilog2`); a store
-/// that leaves the form so far has a quicker walk call (docs/COSTS.md).
+/// that leaves the form so far has a quicker walk call (docs/changes/cr14.md).
 pub(super) fn next_cursor(cursor: u32, size: u32) -> u32 {
     let top = size / 2;
     let bucket = cursor & (size - 1);

@@ -21,8 +21,11 @@ use Rattle.model.specs.Calls.{oriented, back, changed, oldNew, emptyState, reco
 use Rattle.model.specs.Sequences.{World, world, ReadCall, Call, Outcome, left, perform, run, Event, events}
 use Rattle.refinement.specs.Worlds.{current, UndamagedAt}
 use Rattle.refinement.specs.Demand1.{Demand1}
-use Rattle.refinement.specs.Demand2.{HandsOut, IteratesOut, Demand2}
-use Rattle.refinement.specs.Demand3.{lengthsOf, replay, Matches, SequenceHolds, Demand3}
+use Rattle.refinement.specs.Demand2.{HandsOut, IteratesOut}
+use Rattle.refinement.specs.Demand3.{lengthsOf, replay, Matches, SequenceHolds}
+use Rattle.refinement.proofs.Demand1.{demand1}
+use Rattle.refinement.proofs.Demand2.{demand2}
+use Rattle.refinement.proofs.Demand3.{demand3}
 use Rattle.wrong_stores.specs.OneCall as one
 use Rattle.wrong_stores.specs.OneCall.{butAdd, butFind, ifDone}
 use Rattle.wrong_stores.specs.KeyCalls as wrong
@@ -96,40 +99,43 @@ turned-look : perform turned (Call.read ReadCall.currentTable) .reply .values �
 unfolding computing ours turned
 turned-look = refl
 
+ours-holds : (calls : List Call) → SequenceHolds perform (lengthsOf zeros) (started 1) (startedIdeal 1) calls
+unfolding computing
+ours-holds calls = at demand3 1 refl calls
+
 module _ (does : World → Call → Outcome) (calls : List Call) (left : run does (started 1) calls ≡ turned)
     (left-ours : run perform (started 1) calls ≡ ours)
     (seen : events does (started 1) calls ≡ events perform (started 1) calls)
     (scans : (cursor : ℕ) (lent : List ℕ) → does turned (Call.scan cursor lent) ≡ perform turned (Call.scan cursor lent))
     (iterates : (place : ℕ) (lent : List ℕ) → does turned (Call.iterate place lent) ≡ perform turned (Call.iterate place lent))
-    (looks : does turned (Call.read ReadCall.currentTable) ≡ perform turned (Call.read ReadCall.currentTable))
-    (d : Demand2 perform) (h : SequenceHolds perform (lengthsOf zeros) (started 1) (startedIdeal 1) calls) where
+    (looks : does turned (Call.read ReadCall.currentTable) ≡ perform turned (Call.read ReadCall.currentTable)) where
   turned-undamaged : UndamagedAt turned
   unfolding turned
-  turned-undamaged = reordered-undamaged ours _ _ _ turned-reordered (rw left-ours at (h .undamaged))
+  turned-undamaged = reordered-undamaged ours _ _ _ turned-reordered (rw left-ours at (ours-holds calls .undamaged))
 
   turned-exact : (cursor : ℕ) (lent : List ℕ) → does turned (Call.scan cursor lent) .reply .number ≡ 0
       → HandsOut does turned cursor lent
   unfolding HandsOut
   turned-exact cursor lent done =
-      scans cursor lent ∙ d .hands-out turned turned-undamaged cursor lent (rw scans at done)
+      scans cursor lent ∙ demand2 .hands-out turned turned-undamaged cursor lent (rw scans at done)
 
   turned-exact-pass : (place : ℕ) (lent : List ℕ) → does turned (Call.iterate place lent) .reply .number ≡ 0
       → IteratesOut does turned place lent
   unfolding IteratesOut
   turned-exact-pass place lent done =
-      iterates place lent ∙ d .iterates-out turned turned-undamaged place lent (rw iterates at done)
+      iterates place lent ∙ demand2 .iterates-out turned turned-undamaged place lent (rw iterates at done)
 
   turned-matches : Matches (lengthsOf zeros) turned (replay (lengthsOf zeros) (startedIdeal 1) calls)
   unfolding turned
-  turned-matches = reordered-matches ours _ _ _ turned-reordered (rw left-ours at (h .matches))
+  turned-matches = reordered-matches ours _ _ _ turned-reordered (rw left-ours at (ours-holds calls .matches))
 
   turned-passes : SequenceHolds does (lengthsOf zeros) (started 1) (startedIdeal 1) calls
   turned-passes =
       record {
         undamaged = rw left turned-undamaged;
         matches = rw left turned-matches;
-        answers = rw seen (h .answers);
-        walks = λ visits ended walk. h .walks visits ended (rw seen at walk);
+        answers = rw seen (ours-holds calls .answers);
+        walks = λ visits ended walk. ours-holds calls .walks visits ended (rw seen at walk);
         exact = rw left turned-exact;
         exact-pass = rw left turned-exact-pass;
         look = rw (left, looks) turned-look;
@@ -139,19 +145,18 @@ module _ (does : World → Call → Outcome) (calls : List Call) (left : run doe
 abbrev answered : Call → List ℕ → Event
 answered c values = record { call = c; number = 0; values = values; lent = [] }
 
-pub addsAtEnd-passes : Demand2 perform → Demand3 perform → SequenceHolds addsAtEnd (lengthsOf zeros) (started 1) (startedIdeal 1) twoKeys
+pub addsAtEnd-passes : SequenceHolds addsAtEnd (lengthsOf zeros) (started 1) (startedIdeal 1) twoKeys
 unfolding computing addsAtEnd reordering relinked wrong.head wrong.toEnd ours turned
-addsAtEnd-passes d2 d =
+addsAtEnd-passes =
     turned-passes addsAtEnd twoKeys refl refl (alike (answered (add 1 10) [] ∷ answered (add 2 20) [] ∷ []) refl refl)
-    (λ cursor lent. refl) (λ place lent. refl) refl d2 (at d 1 refl twoKeys)
+    (λ cursor lent. refl) (λ place lent. refl) refl
 
-pub findsToFront-passes : Demand2 perform → Demand3 perform
-    → SequenceHolds findsToFront (lengthsOf zeros) (started 1) (startedIdeal 1) (add 1 10 ∷ add 2 20 ∷ find 1 ∷ [])
+pub findsToFront-passes : SequenceHolds findsToFront (lengthsOf zeros) (started 1) (startedIdeal 1) (add 1 10 ∷ add 2 20 ∷ find 1 ∷ [])
 unfolding computing findsToFront reordering relinked wrong.head wrong.toFront ours turned
-findsToFront-passes d2 d =
+findsToFront-passes =
     turned-passes findsToFront (add 1 10 ∷ add 2 20 ∷ find 1 ∷ []) refl refl
     (alike (answered (add 1 10) [] ∷ answered (add 2 20) [] ∷ answered (find 1) (10 ∷ []) ∷ []) refl refl) (λ cursor lent. refl)
-    (λ place lent. refl) refl d2 (at d 1 refl _)
+    (λ place lent. refl) refl
 
 -- Demand 1.
 
@@ -167,21 +172,21 @@ reordering-near : (key : ℕ) (order : List ℕ → List ℕ) (o : Outcome) → 
 unfolding reordering ifDone
 reordering-near key order o = near-done (reordering key order o) o (changed-reply _ _ (o .reply) _ _ _ _) _ refl
 
-pub addsAtEnd-demand1 : Demand1 perform → Demand1 addsAtEnd
+pub addsAtEnd-demand1 : Demand1 addsAtEnd
 unfolding addsAtEnd butAdd one.none
-addsAtEnd-demand1 d =
+addsAtEnd-demand1 =
     near-demand1 addsAtEnd
     (near-keys _ _ _ _ (λ key w o. inl refl) (λ key value w o. inl refl) (λ key value w o. reordering-near key _ o)
     (λ key w o. inl refl))
-    d
+    demand1
 
-pub findsToFront-demand1 : Demand1 perform → Demand1 findsToFront
+pub findsToFront-demand1 : Demand1 findsToFront
 unfolding findsToFront butFind one.none
-findsToFront-demand1 d =
+findsToFront-demand1 =
     near-demand1 findsToFront
     (near-keys _ _ _ _ (λ key w o. reordering-near key _ o) (λ key value w o. inl refl) (λ key value w o. inl refl)
     (λ key w o. inl refl))
-    d
+    demand1
 
 -- What excludes them: they leave another head in the bucket than the definitions of the calls say.
 

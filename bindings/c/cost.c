@@ -6,8 +6,8 @@
  * price of the call itself. A figure is the median of some rounds.
  *
  * The stack is that of one call, made on a stack that was painted before: what is no longer painted was used. It is the
- * most that the call used at rest, during a move and on a new store. Calls were made before it, so what the dynamic linker
- * does at a first use is not in it.
+ * most that the call used at rest, during a move and on a new store. Calls were made before it, so what the dynamic
+ * linker does at a first use is not in it.
  *
  * Status 0: every call was answered as it should be. 1: one was not, and standard error says which.
  */

@@ -135,13 +135,13 @@
  * by the keys held only where chains are long: lend no more than the capacity needs.
  *
  * Measured by cost.c on one machine, the least of three runs: with buffers, and a list, for 4,096 cells a suspects_find
- * took 4.6 microseconds, a suspects_update or a suspects_add 5.7, and a suspects_scan or a suspects_iterate 6.9; with
- * those for 16 cells 1.9, and 2.6 with a list.
+ * took 4.4 microseconds, a suspects_update or a suspects_add 5.4, and a suspects_scan or a suspects_iterate 6.4; with
+ * those for 16 cells 1.8, and 2.5 with a list.
  *
- * A call needs a stack of its own for these copies. Measured by cost.c, 115,520 bytes for suspects_scan and
- * suspects_iterate at most, and 82,920 for any other function, whatever the lengths that are lent. A thread's first
- * call may need some 4 KB more, where the dynamic linker binds `memcpy` lazily (at its first use). See to it that a
- * thread that makes calls has as much.
+ * A call needs a stack of its own for these copies. Measured by cost.c, 115,536 bytes for suspects_scan and
+ * suspects_iterate at most, and 82,680 for any other function, whatever the lengths that are lent. A thread's first
+ * call may need some 4 KB more: where the dynamic linker binds `memcpy` and `memset` lazily, the first call that comes
+ * to them in the process binds them. See to it that a thread that makes calls has as much.
  */
 #ifndef SUSPECTS_H
 #define SUSPECTS_H
@@ -206,7 +206,7 @@ enum suspects_number {
     SUSPECTS_ABSENT = 3,                   /* the key is not held */
     SUSPECTS_PRESENT = 4,                  /* the key is held already */
     SUSPECTS_FULL = 5,                     /* as many keys are held as the capacity says */
-    SUSPECTS_BAD_SIZE = 6,                 /* beyond a limit; at a resize also: no room for it, or the present size */
+    SUSPECTS_BAD_SIZE = 6,                 /* capacity or size not legal; at a resize also: no room, or the present size */
     SUSPECTS_MOVING = 7,                   /* a move is under way */
     SUSPECTS_NOT_MOVING = 8,               /* no move is under way */
     SUSPECTS_SHORT = 9,                    /* the list has no room for the keys to be handed out */

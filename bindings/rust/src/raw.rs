@@ -61,10 +61,11 @@
 //! 6; with those of 16 entries each at 2.
 //!
 //! The copies lie on the stack: 113 KiB for a walk call or a pass call and 81 KiB for any other,
-//! whatever the lengths are. A thread's first call may need some 4 KB more, where the dynamic
-//! linker binds `memcpy` lazily (at its first use). A thread of Rust has 2 MiB, if it is not told
-//! otherwise. Where there is too little, the process ends as it does for a function of Rust, since
-//! an export too touches its stack page by page, and so meets the guard page.
+//! whatever the lengths are. A thread's first call may need some 4 KB more: where the dynamic
+//! linker binds `memcpy` and `memset` lazily, the first call that comes to them in the process binds
+//! them. A thread of Rust has 2 MiB, if it is not told otherwise. Where there is too little, the
+//! process ends as it does for a function of Rust, since an export too touches its stack page by
+//! page, and so meets the guard page.
 
 #![allow(unsafe_code)]
 

@@ -17,13 +17,12 @@ use Rattle.model.specs.Limits.{emptyVisits}
 use Rattle.model.specs.Calls.{acceptable}
 use Rattle.model.specs.Walk.{Tables}
 use Rattle.model.specs.Sequences.{KeyCall, Call, PlainMap, keysOf, mapDoes}
-use Rattle.model.proofs.Tests.{told, true-not-false}
+use Rattle.model.proofs.Tests.{true-not-false}
 use Rattle.refinement.specs.Worlds.{takesStep}
 use Rattle.refinement.specs.Demand3.{Lengths, Ideal, ideal, among, begun, startNumber, startAnswer, keyAnswer, resizeAnswer, afterStep, stepTaken, stepAnswer, stepsFirst, onAnswer, thenGrows, withNotes, predict}
 use Rattle.refinement.specs.RehashesEnd.{stepsIn}
 use Rattle.invariant.proofs.Lists.{of-keep}
 use Rattle.refinement.proofs.IdealSteps.{by-test, either, one-not-two, any-step, any-hand, any-read, any-note, any-growth, not-paused, paused-refused, paused-stays}
-use Rattle.refinement.proofs.PlainMaps.{tells-among}
 use Rattle.refinement.proofs.MovedKeys.{lowestOf, lowest-reached, lowest-below}
 use Rattle.refinement.proofs.CalledBuckets.{stepsLeft, in-table, rest-sub, rest-behind, moving-less, passing-less, fewer-less}
 
@@ -32,7 +31,6 @@ pub record During (size : ℕ) (i : Ideal) : Type 0 where
   pub new : ℕ
   pub tables : i .tables ≡ Tables.two size new
   pub above : (k : ℕ) → In k (i .unmoved) → i .index ≤ bucketOf k size
-  pub held : (k : ℕ) → In k (i .unmoved) → In k (keysOf (i .plain .pairs))
 
 abbrev pub left : ℕ → Ideal → ℕ
 left size i = stepsLeft size (i .unmoved) (i .index)
@@ -52,7 +50,6 @@ Onward size keys now then =
 pub record Goes (size : ℕ) (i : Ideal) (keys : List ℕ) (j : Ideal) : Type 0 where
   pub new : ℕ
   pub tables : j .tables ≡ Tables.two size new
-  pub plain : j .plain ≡ i .plain
   pub above : (k : ℕ) → In k (j .unmoved) → j .index ≤ bucketOf k size
   pub less : left size j < stepsLeft size keys (i .index)
   pub only : (k : ℕ) → In k (j .unmoved) → In k keys
@@ -71,7 +68,6 @@ module _ (i : Ideal) (size new a b : ℕ) (pos : 0 < size) where
       record {
         new = new;
         tables = refl;
-        plain = refl;
         above = above;
         less = less (λ n. let z : _≡_ {A = ℕ} 0 1 = cc in omega arith);
         only = only;
@@ -124,11 +120,9 @@ pub record Kept (i j : Ideal) : Type 0 where
   pub turned : j .turned ≡ i .turned
   pub index : j .index ≡ i .index
   pub only : (k : ℕ) → In k (j .unmoved) → In k (i .unmoved)
-  pub held : ((k : ℕ) → In k (i .unmoved) → In k (keysOf (i .plain .pairs))) → (k : ℕ) → In k (j .unmoved)
-      → In k (keysOf (j .plain .pairs))
 
 same : (i : Ideal) → Kept i i
-same i = record { tables = refl; turned = refl; index = refl; only = λ k h. h; held = λ f. f }
+same i = record { tables = refl; turned = refl; index = refl; only = λ k h. h }
 
 -- a resize leaves the current buffer
 resize-turned : (l : Lengths) (i : Ideal) (size : ℕ) (t : Tables) → resizeAnswer l i size t .state .turned ≡ i .turned
@@ -146,7 +140,6 @@ key-keeps i r =
       turned = refl;
       index = refl;
       only = λ k h. of-keep (λ j. among j keys) k (i .unmoved) h .0;
-      held = λ g k h. told (tells-among k keys) (of-keep (λ j. among j keys) k (i .unmoved) h .1);
     }
 
 -- So a call, answered with that number, takes a step that nothing holds up, and leaves what that leaves; or it takes none, as
@@ -264,7 +257,7 @@ module _ (l : Lengths) (i : Ideal) (size new : ℕ) (moving : i .tables ≡ Tabl
   passes (Call.note c) =
       any-note i (GoesOn (Call.note c)) c
       (λ allowed iterators e.
-      Passes.stayed refl (record { tables = refl; turned = refl; index = refl; only = λ k h. h; held = λ f. f }))
+      Passes.stayed refl (record { tables = refl; turned = refl; index = refl; only = λ k h. h }))
       (λ e. Passes.stayed refl (same i)) (λ e. Passes.stayed refl (same i))
 
 -- While it is under way: a step, and what leaves it.
@@ -283,7 +276,6 @@ module _ (size : ℕ) (i : Ideal) (d : During size i) where
           new = g .new;
           tables = g .tables;
           above = g .above;
-          held = λ k h. subst (λ (m : PlainMap). In k (keysOf (m .pairs))) (sym (g .plain)) (d .held k (g .only k h));
         },
         g,
       )
@@ -294,7 +286,6 @@ module _ (size : ℕ) (i : Ideal) (d : During size i) where
       new = d .new;
       tables = k .tables ∙ d .tables;
       above = λ n h. omega (arith, k .index, d .above n (k .only n h));
-      held = k .held (d .held);
     },
     subst (λ (n : ℕ). stepsLeft size (j .unmoved) n ≤ left size i) (sym (k .index))
         (fewer-less size (i .unmoved) (j .unmoved) (k .only) (i .index) (d .above)),

@@ -21,7 +21,8 @@ module _ (key : ℕ) (l : Lengths) (i : Ideal) (paused : 0 < i .iterators) where
   start-place capacity size zero on = absurd (omega arith)
   start-place capacity size (suc n) on = refl
 
-  -- a start answered 0 ends the count
+  -- A start answered 0 ends the count. (That the key is held before the call too is asked for the sake of calls that do what
+  -- several do: in between, such a key might be gone and come back at another place.)
   pub place-stays : (c : Call) → 0 < predict l i c .state .iterators → In key (keysOf (i .plain .pairs))
       → Stays key i (predict l i c .state)
   unfolding predict withNotes ideal reply placeOf

@@ -1,7 +1,7 @@
 -- How soon a rehash ends: so it is in every store that meets demand 3, and in ours.
 -- Assumes nothing.
 use Prim.Native.Nat.{ℕ, suc, _+_, _<_, _≤_}
-use mathlib.Core.Path.{_≡_, refl, sym, ap, subst, subst₂, subst₃, _∙_}
+use mathlib.Core.Path.{_≡_, refl, sym, ap, subst, subst₃, _∙_}
 use mathlib.Core.Logic.{_⊎_, inl, inr}
 use mathlib.Core.Bool.{Bool, true, false, not, cond}
 use mathlib.Core.List.{List, [], _∷_, _++_}
@@ -27,7 +27,7 @@ use Rattle.model.proofs.Tests.{true-not-false}
 use Rattle.refinement.specs.Worlds.{current, other, UndamagedAt}
 use Rattle.refinement.specs.Demand1.{headOf, EmptyFrom, FirstFilled}
 use Rattle.refinement.specs.Demand3.{Lengths, Ideal, predict, replay, Answered, Matches, Demand3}
-use Rattle.refinement.specs.RehashesEnd.{SameRehash, Ongoing, UnderWay, answeredStep, answeredSteps, filledBuckets, mostSteps, Advances, RehashEnds, RehashesEnd}
+use Rattle.refinement.specs.RehashesEnd.{OngoingBy, Ongoing, UnderWay, answeredStep, answeredSteps, filledBuckets, mostSteps, Advances, RehashEnds, RehashesEnd}
 use Rattle.invariant.proofs.Sums.{sum-atmost, sum-few}
 use Rattle.invariant.proofs.ToUndamaged.{entries-at}
 use Rattle.refinement.proofs.IdealSteps.{one-at-most}
@@ -168,7 +168,6 @@ module _ {does : World → Call → Outcome} (l : Lengths) (w : World) (i : Idea
                 | yes l ↦ absurd (called-filled k h (beside .undamaged .passed-empty (bucketOf k size) l))
                 | no f ↦ omega (arith, f, beside .matches .index)
               ];
-          held = beside .matches .unmoved .held;
         }
 
     -- what a step of the ideal means in the store
@@ -201,30 +200,24 @@ module _ {does : World → Call → Outcome} (l : Lengths) (w : World) (i : Idea
 
 -- ---- while it goes on
 
--- it does so by the ideal
-by-ideal : {does : World → Call → Outcome} {l : Lengths} {w : World} {i : Ideal} → Beside does l w i → (turned : Bool)
-    → Ongoing turned w i → SameRehash turned (i .tables) (i .turned)
-unfolding Ongoing
-by-ideal beside turned (inl h) = h
-by-ideal beside turned (inr h) =
-    subst₂ (λ (t : Tables) (now : Bool). SameRehash turned t now) (beside .matches .tables) (beside .matches .turned) h
+-- it does so by the state, and by the ideal
+by-both : {does : World → Call → Outcome} {l : Lengths} {w : World} {i : Ideal} → Beside does l w i → (turned : Bool)
+    → Ongoing turned w i → (w .state .rehashing ≡ true) × (i .turned ≡ turned)
+unfolding Ongoing OngoingBy tablesOf tablesBy
+by-both {w = w} {i = i} beside turned h = by (w .state .rehashing) refl
+  where
+    told : (t : Bool) → w .state .rehashing ≡ t → OngoingBy (tablesBy t (w .state .«old_size») (w .state .«new_size»)) turned w i
+    told t e =
+        subst (λ (ts : Tables). OngoingBy ts turned w i)
+        (sym (beside .matches .tables) ∙ ap (λ (f : Bool). tablesBy f (w .state .«old_size») (w .state .«new_size»)) e) h
 
-same-turned : (turned : Bool) (t : Tables) (now : Bool) → SameRehash turned t now → now ≡ turned
-unfolding SameRehash
-same-turned turned (Tables.one size) now h = absurd h
-same-turned turned (Tables.two old new) now h = h
+    by : (t : Bool) → w .state .rehashing ≡ t → (t ≡ true) × (i .turned ≡ turned)
+    by true e = (refl, told true e)
+    by false e = absurd (true-not-false (sym (told false e) ∙ e))
 
--- and by the state
 moving : {does : World → Call → Outcome} {l : Lengths} {w : World} {i : Ideal} → Beside does l w i → (turned : Bool)
     → Ongoing turned w i → w .state .rehashing ≡ true
-unfolding tablesOf SameRehash tablesBy
-moving {w = w} {i = i} beside turned h =
-    by (w .state .rehashing)
-    (subst (λ (t : Tables). SameRehash turned t (i .turned)) (sym (beside .matches .tables)) (by-ideal beside turned h))
-  where
-    by : (t : Bool) → SameRehash turned (tablesBy t (w .state .«old_size») (w .state .«new_size»)) (i .turned) → t ≡ true
-    by true h = refl
-    by false h = absurd h
+moving beside turned h = by-both beside turned h .0
 
 now : (does : World → Call → Outcome) (l : Lengths) (turned : Bool) (w : World) (i : Ideal) (calls : List Call)
     → UnderWay does l turned w i calls → Ongoing turned w i
@@ -284,9 +277,7 @@ module _ (does : World → Call → Outcome) (l : Lengths) (turned : Bool) (size
       by (Passes.renewed other) =
           absurd
           (not-itself (i .turned)
-          (same-turned turned _ _ (by-ideal (along []) turned before)
-          ∙ sym (same-turned turned _ _ (by-ideal then turned after))
-          ∙ other))
+          (by-both (along []) turned before .1 ∙ sym (by-both then turned after .1) ∙ other))
 
   bounded : (calls : List Call) (w : World) (i : Ideal) → Along does l w i → During size i
       → UnderWay does l turned w i calls → answeredSteps does l w i calls < left size i

@@ -1,5 +1,5 @@
 -- Keys held equal the adds answered 0 less the deletes answered 0 since the last start answered 0: so it is in every store
--- that meets demand 3, over every sequence.
+-- that meets demand 3, over every sequence behind a start.
 -- Assumes nothing.
 use Prim.Native.Nat.{ℕ, zero, suc, _+_, _-_}
 use mathlib.Core.Path.{_≡_, refl, sym, ap, _∙_}

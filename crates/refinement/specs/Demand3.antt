@@ -346,13 +346,14 @@ pub record WalkHolds (visits : List Visit) (ended : Bool) : Type 0 where
   pub bound-so-far : ended ≡ false → 0 < length visits → length visits < largest visits
   pub covers : ended ≡ true → (key : ℕ) → HeldAtEach key visits → In key (keysHanded visits)
 
--- the ideal's unmoved keys are held, and none stands twice
+-- the ideal's unmoved keys are held, and none is listed twice
 pub record Unmoved (i : Ideal) : Type 0 where
   pub held : (key : ℕ) → In key (i .unmoved) → In key (keysOf (i .plain .pairs))
   pub once : Distinct (i .unmoved)
 
 -- The store has what the ideal has: the pairs, the live tables, the current buffer, the next bucket to move, the permission,
--- the number of safe iterators, and each key in the table that the ideal says; and the buffers are of those lengths.
+-- the number of safe iterators, and each key in the table where the ideal has it; the ideal's unmoved keys are as said above;
+-- and the buffers have those lengths.
 pub record Matches (l : Lengths) (w : World) (i : Ideal) : Type 0 where
   pub contents : Holds w (i .plain)
   pub tables : tablesOf (w .state) ≡ i .tables
@@ -364,7 +365,7 @@ pub record Matches (l : Lengths) (w : World) (i : Ideal) : Type 0 where
   pub unmoved : Unmoved i
   pub lengths : lengthsOf w ≡ l
 
--- From a store on that has what that ideal has, whatever the calls.
+-- For any calls, from a store on that has what the ideal has.
 pub record SequenceHolds (does : World → Call → Outcome) (l : Lengths) (w : World) (i : Ideal) (calls : List Call) : Type 0 where
   pub undamaged : UndamagedAt (run does w calls)
   pub matches : Matches l (run does w calls) (replay l i calls)
@@ -379,8 +380,8 @@ pub record SequenceHolds (does : World → Call → Outcome) (l : Lengths) (w : 
   pub look : does (run does w calls) (Call.read ReadCall.currentTable) .reply .values
       ≡ take (run does w calls .state .«old_size») (current (run does w calls))
 
--- A start, whatever the buffers hold that it is lent: its number goes by the limits and their lengths alone, and answered 0
--- it leaves an undamaged store that has what the ideal has with which a sequence begins.
+-- A start, whatever the lent buffers hold. Its number goes by the limits and the lengths of the buffers alone. If it is 0, the
+-- store that it leaves is undamaged, and has what `begun` has, the ideal of a new store.
 pub record Starts (does : World → Call → Outcome) (w : World) (capacity size : ℕ) : Type 0 where
   pub number : does w (Call.init capacity size) .reply .number ≡ startNumber (lengthsOf w) capacity size
   pub undamaged : does w (Call.init capacity size) .reply .number ≡ 0
@@ -388,8 +389,8 @@ pub record Starts (does : World → Call → Outcome) (w : World) (capacity size
   pub matches : does w (Call.init capacity size) .reply .number ≡ 0
       → Matches (lengthsOf w) (carry w (does w (Call.init capacity size))) (begun capacity size)
 
--- Whatever calls come behind a start (`from-a-start`, proofs/Demand3), or from any undamaged store on, though no start leads
--- to it. Such a store has what some ideal has (`undamaged-ideal`, proofs/Contents).
+-- `onward`: any calls, from any undamaged store on, whether a start leads to it or not. Every such store has what some ideal has
+-- (`undamaged-ideal`, proofs/Contents). With `starts` that covers every sequence behind a start (`from-a-start`, proofs/Demand3).
 pub record Demand3 (does : World → Call → Outcome) : Type 0 where
   pub starts : (w : World) (capacity size : ℕ) → Starts does w capacity size
   pub onward : (l : Lengths) (w : World) (i : Ideal) → UndamagedAt w → Matches l w i → (calls : List Call)

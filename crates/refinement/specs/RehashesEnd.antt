@@ -10,22 +10,21 @@ use lib.Dec.{eqb}
 use Rattle.model.specs.declared.Table.{Table}
 use Rattle.model.specs.Limits.{emptyVisits}
 use Rattle.model.specs.Memory.{Place, sum}
-use Rattle.model.specs.Walk.{Tables, tablesOf}
+use Rattle.model.specs.Walk.{Tables}
 use Rattle.model.specs.Sequences.{World, Call, Outcome, carry, run}
 use Rattle.refinement.specs.Worlds.{UndamagedAt, takesStep}
 use Rattle.refinement.specs.Demand1.{headOf, EmptyFrom, FirstFilled}
 use Rattle.refinement.specs.Demand3.{Lengths, Ideal, predict, replay, Matches}
 
--- A rehash is under way while there are two tables. With its end the other buffer becomes the current one, which tells it
--- from the next rehash, even if that begins with the same call.
-unfoldable pub SameRehash : (turned : Bool) → Tables → Bool → Type 0
-SameRehash turned (Tables.one size) now = ⊥
-SameRehash turned (Tables.two old new) now = now ≡ turned
+-- The ideal tells a rehash: it has two tables while one is under way. With its end the other buffer becomes the current one,
+-- which tells it from the next rehash, even if that begins with the same call. Where it is over for the ideal, and the state
+-- still says that one is under way, it counts as under way, and its steps go on counting.
+unfoldable pub OngoingBy : Tables → (turned : Bool) → World → Ideal → Type 0
+OngoingBy (Tables.two old new) turned w i = i .turned ≡ turned
+OngoingBy (Tables.one size) turned w i = w .state .rehashing ≡ true
 
--- The ideal tells it. Where a store still has it under way, it is not over either: no store can put its end off.
 unfoldable pub Ongoing : (turned : Bool) → World → Ideal → Type 0
-Ongoing turned w i =
-    SameRehash turned (i .tables) (i .turned) ⊎ SameRehash turned (tablesOf (w .state)) (w .state .«second_is_current»)
+Ongoing turned w i = OngoingBy (i .tables) turned w i
 
 -- it is under way, and still so after each of some calls: none has ended it, and none has started the store anew
 unfoldable pub UnderWay : (World → Call → Outcome) → Lengths → (turned : Bool) → World → Ideal → List Call → Type 0
@@ -33,8 +32,8 @@ UnderWay does l turned w i [] = Ongoing turned w i
 UnderWay does l turned w i (c ∷ cs) =
     Ongoing turned w i × UnderWay does l turned (carry w (does w c)) (predict l i c .state) cs
 
--- Its answered steps, while it is under way: the calls answered 0 that take one. These are the step calls, and, where no safe
--- iterator holds it up, adds and deletes.
+-- Its answered steps, while it is under way: the calls answered 0 that have to take a step, whether the store takes it or not.
+-- These are step calls and, while there is no safe iterator, adds and deletes.
 
 unfoldable pub stepsIn : (iterators : ℕ) → Call → Bool
 stepsIn iterators Call.rehashStep = true
@@ -74,7 +73,7 @@ Advances first w v =
     × (¬ (headOf first (Place.bucket Table.Old b) ≡ 0))
     × (v .state .«rehash_index» ≡ suc b))
 
--- From a moment at which a rehash is under way, be it its beginning, and for some calls.
+-- Counted from any moment of a rehash (its beginning is one), over some calls.
 pub record RehashEnds (does : World → Call → Outcome) (l : Lengths) (w : World) (i : Ideal) (calls : List Call) : Type 0 where
   -- while it is under way, fewer steps were answered than the old table has buckets: the last of so many ends it, if none
   -- before does
@@ -87,7 +86,7 @@ pub record RehashEnds (does : World → Call → Outcome) (l : Lengths) (w : Wor
       → answeredStep (replay l i calls) c (does (run does w calls) c .reply .number) ≡ true
       → Advances w (run does w calls) (run does w (calls ++ c ∷ []))
 
--- any undamaged store is such a moment, if it has two tables
+-- Any undamaged store with two tables is such a moment; of one with one table nothing is said.
 pub record RehashesEnd (does : World → Call → Outcome) : Type 0 where
   pub rehashes : (l : Lengths) (w : World) (i : Ideal) → UndamagedAt w → Matches l w i → (calls : List Call)
       → RehashEnds does l w i calls

@@ -46,8 +46,8 @@ pub record PassHolds (moments : List Visit) (ended : Bool) : Type 0 where
   -- unless it was deleted and added again in between
   pub no-doubles : (before rest : List Visit) → moments ≡ before ++ rest → (key : ℕ) → times key rest ≤ stays key false rest
 
--- From any undamaged store on, whatever the calls: of every pass from place 0 on. (At its first moment, as at all others, there
--- is a safe iterator.)
+-- Of every pass from place 0 on, in any calls from any undamaged store on. (`Pass` itself asks for a safe iterator at each
+-- moment.)
 pub record SafeIterators (does : World → Call → Outcome) : Type 0 where
   pub passes : (l : Lengths) (w : World) (i : Ideal) → UndamagedAt w → Matches l w i → (calls : List Call)
       → (moments : List Visit) (ended : Bool) → Pass l 0 i (events does w calls) moments ended → PassHolds moments ended

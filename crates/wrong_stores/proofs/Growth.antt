@@ -160,7 +160,7 @@ flag : Bool → ℕ
 flag allowed = cond allowed 1 0
 
 pub startsForbidding-excluded : Demand3 startsForbidding → ⊥
-unfolding computing growth.permitted startsForbidding roomy flag
+unfolding computing growth.permitted startsForbidding flag
 startsForbidding-excluded d = apart flag false true refl (d .starts zeros 3 1 .matches refl .allowed)
 
 pub keepsPermission-excluded : Demand3 keepsPermission → ⊥
@@ -191,4 +191,4 @@ pub begins-anew : (reached 4 endsNext .state .rehashing ≡ true)
     × (reached 4 beginsNext .state .rehashing ≡ true)
     × (¬ Ongoing (reachedIdeal 4 endsNext .turned) (reached 4 beginsNext) (reachedIdeal 4 beginsNext))
 unfolding computing
-begins-anew = (refl, refl, neither true-not-false true-not-false)
+begins-anew = (refl, refl, true-not-false)

@@ -3,7 +3,7 @@
 -- Assumes nothing.
 use Prim.Native.Nat.{ℕ, zero, suc}
 use mathlib.Core.Path.{_≡_, refl}
-use mathlib.Core.Logic.{inl, inr}
+use mathlib.Core.Logic.{inl}
 use mathlib.Core.List.{List, [], _∷_, _++_}
 use mathlib.Core.Bool.{false}
 use lib.ListN.{getD}
@@ -20,6 +20,7 @@ use Rattle.refinement.proofs.HiddenSteps.{alone}
 use Rattle.wrong_stores.specs.Rehashes as rehashes
 use Rattle.wrong_stores.specs.HiddenSteps as wrong
 use Rattle.wrong_stores.specs.HiddenSteps.{addsUnmoved, deletesUnmoved, addsThenSteps, deletesThenSteps, addsAfterTwo, addsPassingOne, addStepStays, deleteStepStays, findsStepping, updatesStepping, walksStepping, iteratesStepping, looksBefore}
+use Rattle.wrong_stores.proofs.StepRules.{twoOfTwo}
 use Rattle.wrong_stores.proofs.Start.{computing, zeros, started, reached, reachedIdeal, room, find, update, add, delete, at, rehash-at, apart, neither}
 
 unfoldable stepping : Unit {0}
@@ -138,7 +139,7 @@ pub addsPassingOne-excluded : RehashesEnd addsPassingOne → ⊥
 unfolding stepping
 addsPassingOne-excluded d =
     let h = rehash-at d 16 refl (add 15 10 ∷ Call.resize 8 ∷ []) (add 1 11 ∷ add 2 12 ∷ []) .within-filled
-    (inl refl, (inl refl, inr refl)) in
+    (refl, (refl, refl)) in
     omega arith
 
 -- `within-size`: with one bucket, filled, the step of an add or a delete ends it, and these count, whether they take it or not.
@@ -146,22 +147,19 @@ addsPassingOne-excluded d =
 pub addsUnmoved-excluded-by-size : RehashesEnd addsUnmoved → ⊥
 unfolding stepping
 addsUnmoved-excluded-by-size d =
-    let h = rehash-at d 1 refl (add 0 10 ∷ Call.resize 2 ∷ []) (add 1 11 ∷ []) .within-size (inl refl, inr refl) in
+    let h = rehash-at d 1 refl (add 0 10 ∷ Call.resize 2 ∷ []) (add 1 11 ∷ []) .within-size (refl, refl) in
     omega arith
 
 pub deletesUnmoved-excluded-by-size : RehashesEnd deletesUnmoved → ⊥
 unfolding stepping
 deletesUnmoved-excluded-by-size d =
-    let h = rehash-at d 1 refl (add 0 10 ∷ Call.resize 2 ∷ []) (delete 0 ∷ []) .within-size (inl refl, inr refl) in
+    let h = rehash-at d 1 refl (add 0 10 ∷ Call.resize 2 ∷ []) (delete 0 ∷ []) .within-size (refl, refl) in
     omega arith
 
 -- Ours: of two filled buckets an add moves one, and a delete the other, which ends the rehash.
 
-abbrev twoFilled : List Call
-twoFilled = add 0 10 ∷ add 1 11 ∷ Call.resize 4 ∷ []
-
-pub ends-inside : UnderWay perform (lengthsOf zeros) false (reached 2 twoFilled) (reachedIdeal 2 twoFilled) (add 2 12 ∷ [])
-    × (answeredSteps perform (lengthsOf zeros) (reached 2 twoFilled) (reachedIdeal 2 twoFilled) (add 2 12 ∷ []) ≡ 1)
-    × (reached 2 (twoFilled ++ add 2 12 ∷ delete 2 ∷ []) .state .rehashing ≡ false)
+pub ends-inside : UnderWay perform (lengthsOf zeros) false (reached 2 twoOfTwo) (reachedIdeal 2 twoOfTwo) (add 2 12 ∷ [])
+    × (answeredSteps perform (lengthsOf zeros) (reached 2 twoOfTwo) (reachedIdeal 2 twoOfTwo) (add 2 12 ∷ []) ≡ 1)
+    × (reached 2 (twoOfTwo ++ add 2 12 ∷ delete 2 ∷ []) .state .rehashing ≡ false)
 unfolding computing
-ends-inside = ((inl refl, inl refl), refl, refl)
+ends-inside = ((refl, refl), refl, refl)

@@ -1,7 +1,7 @@
 -- Some of the stores are excluded by demand 2 too. It is about any undamaged store: here the one that a start of ours makes,
 -- and those that the wrong store's own calls make of it, undamaged by demand 2 itself.
 -- Assumes nothing.
-use Prim.Native.Nat.{ℕ, _<_}
+use Prim.Native.Nat.{ℕ}
 use mathlib.Core.Path.{refl}
 use mathlib.Core.Logic.{inl}
 use mathlib.Core.List.{List, [], _∷_}

@@ -115,15 +115,22 @@ passesEleven-excluded-by-numbers d =
 pub endsLate-excluded-by-size : RehashesEnd endsLate → ⊥
 unfolding ending
 endsLate-excluded-by-size d =
-    let h = rehash-at d 1 refl (add 0 10 ∷ Call.resize 2 ∷ []) (Call.rehashStep ∷ []) .within-size (inl refl, inr refl) in
+    let h = rehash-at d 1 refl (add 0 10 ∷ Call.resize 2 ∷ []) (Call.rehashStep ∷ []) .within-size (refl, refl) in
+    omega arith
+
+-- .. and if the state still says that one is under way, its flag does not make that another one; ..
+pub turning-excluded : RehashesEnd turning → ⊥
+unfolding computing turning
+turning-excluded d =
+    let h = rehash-at d 1 refl (add 0 10 ∷ Call.resize 2 ∷ []) (Call.rehashStep ∷ []) .within-size (refl, refl) in
     omega arith
 
 -- .. with two, empty, at most two do, whatever comes between them
 pub neverDone-excluded-by-size : RehashesEnd neverDone → ⊥
 unfolding ending
 neverDone-excluded-by-size d =
-    let h = rehash-at d 2 refl (Call.resize 4 ∷ []) (Call.rehashStep ∷ find 0 ∷ Call.resize 8 ∷ Call.rehashStep ∷ []) .within-size
-    (inl refl, (inr refl, (inr refl, (inr refl, inr refl)))) in
+    let h = rehash-at d 2 refl (Call.resize 4 ∷ []) (Call.rehashStep ∷ find 0 ∷ Call.resize 4 ∷ Call.rehashStep ∷ []) .within-size
+    (refl, (refl, (refl, (refl, refl)))) in
     omega arith
 
 -- `within-filled`: one filled bucket of 16, the last: two steps; ..
@@ -131,14 +138,14 @@ pub passesOne-excluded : RehashesEnd passesOne → ⊥
 unfolding looks
 passesOne-excluded d =
     let h = rehash-at d 16 refl (add 15 10 ∷ Call.resize 8 ∷ []) (Call.rehashStep ∷ Call.rehashStep ∷ []) .within-filled
-    (inl refl, (inl refl, inr refl)) in
+    (refl, (refl, refl)) in
     omega arith
 
 -- .. and none of two: one step, which `within-size` does not ask for
 pub neverDone-excluded-by-filled : RehashesEnd neverDone → ⊥
 unfolding ending
 neverDone-excluded-by-filled d =
-    let h = rehash-at d 2 refl (Call.resize 4 ∷ []) (Call.rehashStep ∷ []) .within-filled (inl refl, inr refl) in
+    let h = rehash-at d 2 refl (Call.resize 4 ∷ []) (Call.rehashStep ∷ []) .within-filled (refl, refl) in
     omega arith
 
 -- `each-step`: the next bucket is not the one behind an empty one, ..
@@ -151,7 +158,7 @@ stepsAhead-excluded-by-each-step d =
     neither (λ far. omega (arith, far .1))
     (λ (b, first, filled, is).
     let one : 1 ≡ b = omega arith in filled (subst (λ (n : ℕ). _≡_ {A = ℕ} (getD heads n 0) 0) one refl))
-    (rehash-at d 4 refl (add 0 10 ∷ add 2 12 ∷ Call.resize 8 ∷ []) [] .each-step Call.rehashStep (inl refl, inl refl) refl)
+    (rehash-at d 4 refl (add 0 10 ∷ add 2 12 ∷ Call.resize 8 ∷ []) [] .each-step Call.rehashStep (refl, refl) refl)
 
 -- .. and the buckets passed are empty
 pub passesFilled-excluded-by-each-step : RehashesEnd passesFilled → ⊥
@@ -159,21 +166,13 @@ unfolding looks passesFilled
 passesFilled-excluded-by-each-step d =
     neither (λ far. eqb-false 1 0 refl (far .0 3 (lit≤ tt) (lit< tt)))
     (λ (b, first, filled, is). eqb-false 1 0 refl (first .empty-before 3 (lit≤ tt) (omega arith)))
-    (rehash-at d 16 refl (add 3 10 ∷ Call.resize 8 ∷ []) [] .each-step Call.rehashStep (inl refl, inr refl) refl)
-
--- two filled buckets of two
-abbrev twoOfTwo : List Call
-twoOfTwo = add 0 10 ∷ add 1 11 ∷ Call.resize 4 ∷ []
-
--- The flag does not tell a rehash: with key 1 still to move it is under way after a step, and the next bucket is 1.
-pub turning-excluded : RehashesEnd turning → ⊥
-unfolding computing turning
-turning-excluded d =
-    neither (λ far. eqb-false 0 10 refl (far .1)) (λ (b, first, filled, is). omega (arith, is))
-    (rehash-at d 2 refl twoOfTwo [] .each-step Call.rehashStep (inl refl, inl refl) refl)
+    (rehash-at d 16 refl (add 3 10 ∷ Call.resize 8 ∷ []) [] .each-step Call.rehashStep (refl, refl) refl)
 
 -- Both bounds are met by ours: with two filled buckets of two, and with one of 16, the last. One step leaves the rehash under
 -- way, and the second ends it.
+
+abbrev pub twoOfTwo : List Call
+twoOfTwo = add 0 10 ∷ add 1 11 ∷ Call.resize 4 ∷ []
 
 abbrev lastOfSixteen : List Call
 lastOfSixteen = add 15 10 ∷ Call.resize 8 ∷ []
@@ -188,4 +187,4 @@ pub steps-met : EndsWith (reached 2 twoOfTwo) (reachedIdeal 2 twoOfTwo) (reached
     × EndsWith (reached 16 lastOfSixteen) (reachedIdeal 16 lastOfSixteen)
     (mostSteps (reached 16 lastOfSixteen .state .«old_size») (filledBuckets (reached 16 lastOfSixteen)))
 unfolding computing EndsWith
-steps-met = (((inl refl, inl refl), refl, refl), ((inl refl, inl refl), refl, refl))
+steps-met = (((refl, refl), refl, refl), ((refl, refl), refl, refl))

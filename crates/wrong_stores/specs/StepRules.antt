@@ -94,8 +94,8 @@ endsAtOnce =
       | false ↦ o
     ])
 
--- Every call, answered 0, leaves a rehash from one bucket to two and turns the flag: to go by the state alone, it never ends,
--- nor is it ever the same one.
+-- Every call is answered 0, leaves a rehash from one bucket to two, and turns the flag. To go by the state alone, no rehash ever
+-- ends, and none is the one that was before the call.
 unfoldable pub turning : World → Call → Outcome
 turning w c =
     kept w (reply 0 (0 ∷ 1 ∷ []) (stateOf (not (w .state .«second_is_current»)) (oldNew 1 2) (oldNew 0 0) true 0 0 1 true 0)) []

@@ -206,7 +206,7 @@ enum suspects_number {
     SUSPECTS_ABSENT = 3,                   /* the key is not held */
     SUSPECTS_PRESENT = 4,                  /* the key is held already */
     SUSPECTS_FULL = 5,                     /* as many keys are held as the capacity says */
-    SUSPECTS_BAD_SIZE = 6,                 /* capacity or size not legal; at a resize also: no room, or the present size */
+    SUSPECTS_BAD_SIZE = 6,                 /* capacity or size not legal; at a resize also: no room, or the same */
     SUSPECTS_MOVING = 7,                   /* a move is under way */
     SUSPECTS_NOT_MOVING = 8,               /* no move is under way */
     SUSPECTS_SHORT = 9,                    /* the list has no room for the keys to be handed out */

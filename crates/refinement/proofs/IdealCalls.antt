@@ -14,7 +14,6 @@ use Rattle.cursor.specs.Member.{In, keep}
 use Rattle.model.specs.Answers.{Reply, reply}
 use Rattle.model.specs.Keys.{bucketOf}
 use Rattle.model.specs.Limits.{emptyVisits}
-use Rattle.model.specs.Calls.{acceptable}
 use Rattle.model.specs.Walk.{Tables}
 use Rattle.model.specs.Sequences.{KeyCall, Call, PlainMap, keysOf, mapDoes}
 use Rattle.model.proofs.Tests.{true-not-false}
@@ -22,7 +21,7 @@ use Rattle.refinement.specs.Worlds.{takesStep}
 use Rattle.refinement.specs.Demand3.{Lengths, Ideal, ideal, among, begun, startNumber, startAnswer, keyAnswer, resizeAnswer, afterStep, stepTaken, stepAnswer, stepsFirst, onAnswer, thenGrows, withNotes, predict}
 use Rattle.refinement.specs.RehashesEnd.{stepsIn}
 use Rattle.invariant.proofs.Lists.{of-keep}
-use Rattle.refinement.proofs.IdealSteps.{by-test, either, one-not-two, any-step, any-hand, any-read, any-note, any-growth, not-paused, paused-refused, paused-stays}
+use Rattle.refinement.proofs.IdealSteps.{by-test, one-not-two, any-step, any-resize, any-hand, any-read, any-note, any-growth, not-paused, paused-refused, paused-stays}
 use Rattle.refinement.proofs.MovedKeys.{lowestOf, lowest-reached, lowest-below}
 use Rattle.refinement.proofs.CalledBuckets.{stepsLeft, in-table, rest-sub, rest-behind, moving-less, passing-less, fewer-less}
 
@@ -126,10 +125,8 @@ same i = record { tables = refl; turned = refl; index = refl; only = λ k h. h }
 
 -- a resize leaves the current buffer
 resize-turned : (l : Lengths) (i : Ideal) (size : ℕ) (t : Tables) → resizeAnswer l i size t .state .turned ≡ i .turned
-unfolding resizeAnswer reply ideal
-resize-turned l i size (Tables.two old new) = refl
-resize-turned l i size (Tables.one old) =
-    either (λ (r : Reply Ideal). r .state .turned ≡ i .turned) (acceptable old _ size) _ _ refl refl
+unfolding reply ideal
+resize-turned l i size t = any-resize l i (λ r. r .state .turned ≡ i .turned) size t (λ old e a. refl) refl refl
 
 key-keeps : (i : Ideal) (r : Reply PlainMap) → Kept i (keyAnswer i r .state)
 unfolding keyAnswer reply ideal

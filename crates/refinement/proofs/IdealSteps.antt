@@ -1,5 +1,5 @@
--- What the ideal answers, by cases: a step is refused, or so many keys moved and the rest are unmoved; a call that hands out,
--- one that reads, a note. The step that a call takes first, or none; and the growth that follows it, or none.
+-- What the ideal answers, by cases: a step is refused, or so many keys moved and the rest are unmoved; a resize; a call that
+-- hands out, one that reads, a note. The step that a call takes first, or none; and the growth that follows it, or none.
 -- Assumes nothing.
 use Prim.Native.Nat.{ℕ, zero, suc, _+_, _*_, _<_, _≤_}
 use mathlib.Core.Path.{_≡_, refl, sym, ap, _∙_}
@@ -14,7 +14,7 @@ use Rattle.model.specs.Limits.{emptyVisits, mostSafeIterators}
 use Rattle.model.specs.Answers.{Reply, reply}
 use Rattle.model.specs.Calls.{acceptable, suggested, growthDue}
 use Rattle.model.specs.Walk.{Tables}
-use Rattle.model.specs.Sequences.{KeyCall, ReadCall, StateCall}
+use Rattle.model.specs.Sequences.{KeyCall, ReadCall, StateCall, keysOf}
 use Rattle.refinement.specs.Worlds.{takesStep, mayGrow}
 use Rattle.refinement.specs.Demand3.{Lengths, Ideal, ideal, resizeAnswer, lowest, afterStep, stepTaken, stepAnswer, stepsFirst, grows, thenGrows, handAnswer, idealPrint, readAnswer, withNotes, endAnswer, noteAnswer}
 
@@ -81,6 +81,16 @@ module _ (i : Ideal) (P : Reply Ideal → Type 0) where
       by zero = none-begun
       by (suc n) = noted (i .allowed) n
 
+-- a resize begins a rehash, or is refused: its size is not accepted, or a rehash is under way
+pub any-resize : (l : Lengths) (i : Ideal) (P : Reply Ideal → Type 0) (size : ℕ) (t : Tables)
+    → ((old : ℕ) → t ≡ Tables.one old → acceptable old (cond (i .turned) (l .first) (l .second)) size ≡ true
+    → P (reply 0 [] (ideal (i .plain) (Tables.two old size) (i .turned) (keysOf (i .plain .pairs)) 0 (i .allowed) (i .iterators))))
+    → P (reply 6 [] i) → P (reply 7 [] i) → P (resizeAnswer l i size t)
+unfolding resizeAnswer
+any-resize l i P size (Tables.two old new) begun refused moving = moving
+any-resize l i P size (Tables.one old) begun refused moving =
+    by-test P (acceptable old (cond (i .turned) (l .first) (l .second)) size) _ _ (begun old refl) (λ f. refused)
+
 -- what holds of what a call leaves, and of a resize then, holds of what growth leaves
 pub any-growth : (l : Lengths) (P : Ideal → Type 0) (c : KeyCall) (r : Reply Ideal)
     → ((old size : ℕ) → r .state .tables ≡ Tables.one old → P (resizeAnswer l (r .state) size (Tables.one old) .state))
@@ -95,14 +105,15 @@ any-growth l P c r resized p =
         let keys = length (r .state .plain .pairs) in
         either P (growthDue (r .state .allowed) old keys) _ _ (resized old (suggested true keys) e) p
 
--- growth leaves the pairs
+-- both leave the pairs
+
+pub resize-plain : (l : Lengths) (i : Ideal) (size : ℕ) (t : Tables) → resizeAnswer l i size t .state .plain ≡ i .plain
+unfolding reply ideal
+resize-plain l i size t = any-resize l i (λ r. r .state .plain ≡ i .plain) size t (λ old e a. refl) refl refl
+
 pub growth-plain : (l : Lengths) (c : KeyCall) (r : Reply Ideal) → thenGrows l c r .state .plain ≡ r .state .plain
-unfolding resizeAnswer reply ideal
 growth-plain l c r =
-    any-growth l (λ (j : Ideal). j .plain ≡ r .state .plain) c r
-    (λ old size e.
-    either (λ (q : Reply Ideal). q .state .plain ≡ r .state .plain) (acceptable old _ size) _ _ refl refl)
-    refl
+    any-growth l (λ (j : Ideal). j .plain ≡ r .state .plain) c r (λ old size e. resize-plain l (r .state) size (Tables.one old)) refl
 
 -- with two tables and no safe iterator a step is taken
 pub not-paused : (i : Ideal) (old new : ℕ) (unmoved : List ℕ) → i .iterators ≡ 0

@@ -3,32 +3,24 @@
 -- Assumes nothing.
 use Prim.Native.Nat.{ℕ, _<_}
 use mathlib.Core.Path.{_≡_, refl, sym, ap, subst, _∙_}
-use mathlib.Core.Bool.{Bool, cond}
+use mathlib.Core.Bool.{Bool}
 use mathlib.Core.List.{List}
 use native.Mathlib.Omega.{arith}
 use Rattle.cursor.specs.Member.{In, keep}
 use Rattle.model.specs.Keys.{bucketOf}
 use Rattle.model.specs.Answers.{Reply, reply}
-use Rattle.model.specs.Calls.{oldNew, acceptable}
+use Rattle.model.specs.Calls.{oldNew}
 use Rattle.model.specs.Walk.{Tables}
 use Rattle.model.specs.Sequences.{KeyCall, Call, PlainMap, keysOf, mapDoes}
 use Rattle.model.proofs.Tests.{Tells, tested, tested-not, tells-same}
 use Rattle.refinement.specs.Demand3.{Lengths, Ideal, ideal, among, tableOf, sizeIn, keyAnswer, resizeAnswer, stepsFirst, onAnswer, placeNumber, placeOf, predict}
 use Rattle.invariant.proofs.Lists.{in-keep, of-keep}
 use Rattle.refinement.proofs.PlainMaps.{tells-among}
-use Rattle.refinement.proofs.IdealSteps.{either, any-growth, any-first, paused-stays}
+use Rattle.refinement.proofs.IdealSteps.{any-resize, resize-plain, any-growth, any-first, paused-stays}
 
 -- a call finds the ideal as it is
 paused-first : (i : Ideal) → 0 < i .iterators → (c : KeyCall) (number : ℕ) → stepsFirst i c number ≡ i
 paused-first i p c number = any-first i (λ (j : Ideal). j ≡ i) c number (paused-stays i p) refl
-
--- a rehash that begins leaves the pairs
-resize-plain : (l : Lengths) (i : Ideal) (size : ℕ) (t : Tables) → resizeAnswer l i size t .state .plain ≡ i .plain
-unfolding resizeAnswer reply ideal
-resize-plain l i size (Tables.two old new) = refl
-resize-plain l i size (Tables.one old) =
-    either (λ (r : Reply Ideal). r .state .plain ≡ i .plain)
-    (acceptable old (cond (i .turned) (l .first) (l .second)) size) _ _ refl refl
 
 -- the place of a key, by the live tables and the keys in the old one
 abbrev placeBy : Tables → List ℕ → ℕ → ℕ
@@ -66,14 +58,13 @@ module _ (key : ℕ) where
   begun-place old new keys unmoved held = rw (tested (tells-among key keys) held) (omega arith)
 
   pub resize-place : (l : Lengths) (i : Ideal) (size : ℕ) (t : Tables) → i .tables ≡ t → Stays i (resizeAnswer l i size t .state)
-  unfolding resizeAnswer reply ideal placeOf
-  resize-place l i size (Tables.two old new) e = λ held. refl
-  resize-place l i size (Tables.one old) e =
-      either (λ (r : Reply Ideal). Stays i (r .state)) (acceptable old (cond (i .turned) (l .first) (l .second)) size) _ _
-      (λ held.
+  unfolding reply ideal placeOf
+  resize-place l i size t e =
+      any-resize l i (λ (r : Reply Ideal). Stays i (r .state)) size t
+      (λ old is a held.
       begun-place old size (keysOf (i .plain .pairs)) (i .unmoved) held
-      ∙ ap (λ (t : Tables). placeBy t (i .unmoved) key) (sym e))
-      (λ held. refl)
+      ∙ ap (λ (ts : Tables). placeBy ts (i .unmoved) key) (sym (e ∙ is)))
+      (λ held. refl) (λ held. refl)
 
   module _ (l : Lengths) (i : Ideal) (paused : 0 < i .iterators) where
     pub on-place : (k : ℕ) (c : KeyCall) → Stays i (predict l i (Call.on k c) .state)

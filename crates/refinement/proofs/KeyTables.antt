@@ -7,12 +7,12 @@ use mathlib.Core.List.{List, [], _∷_}
 use native.Mathlib.Omega.{arith}
 use Rattle.model.specs.Limits.{legalCapacity, legalSize}
 use Rattle.model.specs.Answers.{Reply, reply}
-use Rattle.model.specs.Calls.{longEnough, acceptable}
+use Rattle.model.specs.Calls.{longEnough}
 use Rattle.model.specs.Walk.{Tables}
 use Rattle.model.specs.Sequences.{KeyCall, Call, mapDoes}
 use Rattle.refinement.specs.Demand3.{Lengths, Ideal, ideal, begun, startNumber, startAnswer, keyAnswer, resizeAnswer, afterStep, stepAnswer, onAnswer, predict}
 use Rattle.invariant.proofs.Resize.{allowed}
-use Rattle.refinement.proofs.IdealSteps.{by-test, any-step, any-growth, any-first}
+use Rattle.refinement.proofs.IdealSteps.{any-step, any-resize, any-growth, any-first}
 use Rattle.refinement.proofs.LiveTables.{Legal}
 
 start-legal : (l : Lengths) (capacity size : ℕ) → startNumber l capacity size ≡ 0 → legalSize size ≡ true
@@ -26,13 +26,11 @@ start-legal l capacity size =
     by false b n e = absurd (omega arith)
 
 pub after-resize : (l : Lengths) (i : Ideal) → Legal (i .tables) → (size : ℕ) (t : Tables) → Legal t → Legal (resizeAnswer l i size t .state .tables)
-unfolding resizeAnswer reply ideal Legal
-after-resize l i legal size (Tables.two old new) h = legal
-after-resize l i legal size (Tables.one old) h =
-    let other = cond (i .turned) (l .first) (l .second) in
-    let grown : acceptable old other size ≡ true → Legal (Tables.two old size) =
-    λ t. let a = allowed old other size t in (h, a .0, a .1) in
-    by-test (λ (r : Reply Ideal). Legal (r .state .tables)) (acceptable old other size) _ _ grown (λ f. legal)
+unfolding reply ideal Legal
+after-resize l i legal size t h =
+    any-resize l i (λ r. Legal (r .state .tables)) size t
+    (λ old is a. let (fits, other, room) = allowed old _ size a in (subst Legal is h, fits, other))
+    legal legal
 
 module _ (l : Lengths) (i : Ideal) (legal : Legal (i .tables)) where
   pub after-start : (capacity size n : ℕ) → startNumber l capacity size ≡ n → Legal (startAnswer i capacity size n .state .tables)

@@ -12,13 +12,13 @@ use borrow.Author.Tests.{eqb-false}
 use Rattle.model.specs.Limits.{legalCapacity, legalSize}
 use Rattle.model.specs.Memory.{Place, Live}
 use Rattle.model.specs.Answers.{Reply, reply}
-use Rattle.model.specs.Calls.{longEnough, acceptable}
+use Rattle.model.specs.Calls.{longEnough}
 use Rattle.model.specs.Walk.{Tables}
 use Rattle.model.specs.Sequences.{World, KeyCall, Call, Outcome, run, Event, events, PlainMap, valueFor, mapAnswer, mapDoes}
 use Rattle.refinement.specs.Worlds.{UndamagedAt}
 use Rattle.refinement.specs.Demand1.{SoundChain}
 use Rattle.refinement.specs.Demand3.{Lengths, lengthsOf, Ideal, startNumber, startAnswer, keyAnswer, onAnswer, thenGrows, resizeAnswer, afterStep, predict, Answered, SequenceHolds, Demand3}
-use Rattle.refinement.proofs.IdealSteps.{either, any-step, any-hand, any-read, any-note}
+use Rattle.refinement.proofs.IdealSteps.{either, any-step, any-resize, any-hand, any-read, any-note}
 use Rattle.refinement.proofs.Demand1Chains.{AtPlace, place-read, place-sound}
 use Rattle.refinement.proofs.Contents.{undamaged-ideal}
 
@@ -58,9 +58,8 @@ module _ (l : Lengths) (i : Ideal) where
   limits-other false u = other 6 refl
 
   resize-other : (size : ℕ) (tables : Tables) → Other (resizeAnswer l i size tables)
-  unfolding resizeAnswer reply
-  resize-other size (Tables.two old new) = other 7 refl
-  resize-other size (Tables.one old) = either Other (acceptable old _ size) _ _ (other 0 refl) (other 6 refl)
+  unfolding reply
+  resize-other size t = any-resize l i Other size t (λ old e a. other 0 refl) (other 6 refl) (other 7 refl)
 
   done-other : (old new count : ℕ) (unmoved : List ℕ) (next : ℕ) → Other (afterStep i old new count unmoved next)
   unfolding afterStep reply

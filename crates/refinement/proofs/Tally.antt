@@ -11,11 +11,9 @@ use lib.ListN.{length}
 use lib.Dec.{eqb, eqb·suc-zero}
 use Rattle.model.specs.Answers.{Reply, reply}
 use Rattle.model.specs.Memory.{keysHeld}
-use Rattle.model.specs.Calls.{acceptable}
-use Rattle.model.specs.Walk.{Tables}
-use Rattle.model.specs.Sequences.{World, KeyCall, Call, Outcome, carry, run, Event, event, events, PlainMap, keysOf, valueFor, withPairs, mapAnswer, mapDoes}
-use Rattle.refinement.specs.Demand3.{Lengths, lengthsOf, Ideal, ideal, begun, startNumber, startAnswer, keyAnswer, onAnswer, thenGrows, resizeAnswer, afterStep, withNotes, predict, replay, Answered, Demand3}
-use Rattle.refinement.proofs.IdealSteps.{either, any-step, any-hand, any-read, any-note, growth-plain}
+use Rattle.model.specs.Sequences.{World, KeyCall, Call, Outcome, carry, run, Event, event, events, PlainMap, valueFor, withPairs, mapAnswer, mapDoes}
+use Rattle.refinement.specs.Demand3.{Lengths, lengthsOf, Ideal, ideal, begun, startNumber, startAnswer, keyAnswer, onAnswer, thenGrows, afterStep, withNotes, predict, replay, Answered, Demand3}
+use Rattle.refinement.proofs.IdealSteps.{any-step, any-resize, any-hand, any-read, any-note, growth-plain}
 use Rattle.refinement.proofs.PlainMaps.{length-changed, length-taken}
 use Rattle.refinement.proofs.Demand3.{from-a-start}
 
@@ -70,7 +68,7 @@ module _ (i : Ideal) where
       by KeyCall.delete (some held) e = omega (arith, length-taken key held (i .plain .pairs) e)
 
   counted : (l : Lengths) (c : Call) → Counted i c (predict l i c)
-  unfolding predict thenGrows startAnswer begun ideal reply resizeAnswer afterStep withNotes keysAfter
+  unfolding predict thenGrows startAnswer begun ideal reply afterStep withNotes keysAfter
   counted l (Call.init capacity size) = by (startNumber l capacity size)
     where
       by : (n : ℕ) → Counted i (Call.init capacity size) (startAnswer i capacity size n)
@@ -78,13 +76,8 @@ module _ (i : Ideal) where
       by (suc n) = rw (eqb·suc-zero n)
   counted l (Call.on key c) =
       ap (λ (m : PlainMap). length (m .pairs)) (growth-plain l c (onAnswer i c (mapDoes (i .plain) key c))) ∙ keyed key c
-  counted l (Call.resize size) = by (i .tables)
-    where
-      by : (t : Tables) → Counted i (Call.resize size) (resizeAnswer l i size t)
-      by (Tables.one old) =
-          either (Counted i (Call.resize size)) (acceptable old (cond (i .turned) (l .first) (l .second)) size)
-          (reply 0 [] (ideal (i .plain) (Tables.two old size) (i .turned) (keysOf (i .plain .pairs)) 0 (i .allowed) (i .iterators))) (reply 6 [] i) refl refl
-      by (Tables.two old new) = refl
+  counted l (Call.resize size) =
+      any-resize l i (Counted i (Call.resize size)) size (i .tables) (λ old e a. refl) refl refl
   counted l Call.rehashStep = any-step i (Counted i Call.rehashStep) (i .tables) (i .unmoved) (λ size e. refl)
       (λ some. refl) (λ old new e none. done old new)
     where

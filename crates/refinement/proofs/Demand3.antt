@@ -7,7 +7,7 @@ use Rattle.model.specs.Sequences.{World, Call, Outcome, perform, carry}
 use Rattle.refinement.specs.Demand3.{lengthsOf, begun, SequenceHolds, Demand3}
 use Rattle.refinement.proofs.Lengths.{lengths-kept}
 use Rattle.refinement.proofs.Agreement.{agrees-undamaged, agrees-matches, matches-agrees}
-use Rattle.refinement.proofs.TableSteps.{init-number, init-agrees}
+use Rattle.refinement.proofs.TableSteps.{init-number, init-values, init-agrees}
 use Rattle.refinement.proofs.Histories.{sequence-holds}
 
 pub demand3 : Demand3 perform
@@ -19,6 +19,7 @@ demand3 =
           let v = carry w (perform w c) in
           record {
             number = init-number w capacity size;
+            values = init-values w capacity size;
             undamaged = λ answered. agrees-undamaged v (begun capacity size) (init-agrees w capacity size answered);
             matches =
                 λ answered.

@@ -160,6 +160,9 @@ module _ (w : World) (capacity size : ℕ) where
   pub init-number : started .reply .number ≡ startNumber (lengthsOf w) capacity size
   init-number = init-answers .0
 
+  pub init-values : started .reply .values ≡ []
+  init-values = init-answers .1
+
   -- answered 0, the tests were passed
   passed : started .reply .number ≡ 0 → (limits ≡ true) × (long ≡ true)
   unfolding perform calls.init left initReply reply errorNumber
@@ -236,12 +239,12 @@ init-steps w i a l same capacity size = by (startNumber l capacity size) refl
     by zero e =
         record {
           number = number ∙ e;
-          values = λ f. init-answers w capacity size .1;
+          values = λ f. init-values w capacity size;
           agrees = init-agrees w capacity size (number ∙ e);
         }
     by (suc n) e =
         leaves w i a c (suc n) [] (refused-keeps w c (init-good w capacity size) (λ z. omega (arith, number, e))) (number ∙ e)
-        (λ f. init-answers w capacity size .1)
+        (λ f. init-values w capacity size)
 
 -- A resize.
 

@@ -1,9 +1,8 @@
 -- Demand 2: on any undamaged store find, change, add and delete answer as the plain map, and an answered walk call hands
 -- out exactly the keys of its group, in order, with the published next cursor; and an answered call that iterates exactly
--- those of the first filled bucket from its place on, with the place behind it. It is what demand 3 says of one call,
--- needs no ideal, and follows from it for every store (`demand3-answers`, proofs/Demand2). That every undamaged store holds a
--- map is `undamaged-holds` (proofs/Contents), that no group of it has a key twice `group-distinct`
--- (proofs/GroupEntries).
+-- those of the first filled bucket from its place on, with the place behind it. It is what demand 3 says of one call, and
+-- follows from it for every store (`demand3-answers`, proofs/Demand2), but needs no ideal. That every undamaged store holds a
+-- map is `undamaged-holds` (proofs/Contents), that no group of it has a key twice `group-distinct` (proofs/GroupEntries).
 use Prim.Native.Nat.{ℕ, zero, suc, _*_}
 use mathlib.Core.Path.{_≡_}
 use mathlib.Core.List.{List, [], _∷_, _++_}

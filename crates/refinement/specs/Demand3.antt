@@ -380,10 +380,11 @@ pub record SequenceHolds (does : World → Call → Outcome) (l : Lengths) (w : 
   pub look : does (run does w calls) (Call.read ReadCall.currentTable) .reply .values
       ≡ take (run does w calls .state .«old_size») (current (run does w calls))
 
--- A start, whatever the lent buffers hold. Its number goes by the limits and the lengths of the buffers alone. If it is 0, the
--- store that it leaves is undamaged, and has what `begun` has, the ideal of a new store.
+-- A start, whatever the lent buffers hold. Its number goes by the limits and the lengths of the buffers alone, and it has no
+-- values. If the number is 0, the store that it leaves is undamaged, and has what `begun` has, the ideal of a new store.
 pub record Starts (does : World → Call → Outcome) (w : World) (capacity size : ℕ) : Type 0 where
   pub number : does w (Call.init capacity size) .reply .number ≡ startNumber (lengthsOf w) capacity size
+  pub values : does w (Call.init capacity size) .reply .values ≡ []
   pub undamaged : does w (Call.init capacity size) .reply .number ≡ 0
       → UndamagedAt (carry w (does w (Call.init capacity size)))
   pub matches : does w (Call.init capacity size) .reply .number ≡ 0

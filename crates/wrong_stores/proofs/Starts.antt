@@ -3,14 +3,14 @@
 use Prim.Native.Nat.{ℕ}
 use mathlib.Core.Path.{refl}
 use mathlib.Core.Bool.{true, false, cond}
-use mathlib.Core.List.{List}
+use mathlib.Core.List.{List, [], _∷_}
 use mathlib.Core.Option.{Option, none, some}
 use borrow.Author.Tests.{eqb-false}
 use Rattle.model.specs.Memory.{Place}
 use Rattle.model.specs.Walk.{Tables, smallerOf}
 use Rattle.refinement.specs.Demand3.{Lengths, Demand3}
-use Rattle.wrong_stores.specs.Starts.{oneEntry, oneBucket, startsInSecond, startsShort, startsLooping}
-use Rattle.wrong_stores.proofs.Start.{computing, zeros, apart}
+use Rattle.wrong_stores.specs.Starts.{oneEntry, oneBucket, startsInSecond, startsShort, startsLooping, startsSaying}
+use Rattle.wrong_stores.proofs.Start.{computing, zeros, apart, differ}
 
 -- `contents`, `capacity`: that of the start
 pub oneEntry-excluded : Demand3 oneEntry → ⊥
@@ -38,3 +38,8 @@ unfolding computing startsLooping
 startsLooping-excluded d =
     apart {A = Option (List ℕ)} (λ o. elim o [ none ↦ 0 | some ns ↦ 1 ]) _ _ refl
     (d .starts zeros 3 1 .undamaged refl .chains-sound Place.free tt)
+
+-- `values`: there are none
+pub startsSaying-excluded : Demand3 startsSaying → ⊥
+unfolding computing startsSaying
+startsSaying-excluded d = differ 0 (3 ∷ []) [] refl (d .starts zeros 3 1 .values)

@@ -1,10 +1,10 @@
 -- Wrong stores by a start.
 use mathlib.Core.Bool.{true, false}
-use mathlib.Core.List.{[]}
+use mathlib.Core.List.{[], _∷_}
 use Rattle.model.specs.Memory.{setLink, sizeOf, usedOf}
 use Rattle.model.specs.Calls.{cleared, retabled}
 use Rattle.model.specs.Sequences.{World, Call, Outcome, perform}
-use Rattle.wrong_stores.specs.OneCall.{butInit, ifDone, handingBack, leaving}
+use Rattle.wrong_stores.specs.OneCall.{butInit, ifDone, answering, handingBack, leaving}
 
 -- one entry, however many are asked for
 unfoldable pub oneEntry : World → Call → Outcome
@@ -33,3 +33,7 @@ startsShort = butInit (λ capacity size w o. ifDone (leaving (o .first) [] (o .e
 unfoldable pub startsLooping : World → Call → Outcome
 startsLooping =
     butInit (λ capacity size w o. ifDone (leaving (o .first) (o .second) (setLink (o .entries) capacity 1) o) o)
+
+-- a start that says its capacity
+unfoldable pub startsSaying : World → Call → Outcome
+startsSaying = butInit (λ capacity size w o. answering (capacity ∷ []) o)

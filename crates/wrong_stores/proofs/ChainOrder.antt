@@ -30,7 +30,7 @@ use Rattle.wrong_stores.specs.OneCall as one
 use Rattle.wrong_stores.specs.OneCall.{butAdd, butFind, ifDone}
 use Rattle.wrong_stores.specs.KeyCalls as wrong
 use Rattle.wrong_stores.specs.KeyCalls.{relinked, reordering, addsAtEnd, findsToFront}
-use Rattle.wrong_stores.proofs.Start.{zeros, computing, alike, started, startedIdeal, find, add, at, apart}
+use Rattle.wrong_stores.proofs.Start.{zeros, computing, alike, started, reached, startedIdeal, find, add, at, apart}
 use Rattle.wrong_stores.proofs.Reordered.{SameAt, Reordered, reordered-undamaged, reordered-matches}
 use Rattle.wrong_stores.proofs.SameNumbers.{Near, near-demand1, near-done, near-keys}
 
@@ -104,7 +104,7 @@ unfolding computing
 ours-holds calls = at demand3 1 refl calls
 
 module _ (does : World → Call → Outcome) (calls : List Call) (left : run does (started 1) calls ≡ turned)
-    (left-ours : run perform (started 1) calls ≡ ours)
+    (left-ours : reached 1 calls ≡ ours)
     (seen : events does (started 1) calls ≡ events perform (started 1) calls)
     (scans : (cursor : ℕ) (lent : List ℕ) → does turned (Call.scan cursor lent) ≡ perform turned (Call.scan cursor lent))
     (iterates : (place : ℕ) (lent : List ℕ) → does turned (Call.iterate place lent) ≡ perform turned (Call.iterate place lent))
@@ -193,7 +193,7 @@ findsToFront-demand1 =
 pub addsAtEnd-excluded : ((w : World) (c : Call) → addsAtEnd w c ≡ perform w c) → ⊥
 unfolding computing addsAtEnd reordering relinked wrong.head wrong.toEnd
 addsAtEnd-excluded same =
-    apart (λ (o : Outcome). getD (o .first) 0 0) _ _ refl (same (run perform (started 1) (add 1 10 ∷ [])) (add 2 20))
+    apart (λ (o : Outcome). getD (o .first) 0 0) _ _ refl (same (reached 1 (add 1 10 ∷ [])) (add 2 20))
 
 pub findsToFront-excluded : ((w : World) (c : Call) → findsToFront w c ≡ perform w c) → ⊥
 unfolding computing findsToFront reordering relinked wrong.head wrong.toFront ours

@@ -12,7 +12,7 @@ use native.Mathlib.Omega.{arith}
 use Rattle.model.specs.declared.Table.{Table}
 use Rattle.model.specs.Memory.{Place}
 use Rattle.model.specs.Cases.{rehashing, counting}
-use Rattle.model.specs.Sequences.{World, Call, Outcome, perform, run}
+use Rattle.model.specs.Sequences.{World, Call, Outcome, perform}
 use Rattle.refinement.specs.Demand1.{Demand1, SoundChain, Damaged, keyPlaces, stepWorld}
 use Rattle.refinement.specs.Demand3.{lengthsOf, Demand3}
 use Rattle.refinement.specs.RehashesEnd.{UnderWay, answeredSteps, RehashesEnd}
@@ -20,8 +20,8 @@ use Rattle.refinement.proofs.HiddenSteps.{alone}
 use Rattle.wrong_stores.specs.Rehashes as rehashes
 use Rattle.wrong_stores.specs.HiddenSteps as wrong
 use Rattle.wrong_stores.specs.HiddenSteps.{addsUnmoved, deletesUnmoved, addsThenSteps, deletesThenSteps, addsAfterTwo, addsPassingOne, addStepStays, deleteStepStays, findsStepping, updatesStepping, walksStepping, iteratesStepping, looksBefore}
-use Rattle.wrong_stores.proofs.StepRules.{twoOfTwo}
-use Rattle.wrong_stores.proofs.Start.{computing, zeros, started, reached, reachedIdeal, room, find, update, add, delete, at, rehash-at, apart, neither}
+use Rattle.wrong_stores.proofs.StepRules.{one-step-ends, twoOfTwo}
+use Rattle.wrong_stores.proofs.Start.{computing, zeros, reached, reachedIdeal, room, find, update, add, delete, at, rehash-at, apart, neither}
 
 unfoldable stepping : Unit {0}
 unfolding computing alone rehashes.goingOn wrong.thenSteps addsThenSteps deletesThenSteps wrong.stepped wrong.alsoSteps addsUnmoved deletesUnmoved addsAfterTwo addsPassingOne addStepStays deleteStepStays findsStepping updatesStepping walksStepping iteratesStepping looksBefore
@@ -61,7 +61,7 @@ iteratesStepping-excluded d =
 
 -- key 0, and those keys, in a rehash from size 2 to 4
 begun : List Call → World
-begun calls = run perform (started 2) (add 0 10 ∷ calls)
+begun calls = reached 2 (add 0 10 ∷ calls)
 
 -- With keys 0 and 1 an add leaves one of them in the old table, and a step is answered.
 pub addsAfterTwo-excluded : Demand3 addsAfterTwo → ⊥
@@ -146,15 +146,11 @@ addsPassingOne-excluded d =
 
 pub addsUnmoved-excluded-by-size : RehashesEnd addsUnmoved → ⊥
 unfolding stepping
-addsUnmoved-excluded-by-size d =
-    let h = rehash-at d 1 refl (add 0 10 ∷ Call.resize 2 ∷ []) (add 1 11 ∷ []) .within-size (refl, refl) in
-    omega arith
+addsUnmoved-excluded-by-size d = one-step-ends d (add 1 11) (refl, refl) refl
 
 pub deletesUnmoved-excluded-by-size : RehashesEnd deletesUnmoved → ⊥
 unfolding stepping
-deletesUnmoved-excluded-by-size d =
-    let h = rehash-at d 1 refl (add 0 10 ∷ Call.resize 2 ∷ []) (delete 0 ∷ []) .within-size (refl, refl) in
-    omega arith
+deletesUnmoved-excluded-by-size d = one-step-ends d (delete 0) (refl, refl) refl
 
 -- Ours: of two filled buckets an add moves one, and a delete the other, which ends the rehash.
 

@@ -19,7 +19,7 @@ use Rattle.refinement.specs.Demand1.{Demand1}
 use Rattle.refinement.specs.Demand3.{handedOut, Demand3}
 use Rattle.wrong_stores.specs.Iterators as wrong
 use Rattle.wrong_stores.specs.Iterators.{printsZero, printsRefused, neverChanged, alwaysChanged, changedFirst, countsNone, keepsCounted, beginsFewer, beginsBeyond, endsNone, startsAsBefore, startsWithOne, stepsPaused, damagedFirst, pausedAtRest, addsPaused, deletesPaused, refusesPaused}
-use Rattle.wrong_stores.proofs.Start.{computing, zeros, started, room, find, add, delete, beginSafe, endSafe, at, apart, differ, neither, no-look}
+use Rattle.wrong_stores.proofs.Start.{computing, zeros, started, reached, room, find, add, delete, beginSafe, endSafe, at, apart, differ, neither, no-look}
 
 -- what a store of specs/Iterators computes with
 unfoldable pub iterating : Unit {0}
@@ -132,7 +132,7 @@ pub stepsPaused-excluded : Demand1 stepsPaused → ⊥
 unfolding iterating stepsPaused
 stepsPaused-excluded d =
     must-be-paused 0 refl refl refl (lit< tt)
-    (d .numbers (run perform (started 2) (heldUp [])) Call.rehashStep)
+    (d .numbers (reached 2 (heldUp [])) Call.rehashStep)
 
 pub damagedFirst-excluded : Demand1 damagedFirst → ⊥
 unfolding iterating damagedFirst moving bucketZero
@@ -157,7 +157,7 @@ printsRefused-excluded d =
 -- any more, and not key 2, which is held: its bucket was passed before it came.
 
 abbrev atBegin : World
-atBegin = run perform (started 2) (add 0 10 ∷ add 1 11 ∷ [])
+atBegin = reached 2 (add 0 10 ∷ add 1 11 ∷ [])
 
 abbrev replacing : List Call
 replacing = Call.iterate 0 room ∷ delete 0 ∷ add 2 12 ∷ Call.iterate 1 room ∷ []

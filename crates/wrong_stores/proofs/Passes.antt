@@ -8,13 +8,13 @@ use lib.Dec.{lit<, lit≤}
 use borrow.Author.Tests.{eqb-false}
 use native.Mathlib.Omega.{arith}
 use Rattle.model.specs.Memory.{inBucket}
-use Rattle.model.specs.Sequences.{World, Call, Outcome, perform, run}
+use Rattle.model.specs.Sequences.{World, Call, Outcome}
 use Rattle.refinement.specs.Demand1.{Demand1, BucketDamaged, KeysFrom}
 use Rattle.refinement.specs.Demand3.{Demand3}
 use Rattle.wrong_stores.specs.Walks.{overwriting}
 use Rattle.wrong_stores.specs.Refusals.{asDamaged, asShort, miscounting, scribbling}
 use Rattle.wrong_stores.specs.Passes.{handingAt, skipsNew, stopsAtEmpty, again, handsAgain, handsPart, keepsForged, iteratesBackwards, iteratesBeyond, iteratesRefused, iteratesDamaged, iteratesShort, iteratesMiscounting}
-use Rattle.wrong_stores.proofs.Start.{computing, started, room, add, at, apart, differ, neither, no-look, single}
+use Rattle.wrong_stores.proofs.Start.{computing, reached, room, add, at, apart, differ, neither, no-look, single}
 
 -- Demand 3, `answers`, `values`: the place behind the first filled bucket from the place given on, and its keys.
 
@@ -76,7 +76,7 @@ iteratesBackwards-excluded d =
 -- Demand 1. One key, in the only bucket: its chain is sound, and one key is to be handed out.
 
 oneKey : World
-oneKey = run perform (started 1) (add 1 10 ∷ [])
+oneKey = reached 1 (add 1 10 ∷ [])
 
 one-sound : BucketDamaged oneKey 0 → ⊥
 unfolding computing oneKey

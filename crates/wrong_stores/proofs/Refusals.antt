@@ -14,11 +14,11 @@ use Rattle.model.specs.declared.Table.{Table}
 use Rattle.model.specs.Limits.{largestCapacity}
 use Rattle.model.specs.Memory.{Place, inBucket}
 use Rattle.model.specs.Calls.{stateOf, oldNew}
-use Rattle.model.specs.Sequences.{World, world, Call, Outcome, perform, run}
+use Rattle.model.specs.Sequences.{World, world, Call, Outcome}
 use Rattle.refinement.specs.Demand1.{Demand1, Chain, SoundChain, places, TooMany, GroupDamaged}
 use Rattle.refinement.specs.Demand3.{Demand3}
 use Rattle.wrong_stores.specs.Refusals.{refusesAll, refusesLarge, takesLarger, refusesResizes, refusesSteps, overlooksDamage, losesState, writesFirst, asDamaged, refusesWalks, asShort, alwaysShort, readAgain, sumAfterShort, sumByCapacity, sumBelowKeys, roomForAll, miscounting, shortMiscounts, countsRefused, scribbling, writesRefused}
-use Rattle.wrong_stores.proofs.Start.{computing, zeros, started, room, find, update, add, at, apart, differ, must-be-damaged, no-look, single}
+use Rattle.wrong_stores.proofs.Start.{computing, zeros, reached, room, find, update, add, at, apart, differ, must-be-damaged, no-look, single}
 
 -- Demand 3, `starts`, `number`: the start's number is fixed by the limits and the lengths.
 pub refusesAll-excluded : Demand3 refusesAll → ⊥
@@ -90,7 +90,7 @@ writesRefused-excluded d =
 -- key 1, whose entry is linked to itself
 looped : World
 looped =
-    let w = run perform (started 1) (add 1 10 ∷ []) in
+    let w = reached 1 (add 1 10 ∷ []) in
     world (w .state) (w .first) (w .second) (1 ∷ 1 ∷ 10 ∷ replicate 6 0)
 
 loop-unsound : SoundChain looped (Place.bucket Table.Old 0) → ⊥
@@ -109,7 +109,7 @@ overlooksDamage-excluded d =
 -- keys 0 and 1 in the new table's two buckets, but the state counts one; the old table, of one bucket, is empty
 miscounted : World
 miscounted =
-    let w = run perform (started 2) (add 0 10 ∷ add 1 11 ∷ []) in
+    let w = reached 2 (add 0 10 ∷ add 1 11 ∷ []) in
     world (stateOf true (oldNew 1 2) (oldNew 0 1) true 0 (w .state .«free_head») (w .state .capacity) false 0) (w .first) (w .second)
     (w .entries)
 
@@ -139,7 +139,7 @@ sumByCapacity-excluded d = must-be-damaged 0 refl refl group-damaged (d .numbers
 
 -- one key, 1
 oneKey : World
-oneKey = run perform (started 1) (add 1 10 ∷ [])
+oneKey = reached 1 (add 1 10 ∷ [])
 
 pub losesState-excluded : Demand1 losesState → ⊥
 unfolding computing losesState oneKey

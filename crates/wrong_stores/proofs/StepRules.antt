@@ -14,7 +14,7 @@ use native.Mathlib.Omega.{arith}
 use Rattle.model.specs.declared.Table.{Table}
 use Rattle.model.specs.Memory.{Place}
 use Rattle.model.specs.Cases.{sparse}
-use Rattle.model.specs.Sequences.{World, Call, perform, run}
+use Rattle.model.specs.Sequences.{World, Call, Outcome, perform, run}
 use Rattle.model.proofs.Tests.{true-not-false}
 use Rattle.refinement.specs.Demand1.{Demand1, headOf, StepDamaged}
 use Rattle.refinement.specs.Demand3.{Ideal, lengthsOf, Demand3}
@@ -111,19 +111,25 @@ passesEleven-excluded-by-numbers d =
     (h .1))
     (d .numbers (sparse 0 5) Call.rehashStep)
 
--- How soon a rehash ends, `within-size`: with one bucket, filled, the first step ends it; ..
+-- How soon a rehash ends, `within-size`: with one bucket, filled, it is not under way any more after one answered step; ..
+
+abbrev pub oneOfOne : List Call
+oneOfOne = add 0 10 ∷ Call.resize 2 ∷ []
+
+pub one-step-ends : {does : World → Call → Outcome} → RehashesEnd does → (c : Call)
+    → UnderWay does (lengthsOf zeros) false (reached 1 oneOfOne) (reachedIdeal 1 oneOfOne) (c ∷ [])
+    → answeredSteps does (lengthsOf zeros) (reached 1 oneOfOne) (reachedIdeal 1 oneOfOne) (c ∷ []) ≡ 1 → ⊥
+unfolding computing
+one-step-ends d c under-way one = let h = rehash-at d 1 refl oneOfOne (c ∷ []) .within-size under-way in omega (arith, one)
+
 pub endsLate-excluded-by-size : RehashesEnd endsLate → ⊥
 unfolding ending
-endsLate-excluded-by-size d =
-    let h = rehash-at d 1 refl (add 0 10 ∷ Call.resize 2 ∷ []) (Call.rehashStep ∷ []) .within-size (refl, refl) in
-    omega arith
+endsLate-excluded-by-size d = one-step-ends d Call.rehashStep (refl, refl) refl
 
 -- .. and if the state still says that one is under way, its flag does not make that another one; ..
 pub turning-excluded : RehashesEnd turning → ⊥
 unfolding computing turning
-turning-excluded d =
-    let h = rehash-at d 1 refl (add 0 10 ∷ Call.resize 2 ∷ []) (Call.rehashStep ∷ []) .within-size (refl, refl) in
-    omega arith
+turning-excluded d = one-step-ends d Call.rehashStep (refl, refl) refl
 
 -- .. with two, empty, at most two do, whatever comes between them
 pub neverDone-excluded-by-size : RehashesEnd neverDone → ⊥

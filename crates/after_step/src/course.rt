@@ -19,7 +19,7 @@ use memory::state::bucket_index;
 use model::State;
 
 // What is known of a chain that is to move.
-#[derive(Drop)]
+#[derive(Clone, Copy)]
 pub enum ChainSight {
     // The step is refused.
     Unsound,

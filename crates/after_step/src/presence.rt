@@ -15,7 +15,7 @@ use model::State;
 use search::found::{Found, entry_in};
 
 // What a lookup would answer, without the entry.
-#[derive(Drop)]
+#[derive(Clone, Copy)]
 pub enum Presence {
     // A chain is not sound, or the step is refused.
     Damaged,
@@ -26,7 +26,7 @@ pub enum Presence {
 }
 
 // What one pass over a chain tells.
-#[derive(Drop)]
+#[derive(Clone, Copy)]
 pub enum Survey {
     Unsound,
     Sound {

@@ -1,5 +1,7 @@
 // The cursor of a walk (Redis SCAN): it counts in reverse binary order, so that a table that grows
 // or shrinks under a walk neither hides a bucket from it nor sends it back to the start.
+#![tactic(auto)]
+
 ghost use Rattle.std.specs.Prelude.{◌≡◌, ℕ, ◌%◌, ◌^◌, ◌<◌, ◌≤◌, slice_index};
 ghost use Rattle.cursor.specs.Reverse.{reverse, rev};
 ghost use Rattle.cursor.specs.Next.{next};

@@ -55,7 +55,7 @@ pub fn free_entry(
 }
 
 // What happened to the buffers, in numbers.
-#[derive(Drop)]
+#[derive(Clone, Copy)]
 enum Removal {
     Refused(Error),
     // This entry is free now.

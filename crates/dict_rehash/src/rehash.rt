@@ -14,7 +14,7 @@ use memory::state::{bucket_index, is_sound};
 use model::{Ahead, EMPTY_VISITS, Error, State, StepAnswer};
 
 // What happened to the buffers, in numbers: the public call makes the answer of it, and a call that takes a step first its own.
-#[derive(Drop)]
+#[derive(Clone, Copy)]
 pub enum Progress {
     Refused(Error),
     // So many keys have moved, and this bucket is the next one.

@@ -11,7 +11,7 @@ use memory::state::{is_legal_size, is_sound};
 use model::{Error, ResizeAnswer, State};
 
 // Whether a rehash began, in the other buffer.
-#[derive(Drop)]
+#[derive(Clone, Copy)]
 enum Begin {
     Refused(Error),
     Begun,

@@ -18,7 +18,7 @@ use search::found::{entry_in, entry_in_both};
 
 // What happened to the buffers, in numbers: a state that is handed up costs more than all that is read of the tables. The
 // caller has the state before, and makes the answer.
-#[derive(Drop)]
+#[derive(Clone, Copy)]
 pub enum Taken {
     Refused(Error),
     // The first free entry is taken, and this is the free list's next one.
@@ -29,7 +29,7 @@ pub enum Taken {
 }
 
 // What the call does once the step is taken.
-#[derive(Drop)]
+#[derive(Clone, Copy)]
 pub enum Purpose {
     // The key is added, with that value.
     Add(u32),
@@ -38,7 +38,7 @@ pub enum Purpose {
 }
 
 // Whether the first free entry may be taken.
-#[derive(Drop)]
+#[derive(Clone, Copy)]
 enum Verdict {
     Refused(Error),
     Room,

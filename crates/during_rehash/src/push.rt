@@ -13,7 +13,7 @@ use model::{Error, State};
 use search::found::{Found, entry_in_both};
 
 // What happened to the buffers, in numbers: the public call makes the answer of it.
-#[derive(Drop)]
+#[derive(Clone, Copy)]
 pub enum Push {
     Refused(Error),
     // The first free entry is taken, and this is the free list's next one.

@@ -10,7 +10,7 @@ use model::{
 use script::answer::error_number;
 
 // The number, the two results (0 for one that there is not), and the state that comes back.
-#[derive(Drop)]
+#[derive(Clone, Copy)]
 pub struct Answer {
     pub number: u32,
     pub one: u32,

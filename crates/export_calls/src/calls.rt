@@ -23,7 +23,7 @@ use iterator::plain::{begin_iterator, end_iterator};
 use iterator::safe::{begin_safe, end_safe};
 use model::State;
 
-#[derive(Drop)]
+#[derive(Clone, Copy)]
 pub enum Read {
     Find(u32),
     SuggestedSize(bool),
@@ -31,13 +31,13 @@ pub enum Read {
     EndIterator(u64),
 }
 
-#[derive(Drop)]
+#[derive(Clone, Copy)]
 pub enum Listing {
     Scan(u32),
     Iterate(u32),
 }
 
-#[derive(Drop)]
+#[derive(Clone, Copy)]
 pub enum Write {
     Update(u32, u32),
     Add(u32, u32),

@@ -1,1 +1,2 @@
 // Laws about the calls over bytes; no code.
+#![tactic(auto)]

@@ -1,5 +1,7 @@
 // The calls over bytes that are lent a list: the walk call and the pass call. What they promise is in
 // lent_bytes/specs/Exports.antt.
+#![tactic(auto)]
+
 ghost use Rattle.std.specs.Prelude.{◌≡◌, length};
 ghost use Rattle.little_endian.specs.Words.{decode};
 ghost use Rattle.model.specs.Sequences.{perform};

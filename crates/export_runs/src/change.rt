@@ -14,7 +14,7 @@ use lent_bytes::answer::write_answer;
 use lent_bytes::state::{read_state, write_state};
 use model::State;
 
-#[derive(Drop)]
+#[derive(Clone, Copy)]
 pub enum Change {
     Call(Write),
     Start(u32, u32),

@@ -1,6 +1,8 @@
 // The store's calls for C, over numbers and byte slices (SPECIFICATION, "Calls over bytes"). What each promises is in
 // lent_bytes, specs/Exports.antt: either the first check's 1, or what the plain call answers and leaves on the same
 // numbers. No export requires anything of its bytes.
+#![tactic(auto)]
+
 ghost use Rattle.std.specs.Prelude.{◌≡◌, []};
 ghost use Rattle.lent_bytes.specs.Exports.{Export, exported};
 ghost use Rattle.lent_bytes.specs.Exports.Lent.{lent};

@@ -1,5 +1,7 @@
 // The fingerprint that an iterator keeps (Redis's dictFingerprint): numbers folded by Thomas Wang's
 // hash of a 64-bit number, over numbers without a sign that wrap on purpose.
+#![tactic(auto)]
+
 ghost use Rattle.std.specs.Prelude.{◌≡◌, ◌<◌, bit_xor};
 ghost use Rattle.fingerprint.specs.Mix as Mix;
 

@@ -1,6 +1,8 @@
 // The fingerprint as a program, so that it can be compared with another one on many numbers: arrays
 // of six from standard input, each number as eight bytes with the lowest first; the fingerprint of
 // each to standard output, in decimal, on a line of its own.
+#![tactic(auto)]
+
 ghost use Rattle.std.specs.Prelude.{◌≡◌, ◌≤◌, ◌<◌, ◌+◌, get_or};
 ghost use Rattle.fingerprint.specs.Mix as Mix;
 ghost use Rattle.fingerprint_main.specs.Input.{little_endian, numbers_at};

@@ -1,4 +1,6 @@
 // Bytes as 32-bit numbers, little-endian, and back.
+#![tactic(auto)]
+
 ghost use Rattle.std.specs.Prelude.{◌≡◌, ◌+◌, ◌*◌, ◌≤◌, length};
 ghost use Rattle.little_endian.specs.Words.{encode, word};
 ghost use Rattle.little_endian.specs.Reading.{word_at, put_word, Decoded, Fitting};

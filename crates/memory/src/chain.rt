@@ -9,7 +9,7 @@ use crate::entry::{key_of, link_of};
 use crate::state::bucket_index;
 
 // How many entries a chain has, if it is sound.
-#[derive(Drop)]
+#[derive(Clone, Copy)]
 pub enum ChainLength {
     Unsound,
     Sound(u32),

@@ -1,4 +1,5 @@
 // The types of the store: the state that its caller holds, and what each call answers. What the calls mean is in specs/.
+#![tactic(auto)]
 
 // The most entries that a store can have.
 pub const LARGEST_CAPACITY: u32 = 65536;
@@ -19,7 +20,7 @@ pub const FORCE_RATIO: u32 = 5;
 pub const MOST_SAFE_ITERATORS: u32 = 255;
 
 // What the caller holds between calls (SPECIFICATION, "The memory"), in the order given there.
-#[derive(Drop)]
+#[derive(Clone, Copy)]
 pub struct State {
     // Which bucket buffer is the current one: the second, or else the first.
     pub second_is_current: bool,
@@ -44,7 +45,7 @@ pub struct State {
 
 // Why a call refused (SPECIFICATION, "Answers"). A walk call, or one that iterates, that is short of room says so in its own
 // answer.
-#[derive(Drop)]
+#[derive(Clone, Copy)]
 pub enum Error {
     BadState,
     Damaged,
@@ -65,14 +66,14 @@ pub enum Error {
 }
 
 // The two live tables. The only one counts as the old one.
-#[derive(Drop)]
+#[derive(Clone, Copy)]
 pub enum Table {
     Old,
     New,
 }
 
 // Where a key is, after its chains were read.
-#[derive(Drop)]
+#[derive(Clone, Copy)]
 pub enum Lookup {
     // A chain is not sound.
     Damaged,
@@ -87,7 +88,7 @@ pub enum Lookup {
 }
 
 // What a step meets in the old table, from the next bucket on.
-#[derive(Drop)]
+#[derive(Clone, Copy)]
 pub enum Ahead {
     // The first filled bucket.
     Filled(u32),
@@ -98,70 +99,70 @@ pub enum Ahead {
 }
 
 // A refused start hands back a state of zeros.
-#[derive(Drop)]
+#[derive(Clone, Copy)]
 pub enum InitAnswer {
     Ready(State),
     Refused(Error, State),
 }
 
-#[derive(Drop)]
+#[derive(Clone, Copy)]
 pub enum FindAnswer {
     Found(u32),
     Refused(Error),
 }
 
-#[derive(Drop)]
+#[derive(Clone, Copy)]
 pub enum UpdateAnswer {
     Updated,
     Refused(Error),
 }
 
-#[derive(Drop)]
+#[derive(Clone, Copy)]
 pub enum AddAnswer {
     Added(State),
     Refused(Error),
 }
 
-#[derive(Drop)]
+#[derive(Clone, Copy)]
 pub enum DeleteAnswer {
     Deleted(State),
     Refused(Error),
 }
 
-#[derive(Drop)]
+#[derive(Clone, Copy)]
 pub enum ResizeAnswer {
     Resized(State),
     Refused(Error),
 }
 
 // The permission, and a safe iterator's begin and end: the state with that field set.
-#[derive(Drop)]
+#[derive(Clone, Copy)]
 pub enum StateAnswer {
     Set(State),
     Refused(Error),
 }
 
 // An iterator's begin answers the fingerprint that its end asks for.
-#[derive(Drop)]
+#[derive(Clone, Copy)]
 pub enum BeginAnswer {
     Begun(u64),
     Refused(Error),
 }
 
-#[derive(Drop)]
+#[derive(Clone, Copy)]
 pub enum EndAnswer {
     Ended,
     Refused(Error),
 }
 
 // A step answers how many entries it moved; the state says whether the rehash goes on.
-#[derive(Drop)]
+#[derive(Clone, Copy)]
 pub enum StepAnswer {
     Stepped(u32, State),
     Refused(Error),
 }
 
-#[derive(Drop)]
+#[derive(Clone, Copy)]
 pub enum SizeAnswer {
     Suggested(u32),
     Refused(Error),
@@ -169,7 +170,7 @@ pub enum SizeAnswer {
 
 // A walk call answers the next cursor and how many keys it handed out; a short one, how many it would have. So does a call
 // that iterates, with the next place.
-#[derive(Drop)]
+#[derive(Clone, Copy)]
 pub enum ScanAnswer {
     Scanned(u32, u32),
     Short(u32),
@@ -177,13 +178,13 @@ pub enum ScanAnswer {
 }
 
 // Whether the store is undamaged.
-#[derive(Drop)]
+#[derive(Clone, Copy)]
 pub enum VerifyAnswer {
     Verified(bool),
     Refused(Error),
 }
 
-#[derive(Drop)]
+#[derive(Clone, Copy)]
 pub enum RepairAnswer {
     Repaired(State),
     Refused(Error),

@@ -11,7 +11,7 @@ use script::answer::error_number;
 use verify::verify::verify;
 
 // The number of each call, what verify says (1 for an undamaged store), and the state that repair hands back.
-#[derive(Drop)]
+#[derive(Clone, Copy)]
 pub struct Answers {
     pub verify: u32,
     pub undamaged: u32,

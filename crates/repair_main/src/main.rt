@@ -9,6 +9,8 @@
 //
 // That the calls are answered in numbers as they answer is proved (calls.rt); that the numbers are read and written in this
 // order is not, and shows in every record of the comparison.
+#![tactic(auto)]
+
 mod calls;
 
 ghost use Rattle.std.specs.Prelude.{◌≤◌, length};
@@ -55,7 +57,7 @@ fn put(numbers: &[u32]) -> bool
 }
 
 // A state that was read. One with a flag that is not 0 or 1 is none.
-#[derive(Drop)]
+#[derive(Clone, Copy)]
 enum Given {
     Nothing,
     State(State),

@@ -1,4 +1,5 @@
 // A script's lines in, their answers out, over byte slices (SPECIFICATION, "The program").
+#![tactic(auto)]
 
 pub mod answer;
 pub mod line;

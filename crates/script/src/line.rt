@@ -6,7 +6,7 @@ ghost use Rattle.script.specs.Places.{Reaches, lines_from};
 use crate::number::{Number, parse_number};
 
 // A line of a script (SPECIFICATION, "The script"), by its letter. Anything else is Bad.
-#[derive(Drop)]
+#[derive(Clone, Copy)]
 pub enum Command {
     Bad,
     Init { capacity: u32, size: u32 },
@@ -20,7 +20,7 @@ pub enum Command {
 }
 
 // The numbers after the letter.
-#[derive(Drop)]
+#[derive(Clone, Copy)]
 pub enum Arguments {
     Bad,
     Zero,
@@ -111,7 +111,7 @@ pub fn parse_line(line: &[u8]) -> Command
 }
 
 // The line that starts at a place of a script, by where it ends. The next one starts behind its line feed.
-#[derive(Drop)]
+#[derive(Clone, Copy)]
 pub enum NextLine {
     None,
     Until(usize),

@@ -4,7 +4,7 @@ ghost use Rattle.script.specs.Numbers.{number, decimal};
 ghost use Rattle.script.specs.Answers.{Wrote};
 
 // A number read from a script.
-#[derive(Drop)]
+#[derive(Clone, Copy)]
 pub enum Number {
     Bad,
     Good(u32),

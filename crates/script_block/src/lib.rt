@@ -1,5 +1,7 @@
 // A script's answers, gathered in blocks, so that a program needs no system call for each line (SPECIFICATION, "The
 // program").
+#![tactic(auto)]
+
 ghost use Rattle.std.specs.Prelude.{◌≡◌, ◌+◌, ◌-◌, ◌≤◌, ◌<◌, length, take, drop};
 ghost use Rattle.model.specs.Sequences.{world};
 ghost use Rattle.script.specs.Program.{run_line};
@@ -16,7 +18,7 @@ use script_run::line::run_line;
 pub const BLOCK_ROOM: usize = LINE_ROOM + LINE_ROOM;
 
 // How far a script has run: the state for its next line, where that starts, and how many bytes of the block are filled.
-#[derive(Drop)]
+#[derive(Clone, Copy)]
 pub struct Progress {
     pub state: State,
     pub next: usize,

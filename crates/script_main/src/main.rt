@@ -1,4 +1,6 @@
 // The program (SPECIFICATION, "The program"): a script from standard input, its answers to standard output.
+#![tactic(auto)]
+
 ghost use Rattle.std.specs.Prelude.{◌≤◌, length};
 ghost use Rattle.script_main.specs.Input.{Within};
 
@@ -64,7 +66,7 @@ fn run_script(script: &[u8]) {
 }
 
 // What came of reading: a read that failed, or as many bytes at the front of the buffer.
-#[derive(Drop)]
+#[derive(Clone, Copy)]
 enum Input {
     Failed,
     Bytes(usize),

@@ -16,7 +16,7 @@ pub const PAIR_ROOM: usize = PROGRAM_LIMIT * 2;
 pub const LINE_ROOM: usize = 2 + (2 + PAIR_ROOM) * 11;
 
 // The values of an answer. Those of a walk call are written with the pairs that it handed out.
-#[derive(Drop)]
+#[derive(Clone, Copy)]
 pub(crate) enum Values {
     None,
     One(u32),
@@ -25,7 +25,7 @@ pub(crate) enum Values {
 }
 
 // An answer's number, its values, and the state that comes back (SPECIFICATION, "Answers").
-#[derive(Drop)]
+#[derive(Clone, Copy)]
 pub(crate) struct Reply {
     pub(crate) number: u32,
     pub(crate) values: Values,
@@ -51,7 +51,7 @@ pub(crate) fn refused(e: Error, values: Values, state: State) -> Reply
 }
 
 // The state for the next line, and how many bytes this one wrote.
-#[derive(Drop)]
+#[derive(Clone, Copy)]
 pub struct LineAnswer {
     pub state: State,
     pub length: usize,

@@ -14,7 +14,7 @@ use memory::state::bucket_index;
 use model::State;
 
 // A lookup's answer without the way to the entry.
-#[derive(Drop)]
+#[derive(Clone, Copy)]
 pub enum Found {
     Damaged,
     Absent,

@@ -19,6 +19,8 @@
 //   them. The number is not one of keys but of the scan chains that the cells are spread over, 1 to 65,000.
 // The number of keys, a power of two, is the store's capacity and, but for `G`, `H`, `M` and `E`, the size of its table.
 // It writes one line, a sum over what the calls answered, which two programs that do the same work have in common.
+#![tactic(auto)]
+
 mod order;
 
 use libc::{STDIN_FILENO, STDOUT_FILENO};

@@ -4,7 +4,7 @@ use script::number::{Number, parse_number};
 use speed_calls::keys::{CELLS, MAX_KEYS};
 use speed_rounds::order::{Build, Order, Use, Work};
 
-#[derive(Drop)]
+#[derive(Clone, Copy)]
 pub(crate) enum Parsed {
     Bad,
     Good(Order),

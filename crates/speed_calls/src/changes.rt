@@ -23,7 +23,7 @@ fn add_key(
 }
 
 // A store that keys are added to, with the place of the next key and its value.
-#[derive(Drop)]
+#[derive(Clone, Copy)]
 pub struct Filling {
     pub state: State,
     pub path: Path,

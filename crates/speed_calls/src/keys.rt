@@ -56,7 +56,7 @@ pub fn make_keys(keys: &mut [u32], scan_chains: u32) {
 }
 
 // A way through the keys: from a place on, the same step again and again. A mask brings each place back among theirs.
-#[derive(Drop)]
+#[derive(Clone, Copy)]
 pub struct Path {
     pub at: usize,
     pub step: usize,

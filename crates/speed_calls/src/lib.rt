@@ -1,4 +1,5 @@
 // The timed calls on a store, each for many keys or for the whole store at once, as the program speed makes them.
+#![tactic(auto)]
 
 pub mod changes;
 pub mod keys;

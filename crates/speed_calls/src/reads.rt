@@ -56,7 +56,7 @@ fn sum_pairs(list: &[u32], count: u32, sum: u32) -> u32 {
 }
 
 // Where a walk goes on, and the sum so far.
-#[derive(Drop)]
+#[derive(Clone, Copy)]
 struct Walk {
     cursor: u32,
     sum: u32,
@@ -106,7 +106,7 @@ pub fn walk_all(
 }
 
 // Where a pass goes on, how many keys the last call handed out, and the sum so far.
-#[derive(Drop)]
+#[derive(Clone, Copy)]
 pub struct Pass {
     pub place: u32,
     pub count: u32,

@@ -1,7 +1,7 @@
 // What is to be timed.
 
 // What a round does that starts the store anew.
-#[derive(Drop)]
+#[derive(Clone, Copy)]
 pub enum Build {
     // Adds every key.
     Adds,
@@ -18,7 +18,7 @@ pub enum Build {
 }
 
 // What a round does with the full store.
-#[derive(Drop)]
+#[derive(Clone, Copy)]
 pub enum Use {
     // Finds every key.
     Finds,
@@ -33,7 +33,7 @@ pub enum Use {
 }
 
 // What every round does.
-#[derive(Drop)]
+#[derive(Clone, Copy)]
 pub enum Work {
     Builds(Build),
     Uses(Use),
@@ -42,7 +42,7 @@ pub enum Work {
 }
 
 // So many rounds on a store of that capacity, which is filled in a table of as many buckets.
-#[derive(Drop)]
+#[derive(Clone, Copy)]
 pub struct Order {
     pub work: Work,
     pub capacity: u32,

@@ -9,7 +9,7 @@ const FEW_BUCKETS: u32 = 4;
 
 // What a round is given: the store's capacity, the number of keys, their order, and a seed of its own, from which the values
 // count up, so that no two rounds are alike.
-#[derive(Drop)]
+#[derive(Clone, Copy)]
 pub(crate) struct Task {
     pub capacity: u32,
     pub keys: usize,
@@ -20,7 +20,7 @@ pub(crate) struct Task {
 // A store of that capacity starts with a table of that size and gets so many keys, in an order and with values that count
 // up. Then a rehash to as many buckets as the capacity may begin, with so many adds of further keys. At the end so many keys
 // are deleted, in an order of their own.
-#[derive(Drop)]
+#[derive(Clone, Copy)]
 pub(crate) struct Plan {
     pub capacity: u32,
     pub size: u32,

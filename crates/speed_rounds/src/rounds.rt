@@ -13,7 +13,7 @@ use std::num::wrapping_add_u32;
 const SEED: u32 = 123456789;
 
 // What a round hands on to the next one.
-#[derive(Drop)]
+#[derive(Clone, Copy)]
 struct Round {
     state: State,
     sum: u32,

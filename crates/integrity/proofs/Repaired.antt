@@ -107,7 +107,7 @@ module _ (s : State) (current other entries : List ℕ) (ok : sound s current ot
 
   length_entries : length entries' ≡ length entries
   unfolding entries'
-  length_entries = sym (ap length (all_done s current other entries)) ∙ length_done s current other entries
+  length_entries = sym (ap length (all_done_lem s current other entries)) ∙ length_done s current other entries
 
   new_fits : s.new_size ≤ length other
   unfolding size_of old_new
@@ -170,17 +170,17 @@ module _ (s : State) (current other entries : List ℕ) (ok : sound s current ot
   unfolding head_at repaired_at buckets_of kept free entries' Live size_of
   linked_after Place.free l =
       subst (λ (at : ℕ). Linked entries' s.capacity at (freed_list s current other entries)) (sym free_head)
-      (subst (λ (e : List ℕ). Linked e s.capacity (first_or0 (freed_list s current other entries)) (freed_list s current other entries)) (all_done s current other entries)
+      (subst (λ (e : List ℕ). Linked e s.capacity (first_or0 (freed_list s current other entries)) (freed_list s current other entries)) (all_done_lem s current other entries)
       (free_linked s current other entries before.entries_fit))
   linked_after (Place.bucket Table.Old b) l =
       let k : b < s.old_size = live_before (Place.bucket Table.Old b) l in
       subst (λ (at : ℕ). Linked entries' s.capacity at (kept_at s current other entries Table.Old b)) (sym (old_head b k))
-      (subst (λ (e : List ℕ). Linked e s.capacity (first_or0 (kept_at s current other entries Table.Old b)) (kept_at s current other entries Table.Old b)) (all_done s current other entries)
+      (subst (λ (e : List ℕ). Linked e s.capacity (first_or0 (kept_at s current other entries Table.Old b)) (kept_at s current other entries Table.Old b)) (all_done_lem s current other entries)
       (old_linked s current other entries before.entries_fit b k))
   linked_after (Place.bucket Table.New b) l =
       let k : b < s.new_size = live_before (Place.bucket Table.New b) l in
       subst (λ (at : ℕ). Linked entries' s.capacity at (kept_at s current other entries Table.New b)) (sym (new_head b k))
-      (subst (λ (e : List ℕ). Linked e s.capacity (first_or0 (kept_at s current other entries Table.New b)) (kept_at s current other entries Table.New b)) (all_done s current other entries)
+      (subst (λ (e : List ℕ). Linked e s.capacity (first_or0 (kept_at s current other entries Table.New b)) (kept_at s current other entries Table.New b)) (all_done_lem s current other entries)
       (new_linked s current other entries before.entries_fit b k))
 
   range : (n : ℕ) (p : Place) → Live after p → In n (repaired_at s current other entries p) → (0 < n) × (n ≤ s.capacity)
@@ -191,13 +191,13 @@ module _ (s : State) (current other entries : List ℕ) (ok : sound s current ot
   key_after : (t : Table) (b n : ℕ) → In n (kept_at s current other entries t b) → key_of entries' n ≡ key_of entries n
   unfolding entries' kept
   key_after t b n i =
-      subst (λ (e : List ℕ). key_of e n ≡ key_of entries n) (all_done s current other entries)
+      subst (λ (e : List ℕ). key_of e n ≡ key_of entries n) (all_done_lem s current other entries)
       (key_done s current other entries n (λ j. kept_not_free s current other entries t b n i j))
 
   value_after : (t : Table) (b n : ℕ) → In n (kept_at s current other entries t b) → value_of entries' n ≡ value_of entries n
   unfolding entries' kept
   value_after t b n i =
-      subst (λ (e : List ℕ). value_of e n ≡ value_of entries n) (all_done s current other entries)
+      subst (λ (e : List ℕ). value_of e n ≡ value_of entries n) (all_done_lem s current other entries)
       (value_done s current other entries n (λ j. kept_not_free s current other entries t b n i j))
 
   home_after : (n : ℕ) (p : Place) → Live after p → In n (repaired_at s current other entries p) → Home after (key_of entries' n) p
@@ -340,14 +340,14 @@ module _ (s : State) (current other entries : List ℕ) (ok : sound s current ot
   pub freed_key : (n : ℕ) → In n (freed_list s current other entries) → key_of (repaired_entries s current other entries) n ≡ 0
   unfolding all_done free
   freed_key n i =
-      subst (λ (e : List ℕ). key_of e n ≡ 0) (all_done s current other entries)
+      subst (λ (e : List ℕ). key_of e n ≡ 0) (all_done_lem s current other entries)
       (key_zeroed (both_done s current other entries) s.capacity done_fits (freed_list s current other entries) n
       (λ m j. let (z, l, e) = free_not s current other entries m j in (z, l)) i)
 
   pub freed_value : (n : ℕ) → In n (freed_list s current other entries) → value_of (repaired_entries s current other entries) n ≡ 0
   unfolding all_done free
   freed_value n i =
-      subst (λ (e : List ℕ). value_of e n ≡ 0) (all_done s current other entries)
+      subst (λ (e : List ℕ). value_of e n ≡ 0) (all_done_lem s current other entries)
       (value_zeroed (both_done s current other entries) s.capacity done_fits (freed_list s current other entries) n
       (λ m j. let (z, l, e) = free_not s current other entries m j in (z, l)) i)
 

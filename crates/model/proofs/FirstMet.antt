@@ -65,6 +65,7 @@ first_met_none e key (n ∷ ns) f = rw (ne_eqb (key_of e n) key (f n (inl refl))
 pub first_met_some : (e : List ℕ) (key : ℕ) (ns : List ℕ) → Positive ns → (n : ℕ) → In n ns → key_of e n ≡ key
     → 0 < first_met e key ns
 unfolding first_met Positive
+first_met_some e key [] p n i k = elim i [ ]
 first_met_some e key (m ∷ ns) p n i k = by (eqb (key_of e m) key) refl i (first_met_some e key ns (λ j h. p j (inr h)) n)
   where
     by : (b : Bool) → eqb (key_of e m) key ≡ b → In n (m ∷ ns) → (In n ns → key_of e n ≡ key → 0 < first_met e key ns)

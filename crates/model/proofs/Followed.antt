@@ -38,6 +38,8 @@ module _ (test : ℕ → Bool) (entries : List ℕ) (capacity : ℕ) where
   pub followed_met : (fuel : ℕ) (before : List ℕ) (at n : ℕ) → In n (followed test entries capacity fuel before at)
       → Met test entries capacity before n
   unfolding followed
+  followed_met zero before at n i = elim i [ ]
+  followed_met (suc fuel) before zero n i = elim i [ ]
   followed_met (suc fuel) before (suc m) n i =
       by (leb (suc m) capacity && not (among (suc m) before) && test (key_of entries (suc m))) refl i
       (followed_met fuel (suc m ∷ before) (link_of entries (suc m)) n)

@@ -29,6 +29,7 @@ use Rattle.model.proofs.Relinked.{length_chained_all, key_chained_all, value_cha
 
 pub up_from_range : (n count x : ℕ) → In x (up_from n count) → (n ≤ x) × (x < n + count)
 unfolding up_from
+up_from_range n zero x i = elim i [ ]
 up_from_range n (suc count) x (inl e) = (omega arith, omega arith)
 up_from_range n (suc count) x (inr i) = let (a, b) = up_from_range (suc n) count x i in (omega arith, omega arith)
 
@@ -288,9 +289,9 @@ module _ (s : State) (current other entries : List ℕ) where
   unfoldable pub all_done : List ℕ
   all_done = freed both_done free
 
-  pub all_done : all_done ≡ repaired_entries s current other entries
+  pub all_done_lem : all_done ≡ repaired_entries s current other entries
   unfolding all_done both_done old_done repaired_entries kept free
-  all_done = refl
+  all_done_lem = refl
 
   pub length_done : length all_done ≡ length entries
   unfolding all_done both_done old_done

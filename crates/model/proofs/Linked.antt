@@ -87,6 +87,7 @@ module _ (entries : List ℕ) (most : ℕ) where
   linked_from : (at n : ℕ) (ns : List ℕ) → Linked entries most at ns → In n ns
       → (ms : List ℕ) × Linked entries most n ms × (length ms ≤ length ns)
   unfolding Linked
+  linked_from at n [] h i = elim i [ ]
   linked_from at n (m ∷ ns) h (inl e) = (m ∷ ns, (e, h.1, h.2, h.3), omega arith)
   linked_from at n (m ∷ ns) h (inr i) =
       let (ms, k, l) = linked_from (link_of entries m) n ns h.3 i in (ms, k, omega arith)
@@ -105,6 +106,7 @@ module _ (entries : List ℕ) (most : ℕ) where
   -- the entries of a list are in range
   pub linked_in_range : (at n : ℕ) (ns : List ℕ) → Linked entries most at ns → In n ns → (0 < n) × (n ≤ most)
   unfolding Linked
+  linked_in_range at n [] h i = elim i [ ]
   linked_in_range at n (m ∷ ns) h (inl e) = (omega arith, omega arith)
   linked_in_range at n (m ∷ ns) h (inr i) = linked_in_range (link_of entries m) n ns h.3 i
 

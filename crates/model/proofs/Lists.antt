@@ -29,6 +29,7 @@ first_member (x ∷ xs) f = (x, inl refl)
 -- Joined lists.
 
 pub in_left : (x : ℕ) (xs ys : List ℕ) → In x xs → In x (xs ++ ys)
+in_left x [] ys i = elim i [ ]
 in_left x (y ∷ xs) ys (inl e) = inl e
 in_left x (y ∷ xs) ys (inr i) = inr (in_left x xs ys i)
 
@@ -59,6 +60,7 @@ second_distinct [] vs d = d
 second_distinct (u ∷ us) vs d = second_distinct us vs d.1
 
 pub parts_apart : (n : ℕ) (us vs : List ℕ) → Distinct (us ++ vs) → In n us → In n vs → ⊥
+parts_apart n [] vs d x3 i = elim x3 [ ]
 parts_apart n (u ∷ us) vs d (inl e) i =
     d.0 (in_right u us vs (subst (λ (k : ℕ). In k vs) e i))
 parts_apart n (u ∷ us) vs d (inr h) i = parts_apart n us vs d.1 h i
@@ -70,6 +72,7 @@ in_middle x us vs = in_right x us (x ∷ vs) (inl refl)
 
 -- a member stands between two parts
 pub in_split : (x : ℕ) (xs : List ℕ) → In x xs → (us vs : List ℕ) × (xs ≡ us ++ (x ∷ vs))
+in_split x [] i = elim i [ ]
 in_split x (y ∷ xs) (inl e) = ([], xs, ap (λ (z : ℕ). z ∷ xs) (sym e))
 in_split x (y ∷ xs) (inr i) = let (us, vs, e) = in_split x xs i in (y ∷ us, vs, ap (λ (zs : List ℕ). y ∷ zs) e)
 
@@ -97,10 +100,12 @@ taken_out n x us vs d i e =
 
 module _ {A B : Type 0} (f : A → B) where
   pub in_map : (x : A) (xs : List A) → In x xs → In (f x) (map f xs)
+  in_map x [] i = elim i [ ]
   in_map x (y ∷ xs) (inl e) = inl (ap f e)
   in_map x (y ∷ xs) (inr i) = inr (in_map x xs i)
 
   pub of_map : (y : B) (xs : List A) → In y (map f xs) → (x : A) × In x xs × (y ≡ f x)
+  of_map y [] i = elim i [ ]
   of_map y (x ∷ xs) (inl e) = (x, inl refl, e)
   of_map y (x ∷ xs) (inr i) = let (z, j, e) = of_map y xs i in (z, inr j, e)
 
@@ -125,6 +130,7 @@ module _ {A B : Type 0} (f : A → B) where
 -- a list without one of its members: one shorter, and every other member is there still
 pub removed : {A : Type 0} (x : A) (xs : List A) → In x xs
     → (ys : List A) × (length xs ≡ suc (length ys)) × ((y : A) → In y xs → y ≢ x → In y ys)
+removed {A = A} x [] i = elim i [ ]
 removed {A} x (z ∷ xs) (inl e) = (xs, refl, others)
   where
     others : (y : A) → In y (z ∷ xs) → y ≢ x → In y xs
@@ -166,6 +172,7 @@ same_length xs ys d e f g = omega (arith, distinct_fits xs ys d f, distinct_fits
 module _ {A : Type 0} (test : A → Bool) where
   pub in_keep : (k : A) (ks : List A) → In k ks → test k ≡ true → In k (keep test ks)
   unfolding keep
+  in_keep k [] i t = elim i [ ]
   in_keep k (j ∷ ks) (inl e) t =
       subst (λ (b : Bool). In k (cond b (j ∷ keep test ks) (keep test ks))) (sym (ap test (sym e) ∙ t)) (inl e)
   in_keep k (j ∷ ks) (inr i) t = by (test j) (in_keep k ks i t)
@@ -176,6 +183,7 @@ module _ {A : Type 0} (test : A → Bool) where
 
   pub of_keep : (k : A) (ks : List A) → In k (keep test ks) → In k ks × (test k ≡ true)
   unfolding keep
+  of_keep k [] i = elim i [ ]
   of_keep k (j ∷ ks) i = by (test j) refl i (of_keep k ks)
     where
       by : (b : Bool) → test j ≡ b → In k (cond b (j ∷ keep test ks) (keep test ks))

@@ -25,6 +25,7 @@ in_down_from (suc n) x z l = elim (dec_le x n) [ yes k ↦ inr (in_down_from n x
 
 pub down_from_range : (n x : ℕ) → In x (down_from n) → (0 < x) × (x ≤ n)
 unfolding down_from
+down_from_range zero x i = elim i [ ]
 down_from_range (suc n) x (inl e) = (omega arith, omega arith)
 down_from_range (suc n) x (inr i) = let (z, l) = down_from_range n x i in (z, omega arith)
 

@@ -197,6 +197,7 @@ module _ (e : List ℕ) (most : ℕ) (l : most * 3 ≤ length e) where
 
   pub key_zeroed : (ns : List ℕ) (m : ℕ) → InRange most ns → In m ns → key_of (freed e ns) m ≡ 0
   unfolding freed
+  key_zeroed [] m r i = elim i [ ]
   key_zeroed (n ∷ ns) m r i =
       elim (ℕ_discrete m n) [
         | yes same ↦
@@ -209,6 +210,7 @@ module _ (e : List ℕ) (most : ℕ) (l : most * 3 ≤ length e) where
 
   pub value_zeroed : (ns : List ℕ) (m : ℕ) → InRange most ns → In m ns → value_of (freed e ns) m ≡ 0
   unfolding freed
+  value_zeroed [] m r i = elim i [ ]
   value_zeroed (n ∷ ns) m r i =
       elim (ℕ_discrete m n) [
         | yes same ↦

@@ -19,6 +19,7 @@ use Rattle.model.proofs.Linked.{Linked, read_sound, linked_unique}
 last_from : (entries : List ℕ) (most before at n : ℕ) (ns : List ℕ) → Linked entries most at ns → In n ns
     → (ms : List ℕ) × Linked entries most n ms × (last_or 0 ms ≡ last_or before ns)
 unfolding Linked last_or
+last_from entries most before at n mathlib.Core.List.[] h i = elim i [ ]
 last_from entries most before at n (m ∷ ns) h (inl e) = (m ∷ ns, (e, h.1, h.2, h.3), refl)
 last_from entries most before at n (m ∷ ns) h (inr i) = last_from entries most m (link_of entries m) n ns h.3 i
 

@@ -115,6 +115,7 @@ in_gathered f (suc n) b x h i =
 -- and a member of the joined list is one of theirs
 pub of_gathered : (f : ℕ → List ℕ) (n x : ℕ) → In x (gathered f n) → (b : ℕ) × (b < n) × In x (f b)
 unfolding gathered
+of_gathered f zero x i = elim i [ ]
 of_gathered f (suc n) x i =
     ⊎_elim (λ j. let (b, l, k) = of_gathered f n x j in (b, omega arith, k)) (λ j. (n, omega arith, j))
     (in_either x (gathered f n) (f n) i)

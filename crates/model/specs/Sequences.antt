@@ -2,19 +2,16 @@
 use Rattle.std.specs.Prelude.{ℕ, zero, suc, Bool, cond, List, [], ◌∷◌, map, length, eqb}
 use Rattle.std.proofs.Math.Option.{Option, none, some}
 use Rattle.model.specs.declared.State.{State}
-use Rattle.model.specs.Answers.{Reply, reply, init_reply, find_reply, update_reply, add_reply, delete_reply, resize_reply, step_reply, size_reply, state_reply, begin_reply, end_reply, table_reply, scan_reply, verify_reply, repair_reply}
+use Rattle.model.specs.Answers.{Reply, reply, init_reply, find_reply, update_reply, add_reply, delete_reply, resize_reply, step_reply, size_reply, state_reply, begin_reply, end_reply, table_reply, scan_reply}
 use Rattle.model.specs.Calls.{After}
 use Rattle.model.specs.Calls as calls
 use Rattle.model.specs.Walk.{AfterScan}
 use Rattle.model.specs.Walk as walk
 use Rattle.model.specs.Iterators as iterators
-use Rattle.model.specs.Verify as verifying
-use Rattle.model.specs.Repair as repairing
 
 -- The calls, by what they do: find, change, add and delete name a key, and are what the plain map is fed; suggested size,
 -- look, and an iterator's begin and end only read; the permission, and a safe iterator's begin and end, set a field of the
--- state. Walk calls and those that iterate only read too, and are lent a list besides the three buffers. Check and mend take
--- the store as a whole.
+-- state. Walk calls and those that iterate only read too, and are lent a list besides the three buffers.
 
 pub data KeyCall : Type 0 where
   find : KeyCall
@@ -33,10 +30,6 @@ pub data StateCall : Type 0 where
   begin_safe : StateCall
   end_safe : StateCall
 
-pub data WholeCall : Type 0 where
-  verify : WholeCall
-  repair : WholeCall
-
 pub data Call : Type 0 where
   init : (capacity size : ℕ) → Call
   on : (key : ℕ) → KeyCall → Call
@@ -46,7 +39,6 @@ pub data Call : Type 0 where
   iterate : (place : ℕ) (lent : List ℕ) → Call
   read : ReadCall → Call
   note : StateCall → Call
-  whole : WholeCall → Call
 
 -- the state that the caller holds, and the three lent buffers
 pub record World : Type 0 where
@@ -100,8 +92,6 @@ perform w (Call.read (ReadCall.end_iterator fingerprint)) =
 perform w (Call.note (StateCall.allow_resize allowed)) = kept w (state_reply w.state (given w calls.allow_resize allowed)) []
 perform w (Call.note StateCall.begin_safe) = kept w (state_reply w.state (given w iterators.begin_safe)) []
 perform w (Call.note StateCall.end_safe) = kept w (state_reply w.state (given w iterators.end_safe)) []
-perform w (Call.whole WholeCall.verify) = kept w (verify_reply w.state (given w verifying.verify)) []
-perform w (Call.whole WholeCall.repair) = left (repair_reply w.state) (given w repairing.repair)
 
 -- A history. Each call is lent the buffers as the one before left them, and given the state that came back from the
 -- last call answered 0.

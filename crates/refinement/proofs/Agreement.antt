@@ -9,7 +9,7 @@ use mathlib.Core.List.{List, map}
 use mathlib.Core.Option.{some}
 use native.Mathlib.Omega.{arith}
 use lib.ListN.{length}
-use Rattle.cursor.specs.Member.{In, Distinct, keep, among}
+use Rattle.cursor.specs.Member.{In, Distinct, keep}
 use Rattle.model.specs.declared.State.{State}
 use Rattle.model.specs.declared.Table.{Table}
 use Rattle.model.specs.Answers.{Reply, reply}
@@ -19,8 +19,8 @@ use Rattle.model.specs.Walk.{Tables, tables_by, tables_of}
 use Rattle.model.specs.Sequences.{World, world, ReadCall, Call, Outcome, perform, carry, PlainMap, keys_of, value_for}
 use Rattle.model.proofs.Tests.{told, tested, tested_not}
 use Rattle.refinement.specs.Worlds.{current, other, UndamagedAt, Held, Holds}
-use Rattle.refinement.specs.Demand3.{Lengths, lengths_of, Ideal, ideal, table_of, Matches}
-use Rattle.model.proofs.Lists.{in_map, of_map, in_keep, of_keep, distinct_keep, tells_among}
+use Rattle.refinement.specs.Demand3.{Lengths, lengths_of, Ideal, ideal, among, table_of, Matches}
+use Rattle.model.proofs.Lists.{in_map, of_map, in_keep, of_keep, distinct_keep}
 use Rattle.model.proofs.Sums.{gathered, in_gathered, of_gathered}
 use Rattle.invariant.proofs.Shape.{IsBucket, Shape}
 use Rattle.invariant.proofs.Places.{LiveTable, table_live}
@@ -29,7 +29,7 @@ use Rattle.invariant.proofs.FromUndamaged.{undamaged_shape}
 use Rattle.invariant.proofs.ToUndamaged.{entries_at_lem, shape_undamaged}
 use Rattle.invariant.proofs.StoreAfter.{HeldIn, StoreAfter}
 use Rattle.refinement.proofs.Orientation.{world_by, as_kept, as_turned}
-use Rattle.refinement.proofs.PlainMaps.{value_key, key_value}
+use Rattle.refinement.proofs.PlainMaps.{value_key, key_value, tells_among}
 
 -- a live bucket that holds the key with the value
 pub record HeldAt (s : State) (entries : List ℕ) (at : Place → List ℕ) (key value : ℕ) : Type 0 where

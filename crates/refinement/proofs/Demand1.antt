@@ -17,8 +17,6 @@ use Rattle.refinement.specs.Demand2.{group_entries, handing}
 use Rattle.refinement.proofs.Demand1Calls.{Good, decides, leaves, init_good, resized_good, step_good, read_good, note_good}
 use Rattle.refinement.proofs.Demand1Lists.{scan_good, iterate_good}
 use Rattle.refinement.proofs.Demand1Steps.{on_good}
-use Rattle.refinement.proofs.Demand1Whole.{whole_good}
-use Rattle.refinement.proofs.OnlyReads.{only_reads}
 use Rattle.refinement.proofs.GroupEntries.{enough, is_short, hands_or_short, next_of, walk_call}
 
 -- all calls
@@ -31,11 +29,10 @@ good w (Call.scan cursor lent) = scan_good w cursor lent
 good w (Call.iterate place lent) = iterate_good w place lent
 good w (Call.read c) = read_good w c
 good w (Call.note c) = note_good w c
-good w (Call.whole c) = whole_good w c
 
 -- Demand 1.
 pub demand1 : Demand1 perform
-demand1 = record { numbers = λ w c. decides (good w c); refusals = λ w c n. leaves (good w c) n; reads = only_reads }
+demand1 = record { numbers = λ w c. decides (good w c); refusals = λ w c n. leaves (good w c) n }
 
 -- the table leaves no number open: any store that goes by it answers the numbers of the definitions
 
@@ -104,7 +101,6 @@ state_first w (Call.scan cursor lent) n f b d = first_row n 1 _ _ b d
 state_first w (Call.iterate place lent) n f b d = first_row n 1 _ _ b d
 state_first w (Call.read c) n f b d = first_row n 1 _ _ b d
 state_first w (Call.note c) n f b d = first_row n 1 _ _ b d
-state_first w (Call.whole c) n f b d = first_row n 1 _ _ b d
 
 pub no_store : (does : World → Call → Outcome) → Demand1 does → (w : World) (c : Call) → w.state ≡ no_state
     → ((capacity size : ℕ) → ¬ (c ≡ Call.init capacity size)) → (does w c).reply.number ≡ 1

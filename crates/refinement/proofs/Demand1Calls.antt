@@ -93,7 +93,6 @@ leaves_kept w (Call.scan cursor lent) o (count, c, l) = (_, _, l)
 leaves_kept w (Call.iterate place lent) o (count, c, l) = (_, _, l)
 leaves_kept w (Call.read c) o l = (_, _, l)
 leaves_kept w (Call.note c) o l = (_, _, l)
-leaves_kept w (Call.whole c) o l = (_, _, l)
 
 pub good_lengths : {w : World} {c : Call} {rs : List Row} {o : Outcome} → Good w c rs o → lengths_of (carry w o) ≡ lengths_of w
 unfolding carry kept world lengths_of
@@ -119,11 +118,11 @@ module _ (w : World) where
   abbrev pub here : {A : Type 0} → (State → List ℕ → List ℕ → List ℕ → A) → A
   here call = call w.state (current w) (other w) w.entries
 
-  abbrev pub stay : {A : Type 0} → A → After A
+  abbrev stay : {A : Type 0} → A → After A
   stay a = After.after a (current w) (other w) w.entries
 
   -- its outcome, answered
-  pub done : {A : Type 0} {c : Call} (reply : A → Reply State) (a : A) (x y z : List ℕ) → (reply a).number ≡ 0
+  done : {A : Type 0} {c : Call} (reply : A → Reply State) (a : A) (x y z : List ℕ) → (reply a).number ≡ 0
       → length x ≡ length (current w) → length y ≡ length (other w) → length z ≡ length w.entries
       → Good w c [] (put w reply (After.after a x y z))
   unfolding put kept carry lengths_of world_by world current other oriented first_by second_by
@@ -147,10 +146,10 @@ module _ (w : World) where
   read out refusal call r g = rw (reads w refusal call) (gated out passes_state g r)
 
   -- a call that writes: each refusal leaves all as it is
-  abbrev pub Refusing : {A : Type 0} → Call → (A → Reply State) → (Error → A) → Type 0
+  abbrev Refusing : {A : Type 0} → Call → (A → Reply State) → (Error → A) → Type 0
   Refusing c reply refusal = (e : Error) → Refuses w c (error_number e) (put w reply (stay (refusal e)))
 
-  pub written : {A : Type 0} {rs : List Row} (c : Call) (reply : A → Reply State) (refusal : Error → A)
+  written : {A : Type 0} {rs : List Row} (c : Call) (reply : A → Reply State) (refusal : Error → A)
       → ((e : Error) → Refuses w c (error_number e) (kept w (reply (refusal e)) [])) → (call : List ℕ → List ℕ → After A)
       → (Refusing c reply refusal → Good w c rs (put w reply (call (current w) (other w))))
       → Good w c (row 1 (BadState w) ∷ rs)

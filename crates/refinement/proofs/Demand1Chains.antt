@@ -24,7 +24,7 @@ module _ (entries : List ℕ) where
   nth_from head i zero = rw add-zero
   nth_from head i (suc k) = rw add-suc (ap (link_of entries) (nth_from head i k))
 
-  pub nth_link : (head k : ℕ) → nth entries (link_of entries head) k ≡ nth entries head (suc k)
+  nth_link : (head k : ℕ) → nth entries (link_of entries head) k ≡ nth entries head (suc k)
   unfolding nth
   nth_link head zero = refl
   nth_link head (suc k) = ap (link_of entries) (nth_link head k)

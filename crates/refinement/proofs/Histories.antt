@@ -20,7 +20,6 @@ use Rattle.refinement.proofs.Agreement.{Agrees, Steps, agrees_undamaged, agrees_
 use Rattle.refinement.proofs.GrownKeys.{on_steps}
 use Rattle.refinement.proofs.TableSteps.{init_steps, resize_steps, read_steps, look_values, note_steps}
 use Rattle.refinement.proofs.RehashSteps.{step_steps}
-use Rattle.refinement.proofs.WholeSteps.{whole_steps}
 use Rattle.refinement.proofs.LiveTables.{Legal, tables_legal}
 use Rattle.refinement.proofs.Walks.{walks_hold}
 
@@ -39,7 +38,6 @@ lent_list (Call.scan cursor lent) = true
 lent_list (Call.iterate place lent) = true
 lent_list (Call.read c) = false
 lent_list (Call.note c) = false
-lent_list (Call.whole c) = false
 
 -- any other call
 plain : (l : Lengths) (w : World) (i : Ideal) (c : Call) → Steps w c (predict l i c) → lent_list c ≡ false → Predicted l w i c
@@ -83,7 +81,6 @@ module _ (w : World) (i : Ideal) (a : Agrees w i) (l : Lengths) (same : lengths_
       (any_hand i (λ (r : Reply Ideal). r.state ≡ i) _ _ (length lent) refl refl)
   any_call (Call.read c) = plain l w i _ (read_steps w i a l c) refl
   any_call (Call.note c) = plain l w i _ (note_steps w i a l c) refl
-  any_call (Call.whole c) = plain l w i _ (whole_steps w i a l c) refl
 
 -- along the calls, and at their end
 record Kept (l : Lengths) (w : World) (i : Ideal) (calls : List Call) : Type 0 where

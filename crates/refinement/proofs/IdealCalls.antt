@@ -10,7 +10,7 @@ use native.Mathlib.Omega.{arith}
 use lib.ListN.{length}
 use lib.Dec.{ltb, eqb}
 use borrow.Author.Tests.{ltb-true, ltb-false, ne_eqb}
-use Rattle.cursor.specs.Member.{In, keep, among}
+use Rattle.cursor.specs.Member.{In, keep}
 use Rattle.model.specs.Answers.{Reply, reply}
 use Rattle.model.specs.Keys.{bucket_of}
 use Rattle.model.specs.Limits.{empty_visits}
@@ -18,10 +18,10 @@ use Rattle.model.specs.Walk.{Tables}
 use Rattle.model.specs.Sequences.{KeyCall, Call, PlainMap, keys_of, map_does}
 use Rattle.model.proofs.Tests.{true_not_false}
 use Rattle.refinement.specs.Worlds.{takes_step}
-use Rattle.refinement.specs.Demand3.{Lengths, Ideal, ideal, begun, start_number, start_answer, key_answer, resize_answer, after_step, step_taken, step_answer, steps_first, on_answer, then_grows, with_notes, predict}
+use Rattle.refinement.specs.Demand3.{Lengths, Ideal, ideal, among, begun, start_number, start_answer, key_answer, resize_answer, after_step, step_taken, step_answer, steps_first, on_answer, then_grows, with_notes, predict}
 use Rattle.refinement.specs.RehashesEnd.{steps_in}
 use Rattle.model.proofs.Lists.{of_keep}
-use Rattle.refinement.proofs.IdealSteps.{by_test, one_not_two, any_step, any_resize, any_hand, any_read, any_note, any_whole, any_growth, not_paused, paused_refused, paused_stays}
+use Rattle.refinement.proofs.IdealSteps.{by_test, one_not_two, any_step, any_resize, any_hand, any_read, any_note, any_growth, not_paused, paused_refused, paused_stays}
 use Rattle.refinement.proofs.MovedKeys.{lowest_of, lowest_reached, lowest_below}
 use Rattle.refinement.proofs.CalledBuckets.{steps_left, in_table, rest_sub, rest_behind, moving_less, passing_less, fewer_less}
 
@@ -256,7 +256,6 @@ module _ (l : Lengths) (i : Ideal) (size new : ℕ) (moving : i.tables ≡ Table
       (λ allowed iterators e.
       Passes.stayed refl (record { tables = refl; turned = refl; index = refl; only = λ k h. h }))
       (λ e. Passes.stayed refl (same i)) (λ e. Passes.stayed refl (same i))
-  passes (Call.whole c) = any_whole i (GoesOn (Call.whole c)) c (λ vs e. Passes.stayed refl (same i))
 
 -- While it is under way: a step, and what leaves it.
 module _ (size : ℕ) (i : Ideal) (d : During size i) where

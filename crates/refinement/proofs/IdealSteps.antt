@@ -14,9 +14,9 @@ use Rattle.model.specs.Limits.{empty_visits, most_safe_iterators}
 use Rattle.model.specs.Answers.{Reply, reply}
 use Rattle.model.specs.Calls.{acceptable, suggested, growth_due}
 use Rattle.model.specs.Walk.{Tables}
-use Rattle.model.specs.Sequences.{KeyCall, ReadCall, StateCall, WholeCall, keys_of}
+use Rattle.model.specs.Sequences.{KeyCall, ReadCall, StateCall, keys_of}
 use Rattle.refinement.specs.Worlds.{takes_step, may_grow}
-use Rattle.refinement.specs.Demand3.{Lengths, Ideal, ideal, resize_answer, lowest, after_step, step_taken, step_answer, steps_first, grows, then_grows, hand_answer, ideal_print, read_answer, with_notes, end_answer, note_answer, whole_answer}
+use Rattle.refinement.specs.Demand3.{Lengths, Ideal, ideal, resize_answer, lowest, after_step, step_taken, step_answer, steps_first, grows, then_grows, hand_answer, ideal_print, read_answer, with_notes, end_answer, note_answer}
 
 -- what holds of both answers of a test, of each where the test comes out so, holds of the one given
 pub by_test : {A : Type 0} (P : A → Type 0) (t : Bool) (x y : A) → (t ≡ true → P x) → (t ≡ false → P y) → P (cond t x y)
@@ -80,12 +80,6 @@ module _ (i : Ideal) (P : Reply Ideal → Type 0) where
       by : (n : ℕ) → P (end_answer i n)
       by zero = none_begun
       by (suc n) = noted i.allowed n
-
--- a call on the whole store leaves the ideal
-pub any_whole : (i : Ideal) (P : Reply Ideal → Type 0) (c : WholeCall) → ((vs : List ℕ) → P (reply 0 vs i)) → P (whole_answer i c)
-unfolding whole_answer
-any_whole i P WholeCall.verify done = done _
-any_whole i P WholeCall.repair done = done _
 
 -- a resize begins a rehash, or is refused: its size is not accepted, or a rehash is under way
 pub any_resize : (l : Lengths) (i : Ideal) (P : Reply Ideal → Type 0) (size : ℕ) (t : Tables)

@@ -6,15 +6,16 @@ use mathlib.Core.Path.{◌≡◌, refl, sym, ap, subst, ◌∙◌}
 use mathlib.Core.Bool.{Bool}
 use mathlib.Core.List.{List}
 use native.Mathlib.Omega.{arith}
-use Rattle.cursor.specs.Member.{In, keep, among}
+use Rattle.cursor.specs.Member.{In, keep}
 use Rattle.model.specs.Keys.{bucket_of}
 use Rattle.model.specs.Answers.{Reply, reply}
 use Rattle.model.specs.Calls.{old_new}
 use Rattle.model.specs.Walk.{Tables}
 use Rattle.model.specs.Sequences.{KeyCall, Call, PlainMap, keys_of, map_does}
 use Rattle.model.proofs.Tests.{Tells, tested, tested_not, tells_same}
-use Rattle.refinement.specs.Demand3.{Lengths, Ideal, ideal, table_of, size_in, key_answer, resize_answer, steps_first, on_answer, place_number, place_of, predict}
-use Rattle.model.proofs.Lists.{in_keep, of_keep, tells_among}
+use Rattle.refinement.specs.Demand3.{Lengths, Ideal, ideal, among, table_of, size_in, key_answer, resize_answer, steps_first, on_answer, place_number, place_of, predict}
+use Rattle.model.proofs.Lists.{in_keep, of_keep}
+use Rattle.refinement.proofs.PlainMaps.{tells_among}
 use Rattle.refinement.proofs.IdealSteps.{any_resize, resize_plain, any_growth, any_first, paused_stays}
 
 -- a call finds the ideal as it is

@@ -12,7 +12,7 @@ use native.Mathlib.Omega.{arith}
 use lib.ListN.{length}
 use lib.Dec.{eqb}
 use borrow.Author.Tests.{eqb-true, eqb-false}
-use Rattle.cursor.specs.Member.{In, Distinct, keep, among}
+use Rattle.cursor.specs.Member.{In, Distinct, keep}
 use Rattle.model.specs.declared.State.{State}
 use Rattle.model.specs.declared.Table.{Table}
 use Rattle.model.specs.declared.Error.{Error}
@@ -27,8 +27,8 @@ use Rattle.model.specs.Calls as calls
 use Rattle.model.specs.Sequences.{Outcome, World, KeyCall, kept, left, given, perform, carry, Pair, PlainMap, keys_of, value_for, with_value, without, with_pairs, map_answer, map_does}
 use Rattle.model.proofs.Tests.{told, tested}
 use Rattle.refinement.specs.Worlds.{current, other}
-use Rattle.refinement.specs.Demand3.{Ideal, ideal, key_answer}
-use Rattle.model.proofs.Lists.{in_keep, of_keep, distinct_keep, keep_all, tells_among}
+use Rattle.refinement.specs.Demand3.{Ideal, ideal, among, key_answer}
+use Rattle.model.proofs.Lists.{in_keep, of_keep, distinct_keep, keep_all}
 use Rattle.invariant.proofs.Shape.{IsBucket, shape_sound}
 use Rattle.invariant.proofs.Places.{key_bucket, key_live}
 use Rattle.invariant.proofs.StoreAfter.{HeldIn, StoreAfter}
@@ -40,7 +40,7 @@ use Rattle.invariant.proofs.CallAnswers.{find_held, update_held, add_held, delet
 use Rattle.refinement.proofs.Orientation.{sound_at, reads_sound, left_reply, left_world}
 use Rattle.refinement.proofs.HiddenSteps.{alone}
 use Rattle.refinement.proofs.Refusals.{alone_keeps, find_keeps}
-use Rattle.refinement.proofs.PlainMaps.{pair, value_key, key_value, value_new, value_not_new, distinct_new, value_changed, value_not_changed, keys_changed, length_changed, value_taken, value_not_taken, length_taken, distinct_taken}
+use Rattle.refinement.proofs.PlainMaps.{pair, value_key, key_value, value_new, value_not_new, distinct_new, value_changed, value_not_changed, keys_changed, length_changed, value_taken, value_not_taken, length_taken, distinct_taken, tells_among}
 use Rattle.refinement.proofs.Agreement.{Agrees, Comes, Says, after_agrees, kept_agrees}
 
 not_new : (b c : ℕ) → Place.bucket Table.Old b ≡ Place.bucket Table.New c → ⊥

@@ -5,7 +5,7 @@ use lib.ListN.{length}
 use Rattle.model.specs.Answers.{reply}
 use Rattle.model.specs.Sequences.{Call}
 use Rattle.refinement.specs.Demand3.{Lengths, Ideal, ideal, start_number, with_notes, predict}
-use Rattle.refinement.proofs.IdealSteps.{any_hand, any_read, any_note, any_whole}
+use Rattle.refinement.proofs.IdealSteps.{any_hand, any_read, any_note}
 use Rattle.refinement.proofs.LiveTables.{Legal}
 use Rattle.refinement.proofs.KeyTables.{after_resize, after_start, step_legal, on_legal}
 
@@ -20,4 +20,3 @@ module _ (l : Lengths) (i : Ideal) (legal : Legal i.tables) where
   predict_legal (Call.iterate place lent) = any_hand i (λ r. Legal r.state.tables) _ _ (length lent) legal legal
   predict_legal (Call.read c) = any_read i (λ r. Legal r.state.tables) c (λ vs. legal) legal
   predict_legal (Call.note c) = any_note i (λ r. Legal r.state.tables) c (λ allowed iterators. legal) legal legal
-  predict_legal (Call.whole c) = any_whole i (λ r. Legal r.state.tables) c (λ vs. legal)

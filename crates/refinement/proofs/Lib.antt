@@ -11,8 +11,6 @@ pub mod Demand1Calls
 pub mod Demand1Lists
 pub mod Growth
 pub mod Demand1Steps
-pub mod Demand1Whole
-pub mod OnlyReads
 pub mod Refusals
 -- the plain map, and a store that agrees with the ideal, call by call
 pub mod PlainMaps
@@ -25,8 +23,6 @@ pub mod MovedKeys
 pub mod RehashSteps
 pub mod SteppedKeys
 pub mod GrownKeys
-pub mod SameChains
-pub mod WholeSteps
 -- the walk call, the call that iterates, and the pairs of a store
 pub mod LiveTables
 pub mod GroupPlaces
@@ -61,7 +57,3 @@ pub mod IdealCalls
 pub mod RehashesEnd
 pub mod Tally
 pub mod NeverDamaged
--- check and mend
-pub mod AfterRepair
-pub mod Meeting
-pub mod Integrity

@@ -18,7 +18,7 @@ use Rattle.model.specs.Sequences.{World, KeyCall, Call, Outcome, run, Event, eve
 use Rattle.refinement.specs.Worlds.{UndamagedAt}
 use Rattle.refinement.specs.Demand1.{SoundChain}
 use Rattle.refinement.specs.Demand3.{Lengths, lengths_of, Ideal, start_number, start_answer, key_answer, on_answer, then_grows, resize_answer, after_step, predict, Answered, SequenceHolds, Demand3}
-use Rattle.refinement.proofs.IdealSteps.{either, any_step, any_resize, any_hand, any_read, any_note, any_whole}
+use Rattle.refinement.proofs.IdealSteps.{either, any_step, any_resize, any_hand, any_read, any_note}
 use Rattle.refinement.proofs.Demand1Chains.{AtPlace, place_read, place_sound}
 use Rattle.refinement.proofs.Contents.{undamaged_ideal}
 
@@ -79,7 +79,6 @@ module _ (l : Lengths) (i : Ideal) where
   predicted_other (Call.iterate place lent) = any_hand i Other _ _ (length lent) (other 0 refl) (other 9 refl)
   predicted_other (Call.read c) = any_read i Other c (λ vs. other 0 refl) (other 15 refl)
   predicted_other (Call.note c) = any_note i Other c (λ allowed iterators. other 0 refl) (other 16 refl) (other 17 refl)
-  predicted_other (Call.whole c) = any_whole i Other c (λ vs. other 0 refl)
 
 -- of none of these calls the number is 2
 unfoldable pub NoneDamaged : List Event → Type 0

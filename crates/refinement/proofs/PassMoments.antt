@@ -13,7 +13,7 @@ use native.Mathlib.Nat.{mod-lt}
 use native.Mathlib.Omega.{arith}
 use lib.ListN.{get_or}
 use lib.Dec.{leb}
-use Rattle.cursor.specs.Member.{In, Distinct, any, keep, among}
+use Rattle.cursor.specs.Member.{In, Distinct, any, keep}
 use Rattle.model.specs.declared.Table.{Table}
 use Rattle.model.specs.Keys.{bucket_of, hash}
 use Rattle.model.specs.Limits.{legal_size, largest_exponent}
@@ -26,10 +26,11 @@ use Rattle.model.proofs.Power.{legal_pos}
 use Rattle.model.proofs.Tests.{Tells, told, tested, tested_not, true_not_false, tells_and, tells_le, tells_eq}
 use Rattle.model.proofs.FirstPlace.{NonePass, Found, first_found}
 use Rattle.refinement.specs.Demand2.{place_behind}
-use Rattle.refinement.specs.Demand3.{Lengths, Ideal, table_of, size_in, place_number, place_of, is_at, first_held, bucket_pairs, place_pairs, hand_answer, predict, handed_out, AsPredicted, Answered, Visit, visit, HeldAtEach, keys_handed}
+use Rattle.refinement.specs.Demand3.{Lengths, Ideal, among, table_of, size_in, place_number, place_of, is_at, first_held, bucket_pairs, place_pairs, hand_answer, predict, handed_out, AsPredicted, Answered, Visit, visit, HeldAtEach, keys_handed}
 use Rattle.refinement.specs.ExactlyOnce.{times}
 use Rattle.refinement.specs.SafeIterators.{onlooker, Pass, stays, PassHolds}
-use Rattle.model.proofs.Lists.{in_map, of_map, in_keep, of_keep, tells_any, tells_among}
+use Rattle.model.proofs.Lists.{in_map, of_map, in_keep, of_keep, tells_any}
+use Rattle.refinement.proofs.PlainMaps.{tells_among}
 use Rattle.refinement.proofs.IdealSteps.{either, one_at_most, any_hand}
 use Rattle.refinement.proofs.LiveTables.{Legal}
 use Rattle.refinement.proofs.LegalTables.{predict_legal}

@@ -8,7 +8,7 @@ use Rattle.cursor.specs.Member.{In}
 use Rattle.model.specs.Answers.{Reply, reply}
 use Rattle.model.specs.Sequences.{Call, keys_of}
 use Rattle.refinement.specs.Demand3.{Lengths, Ideal, ideal, begun, start_number, start_answer, place_of, with_notes, predict}
-use Rattle.refinement.proofs.IdealSteps.{any_hand, any_read, any_note, any_whole, paused_stays}
+use Rattle.refinement.proofs.IdealSteps.{any_hand, any_read, any_note, paused_stays}
 use Rattle.refinement.proofs.KeyPlaces.{Stays, resize_place, on_place}
 
 module _ (key : ℕ) (l : Lengths) (i : Ideal) (paused : 0 < i.iterators) where
@@ -34,4 +34,3 @@ module _ (key : ℕ) (l : Lengths) (i : Ideal) (paused : 0 < i.iterators) where
   place_stays (Call.iterate place lent) on was held = any_hand i Same _ _ _ refl refl
   place_stays (Call.read c) on was held = any_read i Same c (λ vs. refl) refl
   place_stays (Call.note c) on was held = any_note i Same c (λ allowed iterators. refl) refl refl
-  place_stays (Call.whole c) on was held = any_whole i Same c (λ vs. refl)

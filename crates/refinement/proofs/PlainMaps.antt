@@ -15,6 +15,7 @@ use borrow.Author.Tests.{eq-eqb, ne_eqb}
 use Rattle.cursor.specs.Member.{Distinct, In}
 use Rattle.model.specs.Sequences.{Pair, keys_of, value_for, with_value, without}
 use Rattle.model.proofs.Tests.{Tells, tells_same, tells_eq}
+use Rattle.refinement.specs.Demand3.{among}
 use Rattle.model.proofs.Lists.{in_map, tells_any}
 
 -- a pair of the map
@@ -231,3 +232,10 @@ pair_value p (q ∷ ps) d (inr i) =
     value_behind p.key q ps
     (λ e. d.0 (subst (λ (k : ℕ). In k (keys_of ps)) (sym e) (in_map (λ (r : Pair). r.key) p ps i)))
     ∙ pair_value p ps d.1 i
+
+-- The test for a key among some.
+pub tells_among : (key : ℕ) (keys : List ℕ) → Tells (In key keys) (among key keys)
+unfolding among
+tells_among key keys =
+    tells_same (λ h. subst (λ (k : ℕ). In k keys) h.2 h.1) (λ i. (key, i, refl))
+    (tells_any (λ k. k ≡ key) (λ k. eqb k key) (λ k. tells_eq k key) keys)

@@ -3,18 +3,23 @@
 -- Assumes nothing.
 use Prim.Native.Nat.{ℕ, zero, suc}
 use mathlib.Core.Path.{◌≡◌, refl, ap, ◌∙◌}
-use mathlib.Core.List.{List}
+use mathlib.Core.List.{List, [], ◌∷◌}
 use Rattle.model.specs.declared.State.{State}
-use Rattle.model.specs.Answers.{Reply, reply}
+use Rattle.model.specs.declared.FindAnswer.{FindAnswer}
+use Rattle.model.specs.declared.SizeAnswer.{SizeAnswer}
+use Rattle.model.specs.declared.BeginAnswer.{BeginAnswer}
+use Rattle.model.specs.declared.EndAnswer.{EndAnswer}
+use Rattle.model.specs.declared.ScanAnswer.{ScanAnswer}
+use Rattle.model.specs.Answers.{Reply, reply, find_reply, size_reply, begin_reply, end_reply, table_reply, scan_reply}
 use Rattle.model.specs.Calls as calls
+use Rattle.model.specs.Walk.{AfterScan}
 use Rattle.model.specs.Walk as walk
 use Rattle.model.specs.Iterators as iterators
-use Rattle.model.specs.Sequences.{World, world, KeyCall, ReadCall, WholeCall, Call, Outcome, kept, perform, carried_state, carry}
-use Rattle.refinement.specs.Demand1.{Row, Leaves, LeavesAll, LeavesBuffers, OnlyReads}
+use Rattle.model.specs.Sequences.{World, world, KeyCall, ReadCall, Call, Outcome, kept, kept_scan, given, perform, carried_state, carry}
+use Rattle.refinement.specs.Demand1.{Row, LeavesAll}
 use Rattle.refinement.proofs.HiddenSteps.{alone, before_growth}
 use Rattle.refinement.proofs.Demand1Calls.{Good, leaves, leaves_kept, alone_good}
 use Rattle.refinement.proofs.Demand1Steps.{before_good}
-use Rattle.refinement.proofs.OnlyReads.{only_reads}
 
 -- the buffers stay, and the state if the call is answered
 kept_carried : (w : World) (r : Reply State) (lent : List ℕ) → (r.number ≡ 0 → r.state ≡ w.state) → carry w (kept w r lent) ≡ w
@@ -44,28 +49,49 @@ module _ (w : World) where
       → carry w (before_growth w key c) ≡ w
   before_keeps key c n = left_keeps (Call.on key c) (before_growth w key c) (leaves (before_good w key c) n) n
 
-  -- a call that only reads leaves it whatever it answers
-
-  pub reads_keep : (o : Outcome) (lent : List ℕ) → LeavesBuffers w o w.state lent → carry w o ≡ w
-  unfolding LeavesBuffers Leaves reply
-  reads_keep o lent l = ap (carry w) l ∙ kept_carried w _ _ (λ e. refl)
+  -- find, the calls that are lent a list, and those that only read leave it whatever they answer
 
   pub find_keeps : (key : ℕ) → carry w (perform w (Call.on key KeyCall.find)) ≡ w
-  unfolding OnlyReads
-  find_keeps key = reads_keep _ _ (only_reads w (Call.on key KeyCall.find))
+  unfolding perform find_reply reply
+  find_keeps key = by (given w calls.find key)
+    where
+      by : (a : FindAnswer) → carry w (kept w (find_reply w.state a) []) ≡ w
+      by (FindAnswer.Found value) = kept_carried w _ _ (λ e. refl)
+      by (FindAnswer.Refused error) = kept_carried w _ _ (λ e. refl)
+
+  list_keeps : (a : AfterScan) → carry w (kept_scan w a) ≡ w
+  unfolding kept_scan scan_reply reply
+  list_keeps (AfterScan.after (ScanAnswer.Scanned next count) list) = kept_carried w _ _ (λ e. refl)
+  list_keeps (AfterScan.after (ScanAnswer.Short count) list) = kept_carried w _ _ (λ e. refl)
+  list_keeps (AfterScan.after (ScanAnswer.Refused error) list) = kept_carried w _ _ (λ e. refl)
 
   pub scan_keeps : (cursor : ℕ) (lent : List ℕ) → carry w (perform w (Call.scan cursor lent)) ≡ w
-  unfolding OnlyReads
-  scan_keeps cursor lent = reads_keep _ _ (only_reads w (Call.scan cursor lent))
+  unfolding perform
+  scan_keeps cursor lent = list_keeps (given w walk.scan lent cursor)
 
   pub iterate_keeps : (place : ℕ) (lent : List ℕ) → carry w (perform w (Call.iterate place lent)) ≡ w
-  unfolding OnlyReads
-  iterate_keeps place lent = reads_keep _ _ (only_reads w (Call.iterate place lent))
+  unfolding perform
+  iterate_keeps place lent = list_keeps (given w iterators.iterate lent place)
 
   pub read_keeps : (c : ReadCall) → carry w (perform w (Call.read c)) ≡ w
-  unfolding OnlyReads
-  read_keeps c = reads_keep _ _ (only_reads w (Call.read c))
-
-  pub verify_keeps : carry w (perform w (Call.whole WholeCall.verify)) ≡ w
-  unfolding OnlyReads
-  verify_keeps = reads_keep _ _ (only_reads w (Call.whole WholeCall.verify))
+  unfolding perform size_reply table_reply begin_reply end_reply reply
+  read_keeps (ReadCall.suggested_size growing) = by (given w calls.suggested_size growing)
+    where
+      by : (a : SizeAnswer) → carry w (kept w (size_reply w.state a) []) ≡ w
+      by (SizeAnswer.Suggested size) = kept_carried w _ _ (λ e. refl)
+      by (SizeAnswer.Refused error) = kept_carried w _ _ (λ e. refl)
+  read_keeps ReadCall.current_table = by (given w calls.current_table)
+    where
+      by : (a : List ℕ) → carry w (kept w (table_reply w.state a) []) ≡ w
+      by [] = kept_carried w _ _ (λ e. refl)
+      by (head ∷ rest) = kept_carried w _ _ (λ e. refl)
+  read_keeps ReadCall.begin_iterator = by (given w iterators.begin_iterator)
+    where
+      by : (a : BeginAnswer) → carry w (kept w (begin_reply w.state a) []) ≡ w
+      by (BeginAnswer.Begun fingerprint) = kept_carried w _ _ (λ e. refl)
+      by (BeginAnswer.Refused error) = kept_carried w _ _ (λ e. refl)
+  read_keeps (ReadCall.end_iterator fingerprint) = by (given w iterators.end_iterator fingerprint)
+    where
+      by : (a : EndAnswer) → carry w (kept w (end_reply w.state a) []) ≡ w
+      by EndAnswer.Ended = kept_carried w _ _ (λ e. refl)
+      by (EndAnswer.Refused error) = kept_carried w _ _ (λ e. refl)

@@ -13,7 +13,7 @@ use Rattle.model.specs.Answers.{Reply, reply}
 use Rattle.model.specs.Memory.{keys_held}
 use Rattle.model.specs.Sequences.{World, KeyCall, Call, Outcome, carry, run, Event, event, events, PlainMap, value_for, with_pairs, map_answer, map_does}
 use Rattle.refinement.specs.Demand3.{Lengths, lengths_of, Ideal, ideal, begun, start_number, start_answer, key_answer, on_answer, then_grows, after_step, with_notes, predict, replay, Answered, Demand3}
-use Rattle.refinement.proofs.IdealSteps.{any_step, any_resize, any_hand, any_read, any_note, any_whole, growth_plain}
+use Rattle.refinement.proofs.IdealSteps.{any_step, any_resize, any_hand, any_read, any_note, growth_plain}
 use Rattle.refinement.proofs.PlainMaps.{length_changed, length_taken}
 use Rattle.refinement.proofs.Demand3.{from_a_start}
 
@@ -30,7 +30,6 @@ keys_after (Call.scan cursor lent) keys = keys
 keys_after (Call.iterate place lent) keys = keys
 keys_after (Call.read c) keys = keys
 keys_after (Call.note c) keys = keys
-keys_after (Call.whole c) keys = keys
 
 -- over the events; a refused call changes nothing
 unfoldable pub tally : ℕ → List Event → ℕ
@@ -89,7 +88,6 @@ module _ (i : Ideal) where
   counted l (Call.iterate place lent) = any_hand i (Counted i (Call.iterate place lent)) _ _ (length lent) refl refl
   counted l (Call.read c) = any_read i (Counted i (Call.read c)) c (λ vs. refl) refl
   counted l (Call.note c) = any_note i (Counted i (Call.note c)) c (λ allowed iterators. refl) refl refl
-  counted l (Call.whole c) = any_whole i (Counted i (Call.whole c)) c (λ vs. refl)
 
 -- along a sequence whose answers are the ideal's
 tallied : (does : World → Call → Outcome) (l : Lengths) (w : World) (i : Ideal) (calls : List Call)

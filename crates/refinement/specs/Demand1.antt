@@ -12,7 +12,7 @@ use Rattle.model.specs.Answers.{reply}
 use Rattle.model.specs.Calls.{sound, no_state, step_due}
 use Rattle.model.specs.Walk.{tables_of, group_places}
 use Rattle.model.specs.Iterators.{bucket_at, end_place, fingerprint_of}
-use Rattle.model.specs.Sequences.{World, KeyCall, ReadCall, StateCall, WholeCall, Call, Outcome, kept, perform, carry}
+use Rattle.model.specs.Sequences.{World, KeyCall, ReadCall, StateCall, Call, Outcome, kept, perform, carry}
 use Rattle.refinement.specs.Worlds.{current, other, takes_step}
 
 -- By the state's flag, current is the bucket buffer of the old table (or the only one), other the other one.
@@ -202,7 +202,6 @@ rows w (Call.iterate place lent) =
     row 1 (BadState w) ∷ row 2 (BucketDamaged w place) ∷ row 9 (ShortFrom w place lent) ∷ []
 rows w (Call.read c) = row 1 (BadState w) ∷ read_rows w c
 rows w (Call.note c) = row 1 (BadState w) ∷ note_rows w c
-rows w (Call.whole c) = row 1 (BadState w) ∷ []
 
 -- the number is that of the first row whose condition holds, and 0 if none does
 unfoldable pub Decides : ℕ → List Row → Type 0
@@ -232,10 +231,6 @@ read_zeros ReadCall.current_table = []
 read_zeros ReadCall.begin_iterator = 0 ∷ []
 read_zeros (ReadCall.end_iterator fingerprint) = []
 
-unfoldable pub whole_zeros : WholeCall → List ℕ
-whole_zeros WholeCall.verify = 0 ∷ []
-whole_zeros WholeCall.repair = []
-
 unfoldable pub LeavesList : World → Outcome → (ℕ → Type 0) → List ℕ → Type 0
 LeavesList w o due lent =
     (count : ℕ) × RefusedCount due o.reply.number count × Leaves w o w.state (0 ∷ count ∷ []) lent
@@ -249,30 +244,7 @@ LeavesAll w (Call.scan cursor lent) o = LeavesList w o (KeysOn w (places w curso
 LeavesAll w (Call.iterate place lent) o = LeavesList w o (KeysFrom w place) lent
 LeavesAll w (Call.read c) o = Leaves w o w.state (read_zeros c) []
 LeavesAll w (Call.note c) o = Leaves w o w.state [] []
-LeavesAll w (Call.whole c) o = Leaves w o w.state (whole_zeros c) []
-
--- Answered too, a call that only reads leaves the state and all buffers, and one that sets a field of the state leaves all
--- buffers. Of these calls only a walk call and a call that iterates may write to the lent list.
-
-unfoldable pub LeavesBuffers : World → Outcome → State → List ℕ → Type 0
-LeavesBuffers w o back lent = Leaves w o back o.reply.values lent
-
-unfoldable pub OnlyReads : World → Call → Outcome → Type 0
-OnlyReads w (Call.on key KeyCall.find) o = LeavesBuffers w o w.state []
-OnlyReads w (Call.scan cursor lent) o = LeavesBuffers w o w.state o.lent
-OnlyReads w (Call.iterate place lent) o = LeavesBuffers w o w.state o.lent
-OnlyReads w (Call.read c) o = LeavesBuffers w o w.state []
-OnlyReads w (Call.whole WholeCall.verify) o = LeavesBuffers w o w.state []
-OnlyReads w (Call.note c) o = LeavesBuffers w o o.reply.state []
-OnlyReads w (Call.init capacity size) o = Unit {0}
-OnlyReads w (Call.on key (KeyCall.update value)) o = Unit {0}
-OnlyReads w (Call.on key (KeyCall.add value)) o = Unit {0}
-OnlyReads w (Call.on key KeyCall.delete) o = Unit {0}
-OnlyReads w (Call.resize size) o = Unit {0}
-OnlyReads w Call.rehash_step o = Unit {0}
-OnlyReads w (Call.whole WholeCall.repair) o = Unit {0}
 
 pub record Demand1 (does : World → Call → Outcome) : Type 0 where
   pub numbers : (w : World) (c : Call) → Decides (does w c).reply.number (rows w c)
   pub refusals : (w : World) (c : Call) → ¬ ((does w c).reply.number ≡ 0) → LeavesAll w c (does w c)
-  pub reads : (w : World) (c : Call) → OnlyReads w c (does w c)

@@ -3,7 +3,7 @@
 -- which is said of the memory) and where each key is.
 use Rattle.std.specs.Prelude.{ℕ, zero, suc, ◌+◌, ◌-◌, ◌*◌, ◌≤◌, ◌<◌, max, min, ◌≡◌, Bool, true, false, ◌&&◌, cond, not, List, [], ◌∷◌, ◌++◌, length, take, drop, get_or, leb, ltb, eqb}
 use Rattle.std.proofs.Math.Option.{Option, none, some}
-use Rattle.cursor.specs.Member.{In, Distinct, any, keep, among}
+use Rattle.cursor.specs.Member.{In, Distinct, any, keep}
 use Rattle.cursor.specs.Next.{next}
 use Rattle.fingerprint.specs.Mix.{fingerprint}
 use Rattle.model.specs.declared.Table.{Table}
@@ -14,7 +14,7 @@ use Rattle.model.specs.Answers.{Reply, reply}
 use Rattle.model.specs.Calls.{long_enough, acceptable, suggested, growth_due, old_new}
 use Rattle.model.specs.Walk.{Tables, tables_of, smaller_of, group_places}
 use Rattle.model.specs.Iterators.{first_place, numbers_of}
-use Rattle.model.specs.Sequences.{World, KeyCall, ReadCall, StateCall, WholeCall, Call, Outcome, carry, run, Event, events, Pair, PlainMap, keys_of, map_does}
+use Rattle.model.specs.Sequences.{World, KeyCall, ReadCall, StateCall, Call, Outcome, carry, run, Event, events, Pair, PlainMap, keys_of, map_does}
 use Rattle.refinement.specs.Worlds.{current, UndamagedAt, Held, Holds, takes_step, may_grow}
 use Rattle.refinement.specs.Demand2.{next_cursor, HandsOut, place_behind, IteratesOut}
 
@@ -55,6 +55,9 @@ ideal plain tables turned unmoved index allowed iterators =
 -- after a start
 unfoldable pub begun : ℕ → ℕ → Ideal
 begun capacity size = ideal (record { capacity = capacity; pairs = [] }) (Tables.one size) false [] 0 true 0
+
+unfoldable pub among : ℕ → List ℕ → Bool
+among key keys = any (λ k. eqb k key) keys
 
 -- the table that a key is in, if it is held, and the size of a table
 
@@ -232,12 +235,6 @@ note_answer i StateCall.begin_safe =
     (reply 17 [] i)
 note_answer i StateCall.end_safe = end_answer i i.iterators
 
--- A check says yes: no call of a sequence damages the store. A repair of what is undamaged puts the free list in order, of
--- which the ideal knows nothing.
-unfoldable pub whole_answer : Ideal → WholeCall → Reply Ideal
-whole_answer i WholeCall.verify = reply 0 (1 ∷ []) i
-whole_answer i WholeCall.repair = reply 0 [] i
-
 unfoldable pub predict : Lengths → Ideal → Call → Reply Ideal
 predict l i (Call.init capacity size) = start_answer i capacity size (start_number l capacity size)
 predict l i (Call.on key c) = then_grows l c (on_answer i c (map_does i.plain key c))
@@ -250,7 +247,6 @@ predict l i (Call.iterate place lent) =
     hand_answer i (place_behind i.tables (first_held i place)) (length (place_pairs i place)) (length lent)
 predict l i (Call.read c) = read_answer i c
 predict l i (Call.note c) = note_answer i c
-predict l i (Call.whole c) = whole_answer i c
 
 unfoldable pub replay : Lengths → Ideal → List Call → Ideal
 replay l i [] = i

@@ -6,4 +6,3 @@ pub mod Demand3
 pub mod ExactlyOnce
 pub mod RehashesEnd
 pub mod SafeIterators
-pub mod Integrity

@@ -39,7 +39,6 @@ steps_in iterators (Call.scan cursor lent) = false
 steps_in iterators (Call.iterate place lent) = false
 steps_in iterators (Call.read c) = false
 steps_in iterators (Call.note c) = false
-steps_in iterators (Call.whole c) = false
 
 unfoldable pub answered_step : Ideal → Call → (number : ℕ) → Bool
 answered_step i c number = steps_in i.iterators c && eqb number 0

@@ -5,9 +5,8 @@ use Rattle.model.specs.Walk.{smaller_of}
 use Rattle.model.specs.Iterators.{end_place}
 use Rattle.model.specs.Sequences.{World, Call, Outcome, Event, events, keys_of}
 use Rattle.refinement.specs.Worlds.{UndamagedAt}
-use Rattle.refinement.specs.Demand3.{Lengths, Ideal, Matches, predict, Visit, visit, HeldAtEach}
+use Rattle.refinement.specs.Demand3.{Lengths, Ideal, Matches, among, predict, Visit, visit, HeldAtEach}
 use Rattle.refinement.specs.ExactlyOnce.{times}
-use Rattle.cursor.specs.Member.{among}
 
 -- at a call that is none of the pass's the same is seen, but that it hands out nothing to the pass
 unfoldable pub onlooker : ℕ → Ideal → Visit

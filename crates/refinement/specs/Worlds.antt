@@ -18,17 +18,13 @@ other w = oriented w.state.second_is_current (λ first second. second) w.first w
 unfoldable pub UndamagedAt : World → Type 0
 UndamagedAt w = Undamaged w.state (current w) (other w) w.entries
 
--- the entries of a chain
-abbrev pub entries_in : World → Place → List ℕ
-entries_in w p = entries_at w.state (current w) (other w) w.entries p
-
 -- an entry in a bucket of a live table has the key and the value
 pub record Held (w : World) (key value : ℕ) : Type 0 where
   pub entry : ℕ
   pub table : Table
   pub index : ℕ
   pub live : index < size_of w.state table
-  pub there : In entry (entries_in w (Place.bucket table index))
+  pub there : In entry (entries_at w.state (current w) (other w) w.entries (Place.bucket table index))
   pub its_key : key_of w.entries entry ≡ key
   pub its_value : value_of w.entries entry ≡ value
 

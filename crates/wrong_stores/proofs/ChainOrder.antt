@@ -1,24 +1,24 @@
--- No demand fixes the order of a chain: by Reordered it is nothing to `undamaged` and `matches`; `answers` and `walks` do
--- not look at the memory, and `exact`, `exact_pass` and `look` say what lies in it. So demand 3 leaves an add at the end of the
--- chain open, and a find that reorders it. Demand 1 excludes that find, and leaves the add open: it is excluded by what the
--- call itself promises alone, its equation with its definition. Here: demand 3 holds of both stores at a history at which they
--- differ from ours, demand 1 of the add's; and what excludes each.
+-- No statement fixes the order of a chain: by Reordered it is nothing to `undamaged` and `matches`; `answers` and `walks` do
+-- not look at the memory, and `exact`, `exact_pass` and `look` say what lies in it. So an add at the end of the chain and a
+-- find that reorders it are excluded by what the call itself promises alone, its equation with its definition; besides, a
+-- find is lent its buffers for reading only. Here: demand 1 holds of both stores as of ours, demand 3 too at a history at
+-- which they differ from ours; and that they differ.
 -- Assumes nothing.
-use Prim.Native.Nat.{ℕ, zero, suc}
+use Prim.Native.Nat.{ℕ, zero, suc, ◌+◌, ◌*◌}
 use mathlib.Core.Path.{◌≡◌, refl, ◌∙◌}
 use mathlib.Core.Bool.{Bool, true, false}
 use mathlib.Core.Logic.{◌⊎◌, inl, inr}
 use mathlib.Core.List.{List, [], ◌∷◌}
 use lib.ListN.{get_or, take, replicate}
+use lib.Seq.{get_or-set_other}
 use native.Mathlib.Omega.{arith}
 use borrow.Author.Tests.{eqb-false}
 use Rattle.model.specs.declared.Table.{Table}
-use Rattle.model.specs.Memory.{set_link, Place, Live}
+use Rattle.model.specs.Memory.{key_of, value_of, set_link, Place, Live}
 use Rattle.model.specs.declared.State.{State}
 use Rattle.model.specs.Answers.{Reply}
 use Rattle.model.specs.Calls.{oriented, back, changed, old_new, empty_state, recounted, noted}
 use Rattle.model.specs.Sequences.{World, world, ReadCall, Call, Outcome, left, perform, run, Event, events}
-use Rattle.model.proofs.Fields.{key_set_link, value_set_link}
 use Rattle.refinement.specs.Worlds.{current, UndamagedAt}
 use Rattle.refinement.specs.Demand1.{Demand1}
 use Rattle.refinement.specs.Demand2.{HandsOut, IteratesOut}
@@ -27,12 +27,26 @@ use Rattle.refinement.proofs.Demand1.{demand1}
 use Rattle.refinement.proofs.Demand2.{demand2}
 use Rattle.refinement.proofs.Demand3.{demand3}
 use Rattle.wrong_stores.specs.OneCall as one
-use Rattle.wrong_stores.specs.OneCall.{if_done}
+use Rattle.wrong_stores.specs.OneCall.{but_add, but_find, if_done}
 use Rattle.wrong_stores.specs.KeyCalls as wrong
 use Rattle.wrong_stores.specs.KeyCalls.{relinked, reordering, adds_at_end, finds_to_front}
 use Rattle.wrong_stores.proofs.Start.{zeros, computing, alike, started, reached, started_ideal, find, add, at, apart}
 use Rattle.wrong_stores.proofs.Reordered.{SameAt, Reordered, reordered_undamaged, reordered_matches}
-use Rattle.wrong_stores.proofs.SameNumbers.{Near, near_demand1, near_done}
+use Rattle.wrong_stores.proofs.SameNumbers.{Near, near_demand1, near_done, near-keys}
+
+-- To link entries anew changes no key and no value.
+
+link-key : (entries : List ℕ) (m link n : ℕ) → key_of (set_link entries m link) n ≡ key_of entries n
+unfolding key_of set_link
+link-key entries zero link n = refl
+link-key entries (suc m) link zero = refl
+link-key entries (suc m) link (suc n) = get_or-set_other entries (m * 3) (n * 3 + 1) link 0 (omega arith)
+
+link-value : (entries : List ℕ) (m link n : ℕ) → value_of (set_link entries m link) n ≡ value_of entries n
+unfolding value_of set_link
+link-value entries zero link n = refl
+link-value entries (suc m) link zero = refl
+link-value entries (suc m) link (suc n) = get_or-set_other entries (m * 3) (n * 3 + 2) link 0 (omega arith)
 
 -- Two keys in one bucket: ours has the second before the first.
 
@@ -71,8 +85,8 @@ turned_reordered =
     record {
       places = turned_places;
       empty = turned_empty;
-      key = λ n. key_set_link _ 1 n 2 ∙ key_set_link ours.entries 2 n 0;
-      value = λ n. value_set_link _ 1 n 2 ∙ value_set_link ours.entries 2 n 0;
+      key = λ n. link-key _ 1 2 n ∙ link-key ours.entries 2 0 n;
+      value = λ n. link-value _ 1 2 n ∙ link-value ours.entries 2 0 n;
       current_length = refl;
       other_length = refl;
       lengths = refl;
@@ -159,17 +173,28 @@ unfolding reordering if_done
 reordering_near key order o = near_done (reordering key order o) o (changed_reply _ _ o.reply _ _ _ _) _ refl
 
 pub adds_at_end_demand1 : Demand1 adds_at_end
-unfolding adds_at_end
-adds_at_end_demand1 = near_demand1 _ (λ key value w o. reordering_near key _ o) demand1
+unfolding adds_at_end but_add one.none
+adds_at_end_demand1 =
+    near_demand1 adds_at_end
+    (near-keys _ _ _ _ (λ key w o. inl refl) (λ key value w o. inl refl) (λ key value w o. reordering_near key _ o)
+    (λ key w o. inl refl))
+    demand1
 
--- What excludes the first: it leaves another head in the bucket than the definition of the call says.
+pub findsToFront-demand1 : Demand1 finds_to_front
+unfolding finds_to_front but_find one.none
+findsToFront-demand1 =
+    near_demand1 finds_to_front
+    (near-keys _ _ _ _ (λ key w o. reordering_near key _ o) (λ key value w o. inl refl) (λ key value w o. inl refl)
+    (λ key w o. inl refl))
+    demand1
+
+-- What excludes them: they leave another head in the bucket than the definitions of the calls say.
 
 pub adds_at_end_excluded : ((w : World) (c : Call) → adds_at_end w c ≡ perform w c) → ⊥
 unfolding computing adds_at_end reordering relinked wrong.head wrong.to_end
 adds_at_end_excluded same =
     apart (λ (o : Outcome). get_or o.first 0 0) _ _ refl (same (reached 1 (add 1 10 ∷ [])) (add 2 20))
 
--- And the second: demand 1, `reads`.
-pub finds_to_front_excluded : Demand1 finds_to_front → ⊥
+pub finds_to_front_excluded : ((w : World) (c : Call) → finds_to_front w c ≡ perform w c) → ⊥
 unfolding computing finds_to_front reordering relinked wrong.head wrong.to_front ours
-finds_to_front_excluded d = apart (λ (o : Outcome). get_or o.first 0 0) _ _ refl (d.reads ours (find 1))
+finds_to_front_excluded same = apart (λ (o : Outcome). get_or o.first 0 0) _ _ refl (same ours (find 1))

@@ -15,7 +15,6 @@ pub mod Passes
 pub mod Iterators
 pub mod SafeIterators
 pub mod OneMoment
-pub mod Integrity
 pub mod Unreached
 pub mod Reordered
 pub mod SameNumbers

@@ -13,13 +13,13 @@ use borrow.Author.Tests.{eqb-false}
 use Rattle.cursor.specs.Member.{In}
 use Rattle.model.specs.declared.Table.{Table}
 use Rattle.model.specs.Memory as memory
-use Rattle.model.specs.Memory.{link_of, key_of, value_of, Place, Live, size_of}
+use Rattle.model.specs.Memory.{link_of, key_of, value_of, Place, Live, size_of, entries_at}
 use Rattle.model.specs.Calls as calls
 use Rattle.model.specs.Sequences as sequences
 use Rattle.model.specs.Sequences.{World, KeyCall, ReadCall, StateCall, Call, Outcome, perform, carry, run, events}
 use Rattle.model.proofs.Computing as model
 use Rattle.refinement.specs.Worlds as worlds
-use Rattle.refinement.specs.Worlds.{current, other, UndamagedAt, entries_in, Held}
+use Rattle.refinement.specs.Worlds.{current, other, UndamagedAt, Held}
 use Rattle.refinement.specs.Demand1 as demand1
 use Rattle.refinement.specs.Demand1.{nth, Chain}
 use Rattle.refinement.specs.Demand2 as demand2
@@ -31,7 +31,6 @@ use Rattle.refinement.specs.SafeIterators as safe
 use Rattle.refinement.specs.SafeIterators.{SafeIterators, Pass, PassHolds}
 use Rattle.refinement.specs.RehashesEnd as ends
 use Rattle.refinement.specs.RehashesEnd.{RehashEnds, RehashesEnd}
-use Rattle.refinement.specs.Integrity as whole
 use Rattle.refinement.proofs.Demand3 as ours
 use Rattle.wrong_stores.specs.OneCall as one
 use Rattle.wrong_stores.specs.OneCall.{by_call, by_read_call}
@@ -83,21 +82,21 @@ end_safe = Call.note StateCall.end_safe
 unfoldable pub is_look : Call → ℕ
 is_look =
     by_call (λ capacity size. 0) (λ key c. 0) (λ size. 0) 0 (λ cursor lent. 0) (λ place lent. 0)
-    (by_read_call (λ growing. 0) 1 0 (λ fingerprint. 0)) (λ c. 0) (λ c. 0)
+    (by_read_call (λ growing. 0) 1 0 (λ fingerprint. 0)) (λ c. 0)
 
 unfoldable pub is_lent : Call → ℕ
-is_lent = by_call (λ capacity size. 0) (λ key c. 0) (λ size. 0) 0 (λ cursor lent. 1) (λ place lent. 1) (λ c. 0) (λ c. 0) (λ c. 0)
+is_lent = by_call (λ capacity size. 0) (λ key c. 0) (λ size. 0) 0 (λ cursor lent. 1) (λ place lent. 1) (λ c. 0) (λ c. 0)
 
 -- All that a refutation computes with, opened by one name, `computing`: what a history computes with, and these.
 
 -- ours but for one call
 unfoldable pub the_stores : Unit {0}
-unfolding one.none one.by_call one.by_key_call one.by_read_call one.by_state_call one.by_whole_call one.but one.but_init one.but_on one.but_resize one.but_step one.but_scan one.but_iterate one.but_read one.but_note one.but_whole one.but_find one.but_update one.but_add one.but_delete one.but_suggested_size one.but_look one.but_begin one.but_end one.but_allow one.but_begin_safe one.but_end_safe one.but_verify one.but_repair one.by_number one.if_done one.if_refused one.if_damaged one.replying one.answering one.handing_back one.listing one.leaving
+unfolding one.none one.by_call one.by_key_call one.by_read_call one.by_state_call one.but one.but_init one.but_on one.but_resize one.but_step one.but_scan one.but_iterate one.but_read one.but_note one.but_find one.but_update one.but_add one.but_delete one.but_suggested_size one.but_look one.but_begin one.but_end one.but_allow one.but_begin_safe one.but_end_safe one.by_number one.if_done one.if_refused one.if_damaged one.replying one.answering one.handing_back one.listing one.leaving
 the_stores = tt
 
 -- the demands, and what they say of a world
 unfoldable pub the_statements : Unit {0}
-unfolding worlds.current worlds.other worlds.UndamagedAt worlds.takes_step worlds.may_grow demand1.BadState demand1.nth demand1.head_of demand1.ChainAt demand1.SoundChain demand1.Damaged demand1.live_tables demand1.key_places demand1.OnChain demand1.KeyHeld demand1.Full demand1.FreeListDamaged demand1.EmptyFrom demand1.EndFirst demand1.StepDamaged demand1.places demand1.KeysOn demand1.TooMany demand1.GroupDamaged demand1.Short demand1.place_at demand1.BucketDamaged demand1.KeysFrom demand1.ShortFrom demand1.row demand1.key_rows demand1.alone_rows demand1.step_world demand1.on_rows demand1.read_rows demand1.note_rows demand1.rows demand1.Decides demand1.Leaves demand1.key_zeros demand1.read_zeros demand1.whole_zeros demand1.LeavesList demand1.LeavesAll demand1.LeavesBuffers demand1.OnlyReads demand2.group_entries demand2.next_cursor demand2.handing demand2.HandsOut demand2.first_filled demand2.place_behind demand2.bucket_entries demand2.IteratesOut demand3.lengths_of demand3.ideal demand3.begun demand3.table_of demand3.size_in demand3.start_number demand3.start_answer demand3.key_answer demand3.resize_answer demand3.lowest demand3.after_step demand3.step_taken demand3.step_answer demand3.steps_first demand3.on_answer demand3.grows demand3.then_grows demand3.is_bucket demand3.in_group demand3.group_pairs demand3.place_number demand3.place_of demand3.is_at demand3.first_held demand3.bucket_pairs demand3.place_pairs demand3.hand_answer demand3.live_sizes demand3.keys_in demand3.ideal_print demand3.read_answer demand3.with_notes demand3.end_answer demand3.note_answer demand3.whole_answer demand3.predict demand3.replay demand3.pairs_in demand3.handed_out demand3.visit demand3.Answered demand3.largest demand3.HeldAtEach demand3.keys_handed once.times once.NotShrinking once.shrinks once.least safe.onlooker safe.stays ends.OngoingBy ends.Ongoing ends.UnderWay ends.steps_in ends.answered_step ends.answered_steps ends.filled_buckets ends.most_steps ends.Advances whole.after_repair whole.nth_in whole.following whole.Upwards
+unfolding worlds.current worlds.other worlds.UndamagedAt worlds.takes_step worlds.may_grow demand1.BadState demand1.nth demand1.head_of demand1.ChainAt demand1.SoundChain demand1.Damaged demand1.live_tables demand1.key_places demand1.OnChain demand1.KeyHeld demand1.Full demand1.FreeListDamaged demand1.EmptyFrom demand1.EndFirst demand1.StepDamaged demand1.places demand1.KeysOn demand1.TooMany demand1.GroupDamaged demand1.Short demand1.place_at demand1.BucketDamaged demand1.KeysFrom demand1.ShortFrom demand1.row demand1.key_rows demand1.alone_rows demand1.step_world demand1.on_rows demand1.read_rows demand1.note_rows demand1.rows demand1.Decides demand1.Leaves demand1.key_zeros demand1.read_zeros demand1.LeavesList demand1.LeavesAll demand2.group_entries demand2.next_cursor demand2.handing demand2.HandsOut demand2.first_filled demand2.place_behind demand2.bucket_entries demand2.IteratesOut demand3.lengths_of demand3.ideal demand3.begun demand3.among demand3.table_of demand3.size_in demand3.start_number demand3.start_answer demand3.key_answer demand3.resize_answer demand3.lowest demand3.after_step demand3.step_taken demand3.step_answer demand3.steps_first demand3.on_answer demand3.grows demand3.then_grows demand3.is_bucket demand3.in_group demand3.group_pairs demand3.place_number demand3.place_of demand3.is_at demand3.first_held demand3.bucket_pairs demand3.place_pairs demand3.hand_answer demand3.live_sizes demand3.keys_in demand3.ideal_print demand3.read_answer demand3.with_notes demand3.end_answer demand3.note_answer demand3.predict demand3.replay demand3.pairs_in demand3.handed_out demand3.visit demand3.Answered demand3.largest demand3.HeldAtEach demand3.keys_handed once.times once.NotShrinking once.shrinks once.least safe.onlooker safe.stays ends.OngoingBy ends.Ongoing ends.UnderWay ends.steps_in ends.answered_step ends.answered_steps ends.filled_buckets ends.most_steps ends.Advances
 the_statements = tt
 
 unfoldable pub computing : Unit {0}
@@ -212,6 +211,10 @@ no_scan is_not same = eqb-false 0 1 refl (sym is_not ∙ ap is_lent same)
 pub no_iterate : {c : Call} {place : ℕ} {lent : List ℕ} → is_lent c ≡ 0 → c ≡ Call.iterate place lent → ⊥
 unfolding is_lent by_call
 no_iterate is_not same = eqb-false 0 1 refl (sym is_not ∙ ap is_lent same)
+
+-- the entries at a place
+abbrev pub entries_in : World → Place → List ℕ
+entries_in w p = entries_at w.state (current w) (other w) w.entries p
 
 -- a chain of one entry
 pub single : (test : ℕ → Bool) (entries : List ℕ) (capacity head : ℕ) → 0 < head → head ≤ capacity

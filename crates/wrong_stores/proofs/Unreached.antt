@@ -13,11 +13,11 @@ use Rattle.model.specs.declared.Table.{Table}
 use Rattle.model.specs.Memory.{Place, Live, chain_at}
 use Rattle.model.specs.Calls.{state_of, old_new}
 use Rattle.model.specs.Sequences.{World, world, run}
-use Rattle.refinement.specs.Worlds.{UndamagedAt, entries_in}
+use Rattle.refinement.specs.Worlds.{UndamagedAt}
 use Rattle.refinement.specs.Demand3.{lengths_of, Demand3}
 use Rattle.refinement.proofs.Contents.{undamaged_ideal}
 use Rattle.wrong_stores.specs.Unreached.{emptied, emptied_if, loses}
-use Rattle.wrong_stores.proofs.Start.{computing, forbid, find}
+use Rattle.wrong_stores.proofs.Start.{computing, forbid, find, entries_in}
 
 unfoldable losing : Unit {0}
 unfolding computing emptied emptied_if loses

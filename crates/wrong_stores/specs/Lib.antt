@@ -12,5 +12,4 @@ pub mod Refusals
 pub mod Strays
 pub mod Passes
 pub mod Iterators
-pub mod Integrity
 pub mod Unreached

@@ -2,20 +2,19 @@
 use Rattle.std.specs.Prelude.{ℕ, zero, suc, Bool, cond, List, eqb}
 use Rattle.model.specs.declared.State.{State}
 use Rattle.model.specs.Answers.{Reply, reply}
-use Rattle.model.specs.Sequences.{World, KeyCall, ReadCall, StateCall, WholeCall, Call, Outcome, perform}
+use Rattle.model.specs.Sequences.{World, KeyCall, ReadCall, StateCall, Call, Outcome, perform}
 
 -- Something for each class of calls, ..
 unfoldable pub by_call : {A : Type 0} → (ℕ → ℕ → A) → (ℕ → KeyCall → A) → (ℕ → A) → A → (scan iterate : ℕ → List ℕ → A)
-    → (ReadCall → A) → (StateCall → A) → (WholeCall → A) → Call → A
-by_call init on resize step scan iterate read note whole (Call.init capacity size) = init capacity size
-by_call init on resize step scan iterate read note whole (Call.on key c) = on key c
-by_call init on resize step scan iterate read note whole (Call.resize size) = resize size
-by_call init on resize step scan iterate read note whole Call.rehash_step = step
-by_call init on resize step scan iterate read note whole (Call.scan cursor lent) = scan cursor lent
-by_call init on resize step scan iterate read note whole (Call.iterate place lent) = iterate place lent
-by_call init on resize step scan iterate read note whole (Call.read c) = read c
-by_call init on resize step scan iterate read note whole (Call.note c) = note c
-by_call init on resize step scan iterate read note whole (Call.whole c) = whole c
+    → (ReadCall → A) → (StateCall → A) → Call → A
+by_call init on resize step scan iterate read note (Call.init capacity size) = init capacity size
+by_call init on resize step scan iterate read note (Call.on key c) = on key c
+by_call init on resize step scan iterate read note (Call.resize size) = resize size
+by_call init on resize step scan iterate read note Call.rehash_step = step
+by_call init on resize step scan iterate read note (Call.scan cursor lent) = scan cursor lent
+by_call init on resize step scan iterate read note (Call.iterate place lent) = iterate place lent
+by_call init on resize step scan iterate read note (Call.read c) = read c
+by_call init on resize step scan iterate read note (Call.note c) = note c
 
 -- .. for each call on a key, ..
 unfoldable pub by_key_call : {A : Type 0} → (find : ℕ → A) (update add : ℕ → ℕ → A) (delete : ℕ → A) → ℕ → KeyCall → A
@@ -31,16 +30,11 @@ by_read_call suggested_size look begin end ReadCall.current_table = look
 by_read_call suggested_size look begin end ReadCall.begin_iterator = begin
 by_read_call suggested_size look begin end (ReadCall.end_iterator fingerprint) = end fingerprint
 
--- .. for each that sets a field of the state, ..
+-- .. and for each that sets a field of the state.
 unfoldable pub by_state_call : {A : Type 0} → (allow : Bool → A) (begin end : A) → StateCall → A
 by_state_call allow begin end (StateCall.allow_resize allowed) = allow allowed
 by_state_call allow begin end StateCall.begin_safe = begin
 by_state_call allow begin end StateCall.end_safe = end
-
--- .. and for each on the whole store.
-unfoldable pub by_whole_call : {A : Type 0} → (verify repair : A) → WholeCall → A
-by_whole_call verify repair WholeCall.verify = verify
-by_whole_call verify repair WholeCall.repair = repair
 
 -- Ours, with a change made from the world and what ours answers and leaves in it.
 
@@ -55,36 +49,30 @@ but change w c = change c w (perform w c)
 
 -- of one class
 unfoldable pub but_init : (ℕ → ℕ → Change) → World → Call → Outcome
-but_init init = but (by_call init (λ key c. none) (λ size. none) none (λ cursor lent. none) (λ place lent. none) (λ c. none) (λ c. none) (λ c. none))
+but_init init = but (by_call init (λ key c. none) (λ size. none) none (λ cursor lent. none) (λ place lent. none) (λ c. none) (λ c. none))
 
 unfoldable pub but_on : (ℕ → KeyCall → Change) → World → Call → Outcome
-but_on on = but (by_call (λ capacity size. none) on (λ size. none) none (λ cursor lent. none) (λ place lent. none) (λ c. none) (λ c. none) (λ c. none))
+but_on on = but (by_call (λ capacity size. none) on (λ size. none) none (λ cursor lent. none) (λ place lent. none) (λ c. none) (λ c. none))
 
 unfoldable pub but_resize : (ℕ → Change) → World → Call → Outcome
-but_resize resize = but (by_call (λ capacity size. none) (λ key c. none) resize none (λ cursor lent. none) (λ place lent. none) (λ c. none) (λ c. none) (λ c. none))
+but_resize resize = but (by_call (λ capacity size. none) (λ key c. none) resize none (λ cursor lent. none) (λ place lent. none) (λ c. none) (λ c. none))
 
 unfoldable pub but_step : Change → World → Call → Outcome
-but_step step = but (by_call (λ capacity size. none) (λ key c. none) (λ size. none) step (λ cursor lent. none) (λ place lent. none) (λ c. none) (λ c. none) (λ c. none))
+but_step step = but (by_call (λ capacity size. none) (λ key c. none) (λ size. none) step (λ cursor lent. none) (λ place lent. none) (λ c. none) (λ c. none))
 
 unfoldable pub but_scan : (ℕ → List ℕ → Change) → World → Call → Outcome
-but_scan scan = but (by_call (λ capacity size. none) (λ key c. none) (λ size. none) none scan (λ place lent. none) (λ c. none) (λ c. none) (λ c. none))
+but_scan scan = but (by_call (λ capacity size. none) (λ key c. none) (λ size. none) none scan (λ place lent. none) (λ c. none) (λ c. none))
 
 unfoldable pub but_iterate : (ℕ → List ℕ → Change) → World → Call → Outcome
-but_iterate iterate = but (by_call (λ capacity size. none) (λ key c. none) (λ size. none) none (λ cursor lent. none) iterate (λ c. none) (λ c. none) (λ c. none))
+but_iterate iterate = but (by_call (λ capacity size. none) (λ key c. none) (λ size. none) none (λ cursor lent. none) iterate (λ c. none) (λ c. none))
 
 unfoldable pub but_read : (ReadCall → Change) → World → Call → Outcome
-but_read read = but (by_call (λ capacity size. none) (λ key c. none) (λ size. none) none (λ cursor lent. none) (λ place lent. none) read (λ c. none) (λ c. none))
+but_read read = but (by_call (λ capacity size. none) (λ key c. none) (λ size. none) none (λ cursor lent. none) (λ place lent. none) read (λ c. none))
 
 unfoldable pub but_note : (StateCall → Change) → World → Call → Outcome
-but_note note = but (by_call (λ capacity size. none) (λ key c. none) (λ size. none) none (λ cursor lent. none) (λ place lent. none) (λ c. none) note (λ c. none))
+but_note note = but (by_call (λ capacity size. none) (λ key c. none) (λ size. none) none (λ cursor lent. none) (λ place lent. none) (λ c. none) note)
 
-unfoldable pub but_whole : (WholeCall → Change) → World → Call → Outcome
-but_whole whole =
-    but
-    (by_call (λ capacity size. none) (λ key c. none) (λ size. none) none (λ cursor lent. none) (λ place lent. none) (λ c. none)
-    (λ c. none) whole)
-
--- of one call on a key, one that reads, one that sets a field, or one on the whole store
+-- of one call on a key, one that reads, or one that sets a field
 unfoldable pub but_find : (ℕ → Change) → World → Call → Outcome
 but_find find = but_on (by_key_call find (λ key value. none) (λ key value. none) (λ key. none))
 
@@ -117,12 +105,6 @@ but_begin_safe begin = but_note (by_state_call (λ allowed. none) begin none)
 
 unfoldable pub but_end_safe : Change → World → Call → Outcome
 but_end_safe end = but_note (by_state_call (λ allowed. none) none end)
-
-unfoldable pub but_verify : Change → World → Call → Outcome
-but_verify verify = but_whole (by_whole_call verify none)
-
-unfoldable pub but_repair : Change → World → Call → Outcome
-but_repair repair = but_whole (by_whole_call none repair)
 
 -- What stands in place of ours: only where ours answers 0, or only where it refuses, or answers 2; ..
 

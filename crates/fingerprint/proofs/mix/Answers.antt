@@ -1,0 +1,7 @@
+-- `fingerprint::mix` meets its contract: what its steps give are the premises of one law.
+use Rattle.std.proofs.Common.{rules}
+use Rattle.fingerprint.proofs.Mixing.{mixed_computed}
+use Rattle.fingerprint.proofs.mix.Goals as goal
+
+pub returns : goal.returns
+returns c = search mixed_computed

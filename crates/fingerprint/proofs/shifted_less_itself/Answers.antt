@@ -1,0 +1,7 @@
+-- `fingerprint::shifted_less_itself` meets its contract.
+use Rattle.std.proofs.Common.{rules}
+use Rattle.fingerprint.proofs.Mixing.{inverse_added}
+use Rattle.fingerprint.proofs.shifted_less_itself.Goals as goal
+
+pub returns : goal.returns
+returns c = search inverse_added

@@ -1,5 +1,4 @@
 -- `cursor::next_cursor` meets its contract: where the highest bit is 0 by one law, elsewhere by its callees.
-use Rattle.std.proofs.Common.{rules}
 use Rattle.cursor.proofs.QuickStep.{quick_computed}
 use Rattle.cursor.proofs.next_cursor.Goals as goal
 

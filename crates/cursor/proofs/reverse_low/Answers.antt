@@ -1,5 +1,4 @@
 -- `cursor::reverse_low` meets its contract: what it looks up are the premises of one law.
-use Rattle.std.proofs.Common.{rules}
 use Rattle.cursor.proofs.ByteTable.{two_bytes}
 use Rattle.cursor.proofs.reverse_low.Goals as goal
 

@@ -1,6 +1,5 @@
 -- The goals of `fingerprint` that the search leaves.
-use Rattle.std.proofs.Common.{◌-◌, rules}
-use Rattle.fingerprint.proofs.Folding.{Folds, folds_start, folds_next, folds_end}
+use Rattle.fingerprint.proofs.Folding.{folds_start, folds_next, folds_end}
 use Rattle.fingerprint.proofs.fingerprint.Goals as goal
 
 pub loop-i-init : goal.loop-i-init

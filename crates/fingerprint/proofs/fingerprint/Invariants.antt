@@ -1,6 +1,6 @@
 -- `fingerprint::fingerprint` meets its contract: at each turn one more number is taken in.
-use Rattle.std.proofs.Common.{◌-◌, rules}
-use Rattle.fingerprint.proofs.Folding.{Folds, folds_start, folds_next, folds_end}
+use Rattle.std.proofs.Common.{◌-◌}
+use Rattle.fingerprint.proofs.Folding.{Folds}
 use Rattle.fingerprint.proofs.fingerprint.Given as goal
 
 abbrev pub invariant-loop-i : goal.invariant-loop-i

@@ -1,5 +1,4 @@
 -- `fingerprint::mix` meets its contract: what its steps give are the premises of one law.
-use Rattle.std.proofs.Common.{rules}
 use Rattle.fingerprint.proofs.Mixing.{mixed_computed}
 use Rattle.fingerprint.proofs.mix.Goals as goal
 

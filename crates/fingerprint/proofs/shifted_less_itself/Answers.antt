@@ -1,5 +1,4 @@
 -- `fingerprint::shifted_less_itself` meets its contract.
-use Rattle.std.proofs.Common.{rules}
 use Rattle.fingerprint.proofs.Mixing.{inverse_added}
 use Rattle.fingerprint.proofs.shifted_less_itself.Goals as goal
 

@@ -1,23 +1,21 @@
 -- `memory::state::bucket_index` meets its contract: a legal size is a power of two, whose mask is the remainder.
--- Assumes nothing.
 use Rattle.std.proofs.Common.{arith}
 use Rattle.model.specs.Keys.{bucket_of, hash}
 use Rattle.model.specs.Limits.{legal_size, largest_exponent}
 use Rattle.model.proofs.Power.{legal_pos, mask_legal, mask_below}
 use Rattle.memory.proofs.Masks.{masked_fits}
-use Rattle.memory.proofs.state.bucket_index.Statement.{statement}
-use Rattle.memory.proofs.state.bucket_index.Tie as tie
+use Rattle.memory.proofs.state.bucket_index.Goals as goal
 
-sub_result : tie.Need-overflow-sub-result
+pub overflow_sub-result : goal.overflow_sub-result
 unfolding legal_size
-sub_result c = omega (arith, legal_pos largest_exponent c.args.size c.requires)
+overflow_sub-result c = omega (arith, legal_pos largest_exponent c.args.size c.requires)
 
-returns : tie.Need-returns
+pub overflow_cast-result : goal.overflow_cast-result
+overflow_cast-result c = search masked_fits
+
+pub returns : goal.returns
 unfolding legal_size bucket_of hash
 returns c = (
   mask_legal largest_exponent c.args.size c.args.key c.requires,
   mask_below largest_exponent c.args.size c.args.key c.requires,
 )
-
-pub bucket_index_spec : {M : Type 1} → statement M
-bucket_index_spec = tie.close (tie.spec sub_result (λ c. search masked_fits) returns)

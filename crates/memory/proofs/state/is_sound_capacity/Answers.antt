@@ -1,11 +1,13 @@
 -- `memory::state::is_sound_capacity` meets its contract: the tests are the definition's.
--- Assumes nothing.
 use Rattle.std.proofs.Common.{rules}
 use Rattle.model.specs.Memory.{sound_capacity}
 use Rattle.model.specs.Limits.{legal_capacity, largest_capacity}
-use Rattle.memory.proofs.state.is_sound_capacity.Statement.{statement}
-use Rattle.memory.proofs.state.is_sound_capacity.Tie as tie
+use Rattle.memory.proofs.state.is_sound_capacity.Goals as goal
 
-pub is_sound_capacity_spec : {M : Type 1} → statement M
+pub overflow_mul-result : goal.overflow_mul-result
 unfolding sound_capacity legal_capacity largest_capacity
-is_sound_capacity_spec = tie.close (tie.spec (λ c. search rules) (λ c. search rules))
+overflow_mul-result c = search rules
+
+pub returns : goal.returns
+unfolding sound_capacity legal_capacity largest_capacity
+returns c = search rules

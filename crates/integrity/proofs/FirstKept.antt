@@ -22,6 +22,7 @@ use Rattle.model.proofs.Followed.{here_met, here_distinct, before_in, here_in}
 first_none : (entries : List ℕ) (key n : ℕ) (xs ys : List ℕ) → first_met entries key (xs ++ ys) ≡ n → (In n xs → ⊥)
     → (m : ℕ) → In m xs → key_of entries m ≡ key → ⊥
 unfolding first_met
+first_none entries key n [] ys first new m i e = elim i [ ]
 first_none entries key n (x ∷ xs) ys first new m i e =
     by (eqb (key_of entries x) key) refl first (λ f. first_none entries key n xs ys f (λ j. new (inr j)) m)
   where

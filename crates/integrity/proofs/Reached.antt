@@ -29,6 +29,7 @@ module _ (test : ℕ → Bool) (entries : List ℕ) (capacity : ℕ) where
   pub of_reached : (at : ℕ) (ns : List ℕ) → Reached test entries capacity at ns → (n : ℕ) → In n ns
       → (0 < n) × (n ≤ capacity) × (test (key_of entries n) ≡ true)
   unfolding Reached
+  of_reached at [] r n i = elim i [ ]
   of_reached at (m ∷ ns) r n (inl e) = (omega arith, omega arith, ap (λ (k : ℕ). test (key_of entries k)) e ∙ r.3)
   of_reached at (m ∷ ns) r n (inr i) = of_reached (link_of entries m) ns r.4 n i
 
@@ -117,6 +118,7 @@ module _ (test : ℕ → Bool) (entries : List ℕ) (capacity : ℕ) where
         → Led at (followed test entries capacity capacity before at) from
         → (n : ℕ) → In n ns → In n (followed test entries capacity capacity before at)
     unfolding Reached Led
+    along from [] r new led n i = elim i [ ]
     along from (m ∷ ns) r new led n i =
         let first =
         closed_whole m r.1 r.2 r.3 (new m (inl refl))

@@ -24,7 +24,7 @@ use Rattle.invariant.proofs.ToUndamaged.{shape_undamaged, entries_at_lem}
 use Rattle.invariant.proofs.States.{sound_again}
 use Rattle.model.specs.Repair.{kept_at, freed_list, first_or0, repaired_buckets, repaired_entries, is_filled, repaired_index, repaired_state}
 use Rattle.model.proofs.Relinked.{length_chained_all, length_headed, head_headed, key_zeroed, value_zeroed}
-use Rattle.model.proofs.Kept.{met, its, kept, free, met_facts, tables_apart, kept_met, kept_apart, kept_place, kept_one, free_not, in_free_lem, kept_not_free, all_length, old_done, both_done, all_done, all_done, length_done, key_done, value_done, old_linked, new_linked, free_linked, kept_range, index_first, index_drops, not_filled}
+use Rattle.model.proofs.Kept.{met, its, kept, free, met_facts, tables_apart, kept_met, kept_apart, kept_place, kept_one, free_not, in_free_lem, kept_not_free, all_length, old_done, both_done, all_done, all_done_lem, length_done, key_done, value_done, old_linked, new_linked, free_linked, kept_range, index_first, index_drops, not_filled}
 
 module _ (s : State) (current other entries : List ℕ) where
   -- The chains, and where each entry is.

@@ -121,12 +121,14 @@ first_met_keep test entries key (m ∷ ns) f =
 -- the first of a chain that is not empty is its head
 head_in : (entries : List ℕ) (most at : ℕ) (ns : List ℕ) → Linked entries most at ns → (n : ℕ) → In n ns → In at ns
 unfolding Linked
+head_in entries most at [] h n i = elim i [ ]
 head_in entries most at (m ∷ ns) h n i = inl h.0
 
 -- an entry of a chain heads a part of it
 chain_rest : (entries : List ℕ) (most at n : ℕ) (ns : List ℕ) → Linked entries most at ns → In n ns
     → (ms : List ℕ) × Linked entries most n ms × ((k : ℕ) → In k ms → In k ns)
 unfolding Linked
+chain_rest entries most at n [] h i = elim i [ ]
 chain_rest entries most at n (m ∷ ns) h (inl e) = (m ∷ ns, (e, h.1, h.2, h.3), λ k i. i)
 chain_rest entries most at n (m ∷ ns) h (inr i) =
     let (ms, l, sub) = chain_rest entries most (link_of entries m) n ns h.3 i in (ms, l, λ k j. inr (sub k j))

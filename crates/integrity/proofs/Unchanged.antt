@@ -26,6 +26,7 @@ use Rattle.integrity.proofs.Repaired.{repaired_entries_lem, repaired_key, repair
 only_first : (entries : List ℕ) (n : ℕ) (ns : List ℕ) → In n ns → ((m : ℕ) → In m ns → key_of entries m ≡ key_of entries n → m ≡ n)
     → first_met entries (key_of entries n) ns ≡ n
 unfolding first_met
+only_first entries n [] i only = elim i [ ]
 only_first entries n (m ∷ ns) i only =
     by (eqb (key_of entries m) (key_of entries n)) refl i (λ j. only_first entries n ns j (λ k h e. only k (inr h) e))
   where

@@ -313,6 +313,7 @@ module _ {s : State} {current other entries : List ℕ} (ok : sound s current ot
       ∙ c.free_apart n i)
     where
       last_of : (ns : List ℕ) → In n ns → In (last_or 0 ns) ns
+      last_of [] k = elim k [ ]
       last_of (m ∷ ns) k = last_in m ns
 
   one_place : (n : ℕ) (p q : Place) → Live s p → Live s q → In n (at p) → In n (at q) → p ≡ q
@@ -450,6 +451,7 @@ module _ {s : State} {current other entries : List ℕ} (u : Undamaged s current
   last_free n i = by (self (last_or 0 free_list)) refl
     where
       last_of : (ns : List ℕ) → In n ns → In (last_or 0 ns) ns
+      last_of [] k = elim k [ ]
       last_of (m ∷ ns) k = last_in m ns
 
       by : (b : Bool) → self (last_or 0 free_list) ≡ b → b ≡ false

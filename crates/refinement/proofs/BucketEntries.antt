@@ -38,12 +38,14 @@ module _ (w : World) where
 
   of_entries : (n : ℕ) (ps : List Place) → In n (entries_of ps) → (p : Place) × In p ps × In n (read_at p)
   unfolding entries_of
+  of_entries n [] i = elim i [ ]
   of_entries n (p ∷ ps) i =
       ⊎_elim (λ j. (p, inl refl, j)) (λ j. let (q, k, l) = of_entries n ps j in (q, inr k, l))
       (in_either n (read_at p) (entries_of ps) i)
 
   in_entries : (n : ℕ) (p : Place) (ps : List Place) → In p ps → In n (read_at p) → In n (entries_of ps)
   unfolding entries_of
+  in_entries n p [] i i' = elim i [ ]
   in_entries n p (q ∷ ps) (inl e) i = in_left n (read_at q) (entries_of ps) (subst (λ r. In n (read_at r)) e i)
   in_entries n p (q ∷ ps) (inr j) i = in_right n (read_at q) (entries_of ps) (in_entries n p ps j i)
 

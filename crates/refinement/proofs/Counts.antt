@@ -14,6 +14,7 @@ use Rattle.model.proofs.Lists.{in_keep, of_keep, distinct_keep, distinct_fits}
 
 -- a list with a member is not empty
 pub in_filled : {A : Type 0} (x : A) (xs : List A) → In x xs → 0 < length xs
+in_filled {A = A} x [] i = elim i [ ]
 in_filled x (y ∷ ys) i = omega arith
 
 module _ (key : ℕ) where

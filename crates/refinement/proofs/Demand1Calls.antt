@@ -302,7 +302,8 @@ module _ (w : World) where
         Good.past (λ (d : StepDamaged w). omega (arith, d.0)) (done (step_reply w.state) _ _ _ _ refl refl refl refl)
     from_good Ahead.End end (Tells.fails f) =
         let damaged : StepDamaged w = (omega arith, inl end) in Good.refused damaged (refuse Error.Damaged)
-    from_good (Ahead.Empty b) (is, below, before) (Tells.fails f) =
+    from_good (Ahead.Empty b) h (Tells.fails f) =
+        let (is, below, before) = h in
         Good.past (step_passing b is below before) (done (step_reply w.state) _ _ _ _ refl refl refl refl)
     from_good (Ahead.Filled b) first (Tells.fails f) =
         moved_good (omega arith) b first (here chain_at (Place.bucket Table.Old b)) (place_read w (Place.bucket Table.Old b))

@@ -2,7 +2,7 @@
 -- was read. Then whether a key is on it.
 -- Assumes nothing.
 use Prim.Native.Nat.{ℕ, zero, suc, ◌+◌, ◌-◌, ◌<◌, ◌≤◌}
-use mathlib.Core.Path.{◌≡◌, refl, sym, ap, ◌∙◌}
+use mathlib.Core.Path.{◌≡◌, refl, sym, ap, ◌∙◌, subst}
 use mathlib.Core.Bool.{Bool}
 use mathlib.Core.List.{List, [], ◌∷◌}
 use mathlib.Core.Logic.{inl, inr}
@@ -44,11 +44,14 @@ module _ (entries : List ℕ) (capacity : ℕ) where
   linked_nth head [] h k l = absurd (omega arith)
   linked_nth head (n ∷ ns) h zero l = inl h.0
   linked_nth head (n ∷ ns) h (suc k) l =
-      inr (rw (← nth_link entries head k, h.0) (linked_nth (link_of entries n) ns h.3 k (omega arith)))
+      inr
+      (subst (λ (x : ℕ). In x ns) (nth_link entries head k)
+      (rw h.0 (linked_nth (link_of entries n) ns h.3 k (omega arith))))
 
   linked_in : (head : ℕ) (ns : List ℕ) → Linked entries capacity head ns → (n : ℕ) → In n ns
       → (k : ℕ) × (k < length ns) × (nth entries head k ≡ n)
   unfolding Linked nth
+  linked_in head [] h n i = elim i [ ]
   linked_in head (m ∷ ns) h n (inl e) = (0, omega arith, h.0 ∙ sym e)
   linked_in head (m ∷ ns) h n (inr i) =
       let (k, l, e) = linked_in (link_of entries m) ns h.3 n i in

@@ -101,7 +101,8 @@ module _ (w : World) where
             Good.past (λ (d : GroupDamaged w cursor). omega (arith, d.0))
             (Good.past (λ (d : Short w cursor lent). omega (arith, d.0)) (Good.answered refl refl))
         by none d next (Tells.fails f) = damaged (omega arith, inl d)
-        by (some ns) (sound, keys) next (Tells.fails f) =
+        by (some ns) h next (Tells.fails f) =
+            let (sound, keys) = h in
             summed ns sound keys next (omega arith) (tells_le (length ns) (keys_held w.state))
 
   -- ---- a call that iterates

@@ -122,7 +122,7 @@ module _ (w : World) where
             → Says (map (λ u. key_place w.state key u) (live_tables t))
             (lookup_while t w.state (current w) (other w) w.entries key)
         by false = last Table.Old
-        by true = both_says _ _ _ _ (at Table.Old) (last Table.New)
+        by true = both_says (key_place w.state key Table.Old) (key_place w.state key Table.New ∷ []) _ _ (at Table.Old) (last Table.New)
 
   -- ---- a walk call's group
 

@@ -36,11 +36,11 @@ place_in t unmoved key =
     let u = table_of t unmoved key in
     Place.bucket u (bucket_of key (size_in t u))
 
-pub size_in : (t : Tables) (unmoved : List ℕ) (key : ℕ)
+pub size_in_lem : (t : Tables) (unmoved : List ℕ) (key : ℕ)
     → size_in t (table_of t unmoved key) ≡ live_sizes t (table_of t unmoved key)
 unfolding table_of size_in live_sizes old_new
-size_in (Tables.one size) unmoved key = refl
-size_in (Tables.two old new) unmoved key = refl
+size_in_lem (Tables.one size) unmoved key = refl
+size_in_lem (Tables.two old new) unmoved key = refl
 
 tells_table : (t u : Table) → Tells (t ≡ u) (eqb (old_new 0 1 t) (old_new 0 1 u))
 unfolding old_new

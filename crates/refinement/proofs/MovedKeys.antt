@@ -67,6 +67,7 @@ lowest_reached size (k ∷ ks) f =
 -- .. and none for a lower one
 pub lowest_below : (size : ℕ) (ks : List ℕ) (k : ℕ) → In k ks → lowest_of size ks ≤ bucket_of k size
 unfolding lowest_of
+lowest_below size [] k i = elim i [ ]
 lowest_below size (j ∷ ks) k (inl e) =
     omega (arith, (lowest_is size (bucket_of j size) ks).1, ap (λ (n : ℕ). bucket_of n size) e)
 lowest_below size (j ∷ ks) k (inr i) = (lowest_is size (bucket_of j size) ks).2 k i

@@ -2,7 +2,7 @@
 -- rehash. It gives `passes_hold`: no key is handed out more often than it comes to be held, and an ended pass has handed out
 -- each key held throughout exactly once.
 -- Assumes nothing.
-use Prim.Native.Nat.{ℕ, zero, suc, ◌+◌, ◌<◌, ◌≤◌}
+use Prim.Native.Nat.{ℕ, suc, ◌+◌, ◌<◌, ◌≤◌}
 use mathlib.Core.Path.{◌≡◌, refl, sym, ap, subst, ◌∙◌}
 use mathlib.Core.Logic.{◌⊎◌, inl, inr, ⊎_elim}
 use mathlib.Core.Bool.{Bool, true, false, ◌&&◌, not, cond}
@@ -375,7 +375,7 @@ module _ (key : ℕ) where
         few_from (predict_legal l i legal e.call) a.1 more vs rest behind
     few_from legal a (Pass.onward {i} {e} {moments} lent p c z more) (v ∷ vs) rest same =
         let behind : moments ≡ vs ++ rest = cc in
-        few_from (predict_legal l i legal e.call) a.1 more vs rest behind
+        few_from {due = get_or e.values 0 0} (predict_legal l i legal e.call) a.1 more vs rest behind
     few_from legal a (Pass.last {due} {i} lent p c z last) (v ∷ vs) rest same =
         let behind : [] ≡ vs ++ rest = cc in
         few_from {i = i} {es = []} legal tt (Pass.over {due = due}) vs rest behind

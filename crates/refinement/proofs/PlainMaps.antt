@@ -72,6 +72,7 @@ value_key key value (p ∷ ps) e =
 
 pub key_value : (key : ℕ) (ps : List Pair) → In key (keys_of ps) → (value : ℕ) × (value_for key ps ≡ some value)
 unfolding value_for keys_of
+key_value key [] i = elim i [ ]
 key_value key (p ∷ ps) (inl e) = (p.value, value_here key p ps (sym e))
 key_value key (p ∷ ps) (inr i) =
     elim (ℕ_discrete p.key key) [
@@ -155,6 +156,7 @@ module _ (key : ℕ) where
   -- its keys are among those before
   pub taken_keys : (k : ℕ) (ps : List Pair) → In k (keys_of (without key ps)) → In k (keys_of ps)
   unfolding keys_of without
+  taken_keys k [] i = elim i [ ]
   taken_keys k (p ∷ ps) i = pick (ℕ_discrete p.key key) (taken_keys k ps)
     where
       behind : (In k (keys_of (without key ps)) → In k (keys_of ps)) → In k (p.key ∷ keys_of (without key ps))
@@ -226,6 +228,7 @@ value_pair key value (p ∷ ps) e =
 
 pub pair_value : (p : Pair) (ps : List Pair) → Distinct (keys_of ps) → In p ps → value_for p.key ps ≡ some p.value
 unfolding keys_of
+pair_value p [] d i = elim i [ ]
 pair_value p (q ∷ ps) d (inl e) =
     value_here p.key q ps (ap (λ (x : Pair). x.key) (sym e)) ∙ ap (λ (x : Pair). some x.value) (sym e)
 pair_value p (q ∷ ps) d (inr i) =

@@ -22,7 +22,7 @@ use Rattle.refinement.specs.Demand2.{group_entries, handing}
 use Rattle.refinement.specs.Demand3.{Lengths, Ideal, in_group, group_pairs, place_pairs, hand_answer, predict, pairs_in, handed_out, HandsPairs, AsPredicted, Matches}
 use Rattle.model.proofs.Lists.{of_distinct_map, same_length, in_keep, of_keep, distinct_keep}
 use Rattle.refinement.proofs.LiveTables.{Buckets, tables_legal, tables_sizes}
-use Rattle.refinement.proofs.GroupPlaces.{place_in, size_in, tells_in_group, published}
+use Rattle.refinement.proofs.GroupPlaces.{place_in, size_in_lem, tells_in_group, published}
 use Rattle.refinement.proofs.PlainMaps.{pair, value_pair, pair_value}
 use Rattle.refinement.proofs.BucketEntries.{pair_of, entries_of, pair_keys_once, of_pairs, in_pairs}
 use Rattle.refinement.proofs.GroupEntries.{world_sound, places, next_of, group_buckets, group_entries_lem, enough, is_short, hands_or_short, walk_call}
@@ -46,7 +46,7 @@ module _ (l : Lengths) (w : World) (i : Ideal) (u : UndamagedAt w) (m : Matches 
       cc (
         m.tables,
         m.each_table key value h,
-        size_in i.tables i.unmoved key,
+        size_in_lem i.tables i.unmoved key,
         tables_sizes w.state _ _ _ (world_sound w u) h.table,
       )
 

@@ -88,6 +88,7 @@ covered (Trail.onward {visits} v h on rest) ended key ahead held =
 
 bounded : {visits : List Visit} {ended : Bool} → Trail 0 visits ended → 0 < length visits
     → length visits + cond ended 0 1 ≤ largest visits
+bounded {visits = []} {ended = ended} t some = elim some [ ]
 bounded {visits = v ∷ vs} t some =
     let (m, e) = largest_power v vs (powers t) in
     omega (arith, counted m t (omega arith))

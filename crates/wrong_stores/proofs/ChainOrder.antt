@@ -36,17 +36,17 @@ use Rattle.wrong_stores.proofs.SameNumbers.{Near, near_demand1, near_done, near-
 
 -- To link entries anew changes no key and no value.
 
-link-key : (entries : List ℕ) (m link n : ℕ) → key_of (set_link entries m link) n ≡ key_of entries n
+link_key : (entries : List ℕ) (m link n : ℕ) → key_of (set_link entries m link) n ≡ key_of entries n
 unfolding key_of set_link
-link-key entries zero link n = refl
-link-key entries (suc m) link zero = refl
-link-key entries (suc m) link (suc n) = get_or-set_other entries (m * 3) (n * 3 + 1) link 0 (omega arith)
+link_key entries zero link n = refl
+link_key entries (suc m) link zero = refl
+link_key entries (suc m) link (suc n) = get_or-set_other entries (m * 3) (n * 3 + 1) link 0 (omega arith)
 
-link-value : (entries : List ℕ) (m link n : ℕ) → value_of (set_link entries m link) n ≡ value_of entries n
+link_value : (entries : List ℕ) (m link n : ℕ) → value_of (set_link entries m link) n ≡ value_of entries n
 unfolding value_of set_link
-link-value entries zero link n = refl
-link-value entries (suc m) link zero = refl
-link-value entries (suc m) link (suc n) = get_or-set_other entries (m * 3) (n * 3 + 2) link 0 (omega arith)
+link_value entries zero link n = refl
+link_value entries (suc m) link zero = refl
+link_value entries (suc m) link (suc n) = get_or-set_other entries (m * 3) (n * 3 + 2) link 0 (omega arith)
 
 -- Two keys in one bucket: ours has the second before the first.
 
@@ -65,6 +65,7 @@ turned = world ours.state (1 ∷ replicate 15 0) ours.second (set_link (set_link
 swap : {A B : Type 0} → A ⊎ (B ⊎ ⊥) → B ⊎ (A ⊎ ⊥)
 swap (inl a) = inr (inl a)
 swap (inr (inl b)) = inl b
+swap (inr (inr i)) = elim i [ ]
 
 turned_places : (p : Place) → Live ours.state p → SameAt ours turned p
 unfolding computing ours turned
@@ -85,8 +86,8 @@ turned_reordered =
     record {
       places = turned_places;
       empty = turned_empty;
-      key = λ n. link-key _ 1 2 n ∙ link-key ours.entries 2 0 n;
-      value = λ n. link-value _ 1 2 n ∙ link-value ours.entries 2 0 n;
+      key = λ n. link_key (set_link ours.entries 2 0) 1 2 n ∙ link_key ours.entries 2 0 n;
+      value = λ n. link_value (set_link ours.entries 2 0) 1 2 n ∙ link_value ours.entries 2 0 n;
       current_length = refl;
       other_length = refl;
       lengths = refl;

@@ -9,11 +9,11 @@ use lib.Dec.{lit<, lit≤}
 use borrow.Author.Tests.{eqb-false}
 use Rattle.model.specs.declared.Table.{Table}
 use Rattle.model.specs.Memory.{Place}
-use Rattle.model.specs.Sequences.{Call}
+use Rattle.model.specs.Sequences.{Call, run}
 use Rattle.refinement.specs.Demand3.{Demand3}
 use Rattle.wrong_stores.specs.KeyCalls as wrong
 use Rattle.wrong_stores.specs.KeyCalls.{finds_nothing, finds_zero, writes_nothing, adds_nothing, adds_to_old, adds_again, adds_to_first, adds_loop, keeps_free, keeps_count, leaks}
-use Rattle.wrong_stores.proofs.Start.{computing, find, update, add, delete, held, at, apart, neither, differ, no_look, in_no_bucket, on_no_chain}
+use Rattle.wrong_stores.proofs.Start.{computing, started, find, update, add, delete, held, at, apart, neither, differ, no_look, in_no_bucket, on_no_chain}
 
 -- `answers`. A find answers as the map does, its number ..
 pub finds_nothing_excluded : Demand3 finds_nothing → ⊥
@@ -44,7 +44,7 @@ pub adds_nothing_excluded : Demand3 adds_nothing → ⊥
 unfolding computing adds_nothing
 adds_nothing_excluded d =
     let h = (at d 1 refl (add 1 10 ∷ [])).matches.contents.in_store 1 10 refl in
-    in_no_bucket _ h.entry refl refl (λ h. h) h.table h.index h.live h.there
+    in_no_bucket (run adds_nothing (started 1) (add 1 10 ∷ [])) h.entry refl refl (λ h. h) h.table h.index h.live h.there
 
 -- `undamaged`. Every chain is sound: it comes to an end, ..
 pub adds_loop_excluded : Demand3 adds_loop → ⊥
@@ -65,7 +65,7 @@ pub leaks_excluded : Demand3 leaks → ⊥
 unfolding computing leaks
 leaks_excluded d =
     let h = (at d 1 refl (add 1 10 ∷ delete 1 ∷ [])).undamaged.on_a_chain 1 (lit< tt) (lit≤ tt) in
-    on_no_chain _ 1 refl refl (neither (eqb-false 1 2 refl) (neither (eqb-false 1 3 refl) (λ h. h))) (λ h. h) h.0 h.1 h.2
+    on_no_chain (run leaks (started 1) (add 1 10 ∷ delete 1 ∷ [])) 1 refl refl (neither (eqb-false 1 2 refl) (neither (eqb-false 1 3 refl) (λ h. h))) (λ h. h) h.0 h.1 h.2
 
 -- .. and on one only; ..
 pub keeps_free_excluded : Demand3 keeps_free → ⊥

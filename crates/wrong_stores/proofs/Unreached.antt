@@ -6,11 +6,12 @@ use mathlib.Core.Bool.{true, false}
 use mathlib.Core.Logic.{◌⊎◌, inl, inr}
 use mathlib.Core.List.{[], ◌∷◌}
 use mathlib.Core.Option.{some}
+use lib.ListN.{length}
 use lib.Dec.{lit<}
 use native.Mathlib.Omega.{arith}
 use Rattle.cursor.specs.Member.{In}
 use Rattle.model.specs.declared.Table.{Table}
-use Rattle.model.specs.Memory.{Place, Live, chain_at}
+use Rattle.model.specs.Memory.{Place, Live, size_of, used_of, chain_at, sum}
 use Rattle.model.specs.Calls.{state_of, old_new}
 use Rattle.model.specs.Sequences.{World, world, run}
 use Rattle.refinement.specs.Worlds.{UndamagedAt}
@@ -75,13 +76,17 @@ full_undamaged =
       keys_distinct =
           λ n m t u a b l k i j e. its_number n (Place.bucket t a) l i ∙ sym (its_number m (Place.bucket u b) k j);
       passed_empty = λ b l. absurd (omega arith);
-      counts = λ t. elim t [ Table.Old ↦ refl | Table.New ↦ refl ];
+      counts = counts;
     }
   where
     sound : (p : Place) → (p ≡ Place.free) ⊎ (p ≡ bucket)
         → chain_at full.state (1 ∷ []) [] (0 ∷ 7 ∷ 70 ∷ []) p ≡ some (entries_in full p)
     sound p (inl e) = rw e refl
     sound p (inr e) = rw e refl
+
+    counts : (t : Table) → used_of full.state t ≡ sum (λ b. length (entries_in full (Place.bucket t b))) (size_of full.state t)
+    counts Table.Old = refl
+    counts Table.New = refl
 
 -- `onward`, `matches`: the state of zeros has no capacity
 pub loses_excluded : Demand3 loses → ⊥

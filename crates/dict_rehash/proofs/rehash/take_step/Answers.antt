@@ -1,0 +1,10 @@
+-- `dict_rehash::rehash::take_step` meets its contract: with no keys in the old table no chain moves.
+use borrow.Author.Rules.{rules}
+use Rattle.dict_rehash.proofs.Stepping.{none_moved, step_finished, step_moved}
+use Rattle.dict_rehash.proofs.rehash.take_step.Goals as goal
+
+pub returns-then-s-eq0 : goal.returns-then-s-eq0
+returns-then-s-eq0 c = record { entries_after = search step_finished; step_room = search none_moved }
+
+pub returns-else-s-eq0 : goal.returns-else-s-eq0
+returns-else-s-eq0 c = record { entries_after = search step_moved; step_room = search rules }

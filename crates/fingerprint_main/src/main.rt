@@ -8,7 +8,7 @@ ghost use Rattle.fingerprint.specs.Mix as Mix;
 ghost use Rattle.fingerprint_main.specs.Input.{little_endian, numbers_at};
 
 use fingerprint::fingerprint;
-use libc::{STDIN_FILENO, STDOUT_FILENO};
+use std::io::{Read, Stdin, Stdout};
 
 // The bytes of an array.
 const ARRAY_BYTES: usize = 48;
@@ -52,19 +52,20 @@ fn fingerprint_of(bytes: &[u8; ARRAY_BYTES]) -> u64
 
 // Answers one array, and says whether that could be done. One that is cut short counts as none, and
 // a read that fails as the end: the lines that are missing show.
-fn answer_one() -> bool {
+fn answer_one(input: &mut Stdin, output: &Stdout) -> bool {
     let mut bytes = [0u8; ARRAY_BYTES];
-    if io::read_full(STDIN_FILENO, &mut bytes) < ARRAY_BYTES {
+    if input.read_exact(&mut bytes).is_err() {
         return false;
     }
-    io::print_decimal(STDOUT_FILENO, fingerprint_of(&bytes));
-    io::write_all(STDOUT_FILENO, b"\n")
+    println!(output; "{}", fingerprint_of(&bytes)).is_ok()
 }
 
-fn main() {
+fn main(rt: HostRuntime) {
+    let mut input = rt.stdin();
+    let output = rt.stdout();
     let mut left = MOST_ARRAYS;
     while 0 < left {
-        if !answer_one() {
+        if !answer_one(&mut input, &output) {
             return;
         }
         left -= 1;

@@ -5,7 +5,7 @@ use mathlib.Core.Path.{◌≡◌, refl, sym, ap, ◌∙◌}
 use mathlib.Core.Logic.{inl}
 use mathlib.Core.Bool.{Bool, true, false, not}
 use mathlib.Core.List.{List, [], ◌∷◌}
-use mathlib.Core.Option.{Option, none, some}
+use mathlib.Core.Option.{Option, some}
 use native.Mathlib.Decide.{dec_lt}
 use native.Mathlib.Omega.{arith}
 use lib.ListN.{length, get_or, replicate, length-replicate, get_or-replicate}
@@ -25,7 +25,7 @@ use Rattle.model.proofs.Sums.{sum_same}
 use Rattle.model.specs.Repair.{met_before, met_at, met_all, is_kept, kept_at, freed_list, first_or0, chained_all, headed, is_filled, or_else, repaired_buckets, repaired_entries, repaired_index}
 use Rattle.model.proofs.Followed.{here_in}
 use Rattle.model.proofs.Relinked.{length_chained_all, link_chained_all, length_headed, head_headed}
-use Rattle.model.proofs.Kept.{first_met_in, met, its, kept, free, met_facts, met_distinct, met_apart, tables_apart, kept_met, kept_range, kept_place, in_free_lem, free_not, all_length, kept_distinct, kept_not_free, key_done, length_done, all_done, old_linked, new_linked}
+use Rattle.model.proofs.Kept.{first_met_in, met, its, kept, free, met_facts, met_distinct, met_apart, tables_apart, kept_met, kept_range, kept_place, in_free_lem, free_not, all_length, kept_distinct, kept_not_free, key_done, length_done, all_done_lem, old_linked, new_linked}
 use Rattle.repair_passes.specs.Passes.{Work, buckets_in, entries_in, marks_in, mark_of, cut_up_to, finds_first, decided, Chained, pruned_up_to, head_down, entries_down, lengths, first_filled}
 use Rattle.repair_passes.proofs.ByMarks.{Marks}
 use Rattle.repair_passes.proofs.Agreeing.{agree_self, agree_key, agree_chained_all, agree_freed, agree_all}
@@ -240,14 +240,14 @@ module _ (s : State) (current other entries : List ℕ) (facts : Sound s (length
   kept_linked : (t : Table) (b : ℕ) → b < size_of s t
       → Linked (repaired_entries s current other entries) s.capacity (first_or0 (kept_in t b)) (kept_in t b)
   unfolding kept size_of
-  kept_linked Table.Old b l = rw (← all_done s current other entries) (old_linked s current other entries facts.entries_fit b l)
-  kept_linked Table.New b l = rw (← all_done s current other entries) (new_linked s current other entries facts.entries_fit b l)
+  kept_linked Table.Old b l = rw (← all_done_lem s current other entries) (old_linked s current other entries facts.entries_fit b l)
+  kept_linked Table.New b l = rw (← all_done_lem s current other entries) (new_linked s current other entries facts.entries_fit b l)
 
   kept_passes : (t : Table) (b n : ℕ) → In n (kept_in t b)
       → in_bucket (size_of s t) b (key_of (repaired_entries s current other entries) n) ≡ true
   unfolding kept
   kept_passes t b n i =
-      rw (← all_done s current other entries, key_done s current other entries n (kept_not_free s current other entries t b n i))
+      rw (← all_done_lem s current other entries, key_done s current other entries n (kept_not_free s current other entries t b n i))
       (met_facts s current other entries t b n (kept_met s current other entries t b n i).0).2
 
   read_kept : (t : Table) (b : ℕ) → b < size_of s t
@@ -292,4 +292,4 @@ module _ (s : State) (current other entries : List ℕ) (facts : Sound s (length
 
   pub entries_room : s.capacity * 3 ≤ length (repaired_entries s current other entries)
   entries_room =
-      omega (arith, facts.entries_fit, length_done s current other entries, ap length (all_done s current other entries))
+      omega (arith, facts.entries_fit, length_done s current other entries, ap length (all_done_lem s current other entries))

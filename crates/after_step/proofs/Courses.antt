@@ -5,7 +5,7 @@ use Prim.Native.Nat.{ℕ, ◌+◌, ◌-◌, ◌<◌}
 use mathlib.Core.Path.{◌≡◌, refl, sym, ap, subst, ◌∙◌}
 use mathlib.Core.Logic.{inl, inr}
 use mathlib.Core.Bool.{Bool, true, false, ◌||◌}
-use mathlib.Core.List.{List, ◌∷◌}
+use mathlib.Core.List.{List, [], ◌∷◌}
 use native.Mathlib.Omega.{arith}
 use lib.ListN.{length, get_or}
 use lib.Dec.{eqb}
@@ -136,6 +136,7 @@ module _ (s : State) (current other entries : List ℕ) (key n : ℕ) where
 
 not_among : (n : ℕ) (ns : List ℕ) → among n ns ≡ false → ¬ In n ns
 unfolding among
+not_among n [] e i = elim i [ ]
 not_among n (m ∷ ns) e (inl f) = let t = eq-eqb m n (sym f) in let z : ◌≡◌ {A = ℕ} 0 1 = cc in omega arith
 not_among n (m ∷ ns) e (inr i) = not_among n ns (behind (eqb m n) (among n ns) e) i
   where

@@ -35,7 +35,9 @@ module _ (size n own : ℕ) where
       → link_through (set_link entries m x) head ns ≡ link_through entries head ns
   unfolding link_through
   through_other entries m x head [] f = link_set_other entries m n x f
-  through_other entries m x head (k ∷ ns) f = rw (key_set_link, through_other entries m x _ ns f)
+  through_other entries m x head (k ∷ ns) f =
+      let then = cond (eqb (bucket_of (key_of entries k) size) own) k head in
+      rw key_set_link (ap (λ (z : ℕ). cond (eqb k n) head z) (through_other entries m x then ns f))
 
   new_head : (buckets : List ℕ) (b m : ℕ) (t : Bool) → eqb b own ≡ t → b < length buckets
       → get_or (set buckets b m) own 0 ≡ cond t m (get_or buckets own 0)

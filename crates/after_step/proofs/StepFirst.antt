@@ -11,7 +11,7 @@ use Rattle.model.specs.declared.Table.{Table}
 use Rattle.model.specs.declared.Error.{Error}
 use Rattle.model.specs.declared.Lookup.{Lookup}
 use Rattle.model.specs.declared.StepAnswer.{StepAnswer}
-use Rattle.model.specs.Calls.{After, sound, oriented, back, writing, lookup, rehash_step, unless_refused, call_after, step_due, step_first}
+use Rattle.model.specs.Calls.{After, oriented, back, writing, lookup, rehash_step, unless_refused, call_after, step_due, step_first}
 use Rattle.model.proofs.StepLeaves.{Follows, RehashLeaves, rehash_leaves}
 use Rattle.model.proofs.StepFirst.{resting_first, stepping_first}
 use Rattle.memory.specs.Lent.{sound_lent}

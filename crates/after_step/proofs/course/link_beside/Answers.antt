@@ -1,0 +1,14 @@
+-- `after_step::course::link_beside` meets its contract: the entry keeps its link, unless it is on the chain that moves.
+use borrow.Author.Rules.{rules}
+use Rattle.dict_rehash.proofs.Stepping.{target_legal, target_fits}
+use Rattle.after_step.proofs.Courses.{goes_counted, link_met, link_kept}
+use Rattle.after_step.proofs.course.link_beside.Goals as goal
+
+pub link_moved-requires : goal.link_moved-requires
+link_moved-requires c = record { size_value = (search target_legal, search target_fits); chain_of = search goes_counted; n_nonzero = search rules }
+
+pub returns-then-meets : goal.returns-then-meets
+returns-then-meets c = search link_met
+
+pub returns-else-meets : goal.returns-else-meets
+returns-else-meets c = search link_kept

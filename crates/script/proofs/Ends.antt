@@ -9,11 +9,10 @@ use lib.ListN.{length, take, drop, length-drop, drop_of_length-le}
 use lib.Seq.{take_all, drop-drop}
 use lib.Dec.{ltb}
 use borrow.Author.Tests.{ltb-true, ltb-false}
-use Rattle.bytes.specs.Bytes.{index_of, slice}
 use Rattle.script.specs.declared.line.NextLine.{NextLine}
 use Rattle.script.specs.Lines.{line_feed, split, closed, lines_of}
 use Rattle.script.specs.Places.{lines_from, Reaches}
-use Rattle.script.proofs.Words.{alone, parted, part}
+use Rattle.script.proofs.Words.{index_of, alone, parted, part, behind, behind_all}
 
 -- Some bytes, not none: their first line ends at their first line feed, or at their end.
 
@@ -45,30 +44,33 @@ module _ (script : List ℕ) (from : ℕ) where
   unfolding Reaches
   no_line_reaches h = h
 
-  module _ (more : from < length script) (end : ℕ) (f : end ≡ from + index_of 10 (slice from (length script) script)) where
-    found : end ≡ from + index_of 10 (drop from script)
-    unfolding slice
-    found = f ∙ ap (λ (l : List ℕ). from + index_of 10 (drop from l)) (take_all (length script) script (omega arith))
+  module _ (more : from < length script) (n : ℕ) (f : n ≡ index_of 10 (behind script from)) (u : n ≤ length (behind script from)) where
+    found : n ≡ index_of 10 (drop from script)
+    found = f ∙ ap (index_of 10) (behind_all script from)
 
-    pub line_until : end ≤ length script → lines_of (drop from script) ≡ lines_from script from (NextLine.Until end)
+    short : from + n ≤ length script
+    short = omega (arith, ap length (behind_all script from), length-drop from script)
+
+    pub line_until : lines_of (drop from script) ≡ lines_from script from (NextLine.Until (from + n))
     unfolding lines_from
-    line_until u = at (ltb (index_of 10 (drop from script)) (length (drop from script))) refl
+    line_until = at (ltb (index_of 10 (drop from script)) (length (drop from script))) refl
       where
         at : (t : Bool) → ltb (index_of 10 (drop from script)) (length (drop from script)) ≡ t
-            → lines_of (drop from script) ≡ take (end - from) (drop from script) ∷ lines_of (drop (suc end) script)
+            → lines_of (drop from script) ≡ take (from + n - from) (drop from script) ∷ lines_of (drop (suc (from + n)) script)
         at true t =
-            let p : index_of 10 (drop from script) ≡ end - from = omega (arith, found) in
-            let q : from + suc (end - from) ≡ suc end = omega (arith, found) in
+            let p : index_of 10 (drop from script) ≡ from + n - from = omega (arith, found) in
+            let q : from + suc (from + n - from) ≡ suc (from + n) = omega arith in
             fed (drop from script) (ltb-true (index_of 10 (drop from script)) (length (drop from script)) t)
             ∙ ap (λ (k : ℕ). take k (drop from script) ∷ lines_of (drop (suc k) (drop from script))) p
-            ∙ rw (drop-drop (suc (end - from)) from script, q)
+            ∙ rw (drop-drop (suc (from + n - from)) from script, q)
         at false t =
             let v = ltb-false (index_of 10 (drop from script)) (length (drop from script)) t in
             let l = length-drop from script in
             let w = found in
-            rw (take_all (end - from) (drop from script) (omega arith), last (suc end) (omega arith))
+            let s = short in
+            rw (take_all (from + n - from) (drop from script) (omega arith), last (suc (from + n)) (omega arith))
             (ended (drop from script) (omega arith) (omega arith))
 
-    pub line_reaches : end ≤ length script → Reaches (length script) from (NextLine.Until end)
+    pub line_reaches : Reaches (length script) from (NextLine.Until (from + n))
     unfolding Reaches
-    line_reaches u = (omega arith, u)
+    line_reaches = (omega arith, short)

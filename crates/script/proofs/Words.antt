@@ -2,25 +2,32 @@
 -- Assumes nothing.
 use Prim.Native.Nat.{ℕ, zero, suc, ◌+◌, ◌-◌, ◌<◌, ◌≤◌}
 use mathlib.Core.Path.{◌≡◌, refl, sym, ap, ◌∙◌}
-use mathlib.Core.Bool.{Bool, true, false, cond}
+use mathlib.Core.Bool.{Bool, true, false, not, cond}
 use mathlib.Core.List.{List, [], ◌∷◌}
-use native.Mathlib.Nat.{zero-add}
 use native.Mathlib.Numerals.{add-one}
 use native.Mathlib.Omega.{arith}
 use lib.ListN.{length, get_or, take, drop, length-drop}
-use lib.Seq.{take_all, take-length, length-take-le}
+use lib.Seq.{take_all, length-take-le}
 use lib.Dec.{eqb, ltb}
 use borrow.Author.Tests.{ltb-true, ltb-false}
-use Rattle.bytes.specs.Bytes.{index_of, index_after, slice}
+use Rattle.std.specs.List.{position_or_len}
 use Rattle.script.specs.declared.number.Number.{Number}
 use Rattle.script.specs.declared.line.Arguments.{Arguments}
 use Rattle.script.specs.declared.line.Command.{Command}
 use Rattle.script.specs.Numbers.{number}
 use Rattle.script.specs.Lines.{space, split, begun, one, two, arguments, named, spoken, command}
 
+-- where the mark first stands, or the length
+abbrev pub index_of : ℕ → List ℕ → ℕ
+index_of mark l = position_or_len (λ (b : ℕ). eqb b mark) l
+
+-- and behind one byte more, which is the mark or not
+abbrev index_after : Bool → ℕ → ℕ
+index_after t n = cond (not t) (1 + n) 0
+
 -- the mark is in none of the bytes
 pub alone : (mark : ℕ) (l : List ℕ) → index_of mark l ≡ length l → split mark l ≡ l ∷ []
-unfolding index_of index_after split begun
+unfolding split begun
 alone mark [] e = refl
 alone mark (b ∷ bs) e = at (eqb b mark) (alone mark bs) e
   where
@@ -32,7 +39,7 @@ alone mark (b ∷ bs) e = at (eqb b mark) (alone mark bs) e
 -- the mark is in the bytes, first at that place
 pub parted : (mark : ℕ) (l : List ℕ) → index_of mark l < length l
     → split mark l ≡ take (index_of mark l) l ∷ split mark (drop (suc (index_of mark l)) l)
-unfolding index_of index_after split begun
+unfolding split begun
 parted mark [] h = absurd (omega arith)
 parted mark (b ∷ bs) h = at (eqb b mark) (parted mark bs) h
   where
@@ -43,7 +50,9 @@ parted mark (b ∷ bs) h = at (eqb b mark) (parted mark bs) h
         → cond t ([] ∷ split mark bs) (begun b (split mark bs))
         ≡ take (index_after t (index_of mark bs)) (b ∷ bs) ∷ split mark (drop (suc (index_after t (index_of mark bs))) (b ∷ bs))
     at true p h = refl
-    at false p h = ap (λ (ws : List (List ℕ)). begun b ws) (p (omega arith))
+    at false p h =
+        let next : 1 + index_of mark bs ≡ suc (index_of mark bs) = omega arith in
+        rw next (ap (λ (ws : List (List ℕ)). begun b ws) (p (omega arith)))
 
 -- there is always a part
 pub part : (mark : ℕ) (l : List ℕ) → 0 < length (split mark l)
@@ -63,40 +72,34 @@ three a b (c ∷ words) h = refl
 
 -- What the code's search for a space says of the words of a text, by the place that it answers.
 
-lastly : (text : List ℕ) (e : ℕ) → e ≡ 0 + index_of 32 (slice 0 (length text) text) → e ≡ index_of 32 text
-unfolding slice
-lastly text e f = f ∙ zero-add (index_of 32 (take (length text) text)) ∙ ap (index_of 32) (take-length text)
-
 -- what is behind that place
-abbrev behind : List ℕ → ℕ → List ℕ
+abbrev pub behind : List ℕ → ℕ → List ℕ
 behind text start = take (length text - start) (drop start text)
 
-behind_all : (text : List ℕ) (start : ℕ) → behind text start ≡ drop start text
+pub behind_all : (text : List ℕ) (start : ℕ) → behind text start ≡ drop start text
 behind_all text start = take_all (length text - start) (drop start text) (omega (arith, length-drop start text))
 
-module _ (text : List ℕ) (e : ℕ) (f : e ≡ 0 + index_of 32 (slice 0 (length text) text)) where
+module _ (text : List ℕ) (e : ℕ) (f : e ≡ index_of 32 text) where
   pub word_alone : e ≡ length text → split space text ≡ text ∷ []
   unfolding space
-  word_alone h = alone 32 text (sym (lastly text e f) ∙ h)
+  word_alone h = alone 32 text (sym f ∙ h)
 
   pub word_first : e < length text → split space text ≡ take e text ∷ split space (drop (e + 1) text)
   unfolding space
-  word_first h =
-      let g = lastly text e f in
-      rw (add-one e, g) (parted 32 text (omega arith))
+  word_first h = rw (add-one e, f) (parted 32 text (omega arith))
 
 pub word_length : (text : List ℕ) (e : ℕ) → e ≤ length text → e ≡ length (take e text)
 word_length text e h = sym (length-take-le e text h)
 
 -- the text behind the letter
-module _ (text : List ℕ) (e : ℕ) (f : e ≡ 0 + index_of 32 (slice 0 (length text) text)) (n : Number) (g : n ≡ number (take e text)) where
+module _ (text : List ℕ) (e : ℕ) (f : e ≡ index_of 32 text) (n : Number) (g : n ≡ number (take e text)) where
   pub one_word : (r : Arguments) → e ≡ length text → r ≡ one n → r ≡ arguments (split space text)
   unfolding arguments
   one_word r h p =
       rw (word_alone text e f h) (p ∙ ap one (g ∙ ap number (take_all e text (omega arith))))
 
   module _ (w : e ≤ length text) (h : e ≡ length text → ⊥) (d : ℕ)
-      (k : d ≡ 0 + index_of 32 (slice 0 (length (behind text (e + 1))) (behind text (e + 1)))) where
+      (k : d ≡ index_of 32 (behind text (e + 1))) where
     less : e < length text
     less = at (ltb e (length text)) refl
       where
@@ -135,7 +138,7 @@ no_letter [] words h = refl
 no_letter (b ∷ []) words h = absurd (h refl)
 no_letter (b ∷ a ∷ more) words h = refl
 
-module _ (line : List ℕ) (e : ℕ) (f : e ≡ 0 + index_of 32 (slice 0 (length line) line)) where
+module _ (line : List ℕ) (e : ℕ) (f : e ≡ index_of 32 line) where
   pub letter_alone : (r : Command) → e ≡ 1 → length line ≡ 1 → r ≡ named (get_or line 0 0) Arguments.Zero → r ≡ command line
   unfolding command spoken arguments
   letter_alone r h l p = rw (word_alone line e f (omega arith), single line l) p

@@ -4,3 +4,4 @@
 pub mod answer;
 pub mod line;
 pub mod number;
+pub mod scan;

@@ -4,6 +4,7 @@ ghost use Rattle.script.specs.Lines.{space, split, one, two, arguments, named, c
 ghost use Rattle.script.specs.Places.{Reaches, lines_from};
 
 use crate::number::{Number, parse_number};
+use crate::scan::find;
 
 // A line of a script (SPECIFICATION, "The script"), by its letter. Anything else is Bad.
 #[derive(Clone, Copy)]
@@ -53,14 +54,14 @@ fn two_numbers(first: Number, second: Number) -> Arguments
 fn parse_arguments(text: &[u8]) -> Arguments
     ensures { result ≡ arguments (split space text.now) }
 {
-    let end = bytes::scan::find(text, 0, text.len(), b' ');
+    let end = find(text, b' ');
     let first = parse_number(&text[..end]);
     if end == text.len() {
         return one_number(first);
     }
     let start = end + 1;
     let rest = &text[start..];
-    if bytes::scan::find(rest, 0, rest.len(), b' ') < rest.len() {
+    if find(rest, b' ') < rest.len() {
         return Arguments::Bad;
     }
     two_numbers(first, parse_number(rest))
@@ -98,7 +99,7 @@ fn command_of(letter: u8, numbers: Arguments) -> Command
 pub fn parse_line(line: &[u8]) -> Command
     ensures { result ≡ command line.now }
 {
-    let end = bytes::scan::find(line, 0, line.len(), b' ');
+    let end = find(line, b' ');
     if end == 1 {
         let letter = line[0];
         if line.len() == 1 {
@@ -122,7 +123,7 @@ pub fn next_line(script: &[u8], from: usize) -> NextLine
     ensures reaches { Reaches (length script.now) from result }
 {
     if from < script.len() {
-        let end = bytes::scan::find(script, from, script.len(), b'\n');
+        let end = from + find(&script[from..], b'\n');
         NextLine::Until(end)
     } else {
         NextLine::None

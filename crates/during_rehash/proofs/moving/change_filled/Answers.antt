@@ -1,0 +1,10 @@
+-- `during_rehash::moving::change_filled` meets its contract: what is known of the chain decides.
+use borrow.Author.Rules.{rules}
+use Rattle.during_rehash.proofs.Ways.{filled_unsound, filled_sound}
+use Rattle.during_rehash.proofs.moving.change_filled.Goals as goal
+
+pub change_chain-requires : goal.change_chain-requires
+change_chain-requires c = record { sound = search rules; s_value = search rules; foreseen = search filled_sound }
+
+pub returns-in-Unsound : goal.returns-in-Unsound
+returns-in-Unsound c = search filled_unsound

@@ -13,7 +13,6 @@ use Rattle.model.specs.Answers.{reply, error_number, verify_reply, repair_reply}
 use Rattle.model.specs.Calls.{After}
 use Rattle.model.specs.Verify.{verify}
 use Rattle.model.specs.Repair.{repair}
-use Rattle.repair_main.specs.declared.calls.Answers.{Answers}
 use Rattle.repair_main.specs.Answered.{in_numbers, behind, answered}
 
 -- Each answer, where it is known, in the numbers of its reply.

@@ -17,9 +17,9 @@ ghost use Rattle.std.specs.Prelude.{◌≤◌, length};
 
 use calls::answer_calls;
 use lent_bytes::state::{do_flags_fit, read_state, write_state};
-use libc::{STDIN_FILENO, STDOUT_FILENO};
 use little_endian::{read_numbers, write_numbers};
 use model::State;
+use std::io::{Read, Stdin, Stdout, Write};
 
 const STATE_BYTES: usize = 44;
 
@@ -34,26 +34,26 @@ const MOST_BYTES: usize = 192;
 const MOST_RECORDS: usize = 10000000;
 
 // The next numbers of the input, and whether there were so many.
-fn get(numbers: &mut [u32]) -> bool
+fn get(input: &mut Stdin, numbers: &mut [u32]) -> bool
     requires { length numbers.old ≤ 48 }
 {
     let mut bytes = [0u8; MOST_BYTES];
     let n = numbers.len() * 4;
     let part = &mut bytes[0..n];
-    if io::read_full(STDIN_FILENO, part) < n {
+    if input.read_exact(part).is_err() {
         return false;
     }
     read_numbers(part, numbers);
     true
 }
 
-fn put(numbers: &[u32]) -> bool
+fn put(output: &mut Stdout, numbers: &[u32]) -> bool
     requires { length numbers.now ≤ 48 }
 {
     let mut bytes = [0u8; MOST_BYTES];
     let part = &mut bytes[0..numbers.len() * 4];
     write_numbers(numbers, part);
-    io::write_all(STDOUT_FILENO, part)
+    output.write_all(part).is_ok()
 }
 
 // A state that was read. One with a flag that is not 0 or 1 is none.
@@ -63,9 +63,9 @@ enum Given {
     State(State),
 }
 
-fn get_state() -> Given {
+fn get_state(input: &mut Stdin) -> Given {
     let mut bytes = [0u8; STATE_BYTES];
-    if io::read_full(STDIN_FILENO, &mut bytes) < STATE_BYTES {
+    if input.read_exact(&mut bytes).is_err() {
         return Given::Nothing;
     }
     if do_flags_fit(&bytes) {
@@ -75,10 +75,10 @@ fn get_state() -> Given {
     }
 }
 
-fn put_state(s: State) -> bool {
+fn put_state(output: &mut Stdout, s: State) -> bool {
     let mut bytes = [0u8; STATE_BYTES];
     write_state(&mut bytes, s);
-    io::write_all(STDOUT_FILENO, &bytes)
+    output.write_all(&bytes).is_ok()
 }
 
 // The front of a room. No record that the comparison makes asks for more than the whole.
@@ -92,11 +92,11 @@ fn front(room: &mut [u32], length: u32) -> &mut [u32] {
 }
 
 // The rest of a record, behind the lengths and the state.
-fn answer_with(lengths: [u32; 3], s: State) -> bool {
+fn answer_with(input: &mut Stdin, output: &mut Stdout, lengths: [u32; 3], s: State) -> bool {
     let mut first = [0u32; BUCKET_ROOM];
     let mut second = [0u32; BUCKET_ROOM];
     let mut entries = [0u32; ENTRY_ROOM];
-    if !(get(&mut first) & get(&mut second) & get(&mut entries)) {
+    if !(get(input, &mut first) & get(input, &mut second) & get(input, &mut entries)) {
         return false;
     }
     let a = answer_calls(
@@ -106,27 +106,33 @@ fn answer_with(lengths: [u32; 3], s: State) -> bool {
         s,
     );
     let numbers = [a.verify, a.undamaged, a.repair];
-    put(&numbers) & put_state(a.state) & put(&first) & put(&second) & put(&entries)
+    put(output, &numbers)
+        & put_state(output, a.state)
+        & put(output, &first)
+        & put(output, &second)
+        & put(output, &entries)
 }
 
 // Answers one record, and says whether that could be done. One that is cut short counts as none, and a read that fails as the
 // end: the answers that are missing show.
-fn answer_one() -> bool {
+fn answer_one(input: &mut Stdin, output: &mut Stdout) -> bool {
     let mut lengths = [0u32; 3];
-    if !get(&mut lengths) {
+    if !get(input, &mut lengths) {
         return false;
     }
-    let given = get_state();
+    let given = get_state(input);
     match given {
         Given::Nothing => false,
-        Given::State(s) => answer_with(lengths, s),
+        Given::State(s) => answer_with(input, output, lengths, s),
     }
 }
 
-fn main() {
+fn main(rt: HostRuntime) {
+    let mut input = rt.stdin();
+    let mut output = rt.stdout();
     let mut left = MOST_RECORDS;
     while 0 < left {
-        if !answer_one() {
+        if !answer_one(&mut input, &mut output) {
             return;
         }
         left -= 1;

@@ -1,4 +1,4 @@
-// gcc -std=c99 bindings/c/example.c target/staticlib/libexports.a -o target/example && target/example
+// gcc -std=c99 bindings/c/example.c crates/exports/out/libexports.a -o target/example && target/example
 // find: done, 25 fails
 #include "suspects.h"
 #include <stdio.h>

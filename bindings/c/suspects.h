@@ -9,7 +9,7 @@
  * that these functions make. It is not stated once more of sequences of these functions (docs/PROMISES.md, "Calls over
  * bytes").
  *
- * The archive is made by `rt staticlib exports` (target/staticlib/libexports.a), for Linux on x86-64.
+ * The archive is made by `rt lib` in crates/exports (crates/exports/out/libexports.a), for Linux on x86-64.
  *
  * WORDS
  *
@@ -20,9 +20,9 @@
  *
  * AN EXAMPLE
  *
- * This is example.c, with the command that builds and runs it and what it writes.
+ * This is example.c, with the command that builds it in a folder target and runs it, and what it writes.
  *
- *     // gcc -std=c99 bindings/c/example.c target/staticlib/libexports.a -o target/example && target/example
+ *     // gcc -std=c99 bindings/c/example.c crates/exports/out/libexports.a -o target/example && target/example
  *     // find: done, 25 fails
  *     #include "suspects.h"
  *     #include <stdio.h>

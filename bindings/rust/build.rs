@@ -1,4 +1,4 @@
-//! Links the archive of the exports, which `rt staticlib exports` makes.
+//! Links the archive of the exports, which `rt lib` makes in `crates/exports`.
 
 use std::env;
 use std::path::Path;
@@ -12,7 +12,7 @@ fn main() {
     let here = Path::new(&here);
     let folder = match env::var_os(VARIABLE) {
         Some(folder) => here.join(folder),
-        None => here.ancestors().nth(2).unwrap_or(here).join("target/staticlib"),
+        None => here.ancestors().nth(2).unwrap_or(here).join("crates/exports/out"),
     };
     let archive = folder.join("libexports.a");
     // A file that is not there counts as changed, so a build that failed for it looks again.
@@ -22,8 +22,8 @@ fn main() {
         println!("cargo::rustc-link-lib=static=exports");
     } else {
         println!(
-            "cargo::error=no archive of the exports at {}: first run `rt staticlib exports` in \
-             the repository's folder, or name the folder of the archive in {VARIABLE}",
+            "cargo::error=no archive of the exports at {}: first run `rt lib` in the \
+             repository's folder crates/exports, or name the folder of the archive in {VARIABLE}",
             archive.display()
         );
     }

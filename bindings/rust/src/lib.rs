@@ -45,9 +45,9 @@
 //!
 //! # To build it
 //!
-//! The archive of the exports comes first: `rt staticlib exports` in the repository's folder. The
-//! variable `SUSPECTS_ARCHIVE_DIR` names its folder, by an absolute path, where that is not the
-//! repository's `target/staticlib`.
+//! The archive of the exports comes first: `rt lib` in the repository's folder `crates/exports`.
+//! The variable `SUSPECTS_ARCHIVE_DIR` names its folder, by an absolute path, where that is not the
+//! repository's `crates/exports/out`.
 
 mod bytes;
 mod cell;

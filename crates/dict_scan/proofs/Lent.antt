@@ -91,12 +91,12 @@ module _ (s : State) (entries list : List ℕ) (cursor : ℕ) where
         scanned_two entries list s.capacity (get_or (buckets_of current other t) (bucket_of cursor (size_of s t)) 0)
         (buckets_of current other u) (used_of s t) (used_of s u) (size_of s t) (size_of s u) cursor
 
-    in_order : (t u : Table) → used_of s t + used_of s u ≡ keys_held s
+    in_order_lem : (t u : Table) → used_of s t + used_of s u ≡ keys_held s
         → in_order t u
         ≡ scanned entries list (group_of t u).answered
         (at_most (keys_held s) (chains_at s current other entries (small_first t u (group_of t u))))
     unfolding in_order group_of scanned_two group_chains two_tables bucket_of hash
-    in_order t u keys =
+    in_order_lem t u keys =
         ap (scanned entries list (group_of t u).answered)
         (rw keys (ap (at_most (keys_held s)) (sym (group_chains_lem s current other entries t u (group_of t u)))))
 
@@ -115,8 +115,8 @@ module _ (s : State) (entries list : List ℕ) (cursor : ℕ) where
             (cond old_smaller
             (small_first Table.Old Table.New (group_of Table.Old Table.New))
             (small_first Table.New Table.Old (group_of Table.New Table.Old)))))
-        pick true = in_order Table.Old Table.New refl
-        pick false = in_order Table.New Table.Old (omega arith)
+        pick true = in_order_lem Table.Old Table.New refl
+        pick false = in_order_lem Table.New Table.Old (omega arith)
 
 -- The call on the lent buffers.
 
@@ -170,9 +170,9 @@ pub held_fits : (s : State) (first second entries : List ℕ) (t : Bool)
 held_fits s first second entries t e h f =
     let sound = sound_at_lem s.second_is_current s first second entries (sym e ∙ h) refl in omega arith
 
-pub one_table : (s : State) (first second entries : List ℕ) → Holding (length first) (length second) (length entries) s false
+pub one_table_lem : (s : State) (first second entries : List ℕ) → Holding (length first) (length second) (length entries) s false
     → One entries s.capacity s.old_used s.old_size
-one_table s first second entries g =
+one_table_lem s first second entries g =
     let sound = sound_at_lem s.second_is_current s first second entries g.sound refl in
     record { legal = sound.old_legal; entries_fit = sound.entries_fit; used_fits = omega arith }
 

@@ -66,20 +66,20 @@ module _ (s : State) (first second entries : List ℕ) (t : Bool)
   begin_safe_refused h = reading_refused s first second entries t e _ _ h
 
   module _ (h : t ≡ true) where
-    one_more : one_more s ≡ begin_safe s first second entries
+    one_more_lem : one_more s ≡ begin_safe s first second entries
     unfolding begin_safe
-    one_more = answered _ (one_more s) h
+    one_more_lem = answered _ (one_more s) h
 
     pub one_begun : (counted : State) → s.safe_iterators < most_safe_iterators
         → counted ≡ noted s s.resize_allowed (s.safe_iterators + 1)
         → StateAnswer.Set counted ≡ begin_safe s first second entries
     unfolding one_more
-    one_begun counted l c = ap StateAnswer.Set c ∙ (rw (lt-ltb s.safe_iterators most_safe_iterators l) at one_more)
+    one_begun counted l c = ap StateAnswer.Set c ∙ (rw (lt-ltb s.safe_iterators most_safe_iterators l) at one_more_lem)
 
     pub too_many : most_safe_iterators ≤ s.safe_iterators
         → StateAnswer.Refused Error.TooManyIterators ≡ begin_safe s first second entries
     unfolding one_more
-    too_many l = rw (le-ltb s.safe_iterators most_safe_iterators l) at one_more
+    too_many l = rw (le-ltb s.safe_iterators most_safe_iterators l) at one_more_lem
 
   -- .. and its end.
 
@@ -88,16 +88,16 @@ module _ (s : State) (first second entries : List ℕ) (t : Bool)
   end_safe_refused h = reading_refused s first second entries t e _ _ h
 
   module _ (h : t ≡ true) where
-    one_fewer : (iterators : ℕ) → s.safe_iterators ≡ iterators → one_fewer s iterators ≡ end_safe s first second entries
+    one_fewer_lem : (iterators : ℕ) → s.safe_iterators ≡ iterators → one_fewer s iterators ≡ end_safe s first second entries
     unfolding end_safe
-    one_fewer iterators i = ap (one_fewer s) (sym i) ∙ answered _ (one_fewer s s.safe_iterators) h
+    one_fewer_lem iterators i = ap (one_fewer s) (sym i) ∙ answered _ (one_fewer s s.safe_iterators) h
 
     pub one_ended : (counted : State) → 0 < s.safe_iterators
         → counted ≡ noted s s.resize_allowed (s.safe_iterators - 1)
         → StateAnswer.Set counted ≡ end_safe s first second entries
     unfolding one_fewer
-    one_ended counted l c = ap StateAnswer.Set c ∙ one_fewer (suc (s.safe_iterators - 1)) (omega arith)
+    one_ended counted l c = ap StateAnswer.Set c ∙ one_fewer_lem (suc (s.safe_iterators - 1)) (omega arith)
 
     pub none_begun : s.safe_iterators ≤ 0 → StateAnswer.Refused Error.NoSafeIterator ≡ end_safe s first second entries
     unfolding one_fewer
-    none_begun l = one_fewer 0 (omega arith)
+    none_begun l = one_fewer_lem 0 (omega arith)

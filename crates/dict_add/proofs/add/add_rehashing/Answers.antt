@@ -1,0 +1,17 @@
+-- `dict_add::add::add_rehashing` meets its contract: the flag says which lent buffer is current.
+use Rattle.during_rehash.proofs.Numbered.{sound_first, sound_second}
+use Rattle.dict_add.proofs.During.{moving_first, moving_second, moving_room}
+use Rattle.dict_add.proofs.add.add_rehashing.Goals as goal
+
+pub during-requires : goal.during-requires
+during-requires c = search sound_second
+
+pub during-requires-else-s : goal.during-requires-else-s
+during-requires-else-s c = search sound_first
+
+-- the second buffer is the current one
+pub returns-then-s : goal.returns-then-s
+returns-then-s c = record { entries_after = search moving_second; taken_room = search moving_room }
+
+pub returns-else-s : goal.returns-else-s
+returns-else-s c = record { entries_after = search moving_first; taken_room = search moving_room }

@@ -1,0 +1,13 @@
+-- `export_calls::answers::of_step` meets its contract: each way is a clause of the definition.
+use Rattle.model.specs.Answers.{reply, step_reply}
+use Rattle.lent_bytes.specs.Exports.{results}
+use Rattle.export_calls.specs.Kinds.{answer_of}
+use Rattle.export_calls.proofs.Telling.{known, step_value}
+use Rattle.export_calls.proofs.answers.of_step.Goals as goal
+
+pub returns-in-Stepped : goal.returns-in-Stepped
+returns-in-Stepped c = search (known, step_value)
+
+pub returns-in-Refused : goal.returns-in-Refused
+unfolding step_reply answer_of results reply
+returns-in-Refused c = search known

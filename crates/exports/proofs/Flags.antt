@@ -17,8 +17,8 @@ module _ (call : Bool → Call) (on : ℕ) (state first second entries list answ
   unfolding exported_flag refused
   flag_refused r out h d = rw (tested_not (tells_le on 1) (λ z. omega arith), d.0, d.1)
 
-  pub flag_passed : (done : Done) → on ≤ 1
-      → done ≡ exported_call (call (eqb on 1)) (Lent.lent state first second entries list answer)
-      → done ≡ exported_flag call on (Lent.lent state first second entries list answer)
+  pub flag_passed : (x : Done) → on ≤ 1
+      → x ≡ exported_call (call (eqb on 1)) (Lent.lent state first second entries list answer)
+      → x ≡ exported_flag call on (Lent.lent state first second entries list answer)
   unfolding exported_flag
-  flag_passed done h e = rw (tested (tells_le on 1) h) e
+  flag_passed x h e = rw (tested (tells_le on 1) h) e

@@ -23,12 +23,14 @@
 
 mod order;
 
-use libc::{STDIN_FILENO, STDOUT_FILENO};
+ghost use Rattle.std.specs.Prelude.{◌≤◌, length};
+
 use order::{Parsed, number_of_keys, parse_order};
 use speed_calls::keys::MAX_KEYS;
 use speed_calls::start::ORDER_ROOM;
 use speed_rounds::order::Order;
 use speed_rounds::rounds::all_rounds;
+use std::io::{self, Read, Stdin, Stdout};
 
 // Three numbers for each entry, and two in a walk's list for each key.
 const ENTRY_ROOM: usize = MAX_KEYS * 3;
@@ -64,22 +66,35 @@ fn run(order: Order, padding: &[u8; ORDER_ROOM]) -> u32 {
     )
 }
 
-fn answer(text: &[u8], padding: &[u8; ORDER_ROOM]) {
+// Reads until the buffer is full or the input ends, and answers how many bytes there are at its front. A read that fails counts
+// as the end.
+fn read_input(input: &mut Stdin, text: &mut [u8]) -> usize
+    ensures { result ≤ length text.new }
+{
+    let mut filled = 0;
+    while filled < text.len() {
+        let more = input.read(&mut text[filled..]).unwrap_or(0);
+        if more == 0 {
+            break;
+        }
+        filled += more;
+    }
+    filled
+}
+
+fn answer(output: &Stdout, text: &[u8], padding: &[u8; ORDER_ROOM]) -> io::Result<()> {
     let parsed = parse_order(text);
     match parsed {
-        Parsed::Bad => {
-            io::write_all(STDOUT_FILENO, b"bad order\n");
-        }
-        Parsed::Good(order) => {
-            io::print_decimal(STDOUT_FILENO, run(order, padding) as u64);
-            io::write_all(STDOUT_FILENO, b"\n");
-        }
+        Parsed::Bad => println!(output; "bad order"),
+        Parsed::Good(order) => println!(output; "{}", run(order, padding)),
     }
 }
 
-fn main() {
+fn main(rt: HostRuntime) {
+    let mut input = rt.stdin();
+    let output = rt.stdout();
     let mut text = [0u8; ORDER_ROOM];
-    let length = io::read_full(STDIN_FILENO, &mut text);
+    let length = read_input(&mut input, &mut text);
     let padding = text;
-    answer(&text[..length], &padding);
+    answer(&output, &text[..length], &padding).ok();
 }

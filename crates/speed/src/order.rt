@@ -1,6 +1,7 @@
 // What the text of an order says.
 use model::LARGEST_CAPACITY;
 use script::number::{Number, parse_number};
+use script::scan::find;
 use speed_calls::keys::{CELLS, MAX_KEYS};
 use speed_rounds::order::{Build, Order, Use, Work};
 
@@ -76,7 +77,7 @@ fn order_of(letter: u8, number: u32, rounds: u32) -> Parsed {
 
 // Two numbers with a space between them, for the work that the letter names.
 fn parse_numbers(letter: u8, text: &[u8]) -> Parsed {
-    let end = bytes::scan::find(text, 0, text.len(), b' ');
+    let end = find(text, b' ');
     if text.len() <= end {
         return Parsed::Bad;
     }

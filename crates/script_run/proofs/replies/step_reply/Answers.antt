@@ -1,0 +1,13 @@
+-- `script_run::replies::step_reply` meets its contract: each way is a clause of the definition.
+use Rattle.model.specs.Answers.{step_reply}
+use Rattle.script_run.specs.Runs.{values_of, handed}
+use Rattle.script_run.proofs.Calls.{known_replies, step_value}
+use Rattle.script_run.proofs.replies.step_reply.Goals as goal
+
+pub returns-in-Stepped : goal.returns-in-Stepped
+unfolding values_of handed
+returns-in-Stepped c = search (known_replies, step_value)
+
+pub returns-in-Refused : goal.returns-in-Refused
+unfolding step_reply values_of handed
+returns-in-Refused c = search known_replies

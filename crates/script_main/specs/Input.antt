@@ -5,5 +5,5 @@ use Rattle.script_main.specs.declared.Input.TheVariants.{Failed, Bytes}
 
 -- no more bytes were read than the buffer has
 abbrev pub Within : Input → List ℕ → Type 0
-Within Failed text = Unit {0}
+Within (Failed error) text = Unit {0}
 Within (Bytes n) text = n ≤ length text

@@ -15,6 +15,8 @@ use Rattle.model.specs.declared.Table.{Table}
 use Rattle.model.specs.declared.Error.{Error}
 use Rattle.model.specs.declared.Lookup.{Lookup}
 use Rattle.model.specs.declared.Ahead.{Ahead}
+use Rattle.model.specs.declared.EndAnswer.{EndAnswer}
+use Rattle.model.specs.declared.InitAnswer.{InitAnswer}
 use Rattle.model.specs.declared.UpdateAnswer.{UpdateAnswer}
 use Rattle.model.specs.declared.AddAnswer.{AddAnswer}
 use Rattle.model.specs.declared.DeleteAnswer.{DeleteAnswer}
@@ -24,7 +26,7 @@ use Rattle.model.specs.declared.StateAnswer.{StateAnswer}
 use Rattle.model.specs.Answers.{Reply, reply, error_number, init_reply, find_reply, update_reply, add_reply, delete_reply, resize_reply, step_reply, size_reply, state_reply, begin_reply, end_reply, table_reply}
 use Rattle.model.specs.Limits.{largest_exponent, legal_capacity, legal_size, empty_visits, most_safe_iterators}
 use Rattle.model.specs.Memory.{link_of, buckets_of, keys_held, Place, chain_at}
-use Rattle.model.specs.Calls.{After, oriented, reading, writing, changed, lookup, held, found, updated, push, pushed, target, takeable, added, unlink_bucket, unlink_entry, removed, deleted, long_enough, acceptable, resized, step_done, moved_chain, moved_from, step_taken, paused, stepped}
+use Rattle.model.specs.Calls.{After, no_state, oriented, reading, writing, changed, lookup, held, found, updated, push, pushed, target, takeable, added, unlink_bucket, unlink_entry, removed, deleted, long_enough, acceptable, resized, step_done, moved_chain, moved_from, step_taken, paused, stepped}
 use Rattle.model.specs.Calls as calls
 use Rattle.model.specs.Iterators.{one_more, one_fewer}
 use Rattle.model.specs.Iterators as iterators
@@ -331,6 +333,10 @@ module _ (w : World) where
       → Good w (Call.init capacity size) (rows w (Call.init capacity size)) (perform w (Call.init capacity size))
   unfolding perform rows row calls.init init_reply reply error_number LeavesAll Leaves left kept carry lengths_of world long_enough
   init_good capacity size =
+      let refuse : (e : Error) → Refuses w (Call.init capacity size) (error_number e)
+              (left init_reply (After.after (InitAnswer.Refused e no_state) w.first w.second w.entries)) =
+          λ e. (refl, refl)
+      in
       gated (left init_reply) (passes_not (tells_and (tells_true (legal_capacity capacity)) (tells_true (legal_size size))))
       (λ limits.
       gated (left init_reply) (passes_or (passes_le size (length w.first)) (passes_le (capacity * 3) (length w.entries)))
@@ -338,8 +344,8 @@ module _ (w : World) where
       let x = started_buckets_length capacity size w.first w.second w.entries limits long in
       let z = started_entries_length capacity size w.first w.second w.entries limits long in
       Good.answered refl (λ k. record { first = x k; second = length w.second; entries = z k }))
-      (refl, refl))
-      (refl, refl)
+      (refuse Error.BadState))
+      (refuse Error.BadSize)
 
   -- a live table has a bucket
   look_number : (n : ℕ) (buckets : List ℕ) → 0 < n → n ≤ length buckets → (table_reply w.state (take n buckets)).number ≡ 0
@@ -362,8 +368,12 @@ module _ (w : World) where
   read_good (ReadCall.end_iterator fingerprint) =
       read (λ a. kept w (end_reply w.state a) []) _ _ (refl, refl)
       (λ h.
+      let refuse : (e : Error) → Refuses w (Call.read (ReadCall.end_iterator fingerprint)) (error_number e)
+              (kept w (end_reply w.state (EndAnswer.Refused e)) []) =
+          λ e. (refl, refl)
+      in
       gated (λ a. kept w (end_reply w.state a) []) (passes_not (tells_eq fingerprint _)) (λ e. Good.answered refl refl)
-      (refl, refl))
+      (refuse Error.Changed))
 
   -- ---- the calls that set a field of the state
 
@@ -381,5 +391,10 @@ module _ (w : World) where
   note_good (StateCall.allow_resize allowed) = read set_out _ _ (refl, refl) (λ h. Good.answered refl refl)
   note_good StateCall.begin_safe =
       read set_out _ _ (refl, refl)
-      (λ h. gated set_out (passes_lt _ most_safe_iterators) (λ e. Good.answered refl refl) (refl, refl))
+      (λ h.
+      let refuse : (e : Error) → Refuses w (Call.note StateCall.begin_safe) (error_number e)
+              (set_out (StateAnswer.Refused e)) =
+          λ e. (refl, refl)
+      in
+      gated set_out (passes_lt _ most_safe_iterators) (λ e. Good.answered refl refl) (refuse Error.TooManyIterators))
   note_good StateCall.end_safe = read set_out _ _ (refl, refl) (λ h. fewer_good w.state.safe_iterators)

@@ -334,8 +334,8 @@ module _ (w : World) where
   unfolding perform rows row calls.init init_reply reply error_number LeavesAll Leaves left kept carry lengths_of world long_enough
   init_good capacity size =
       let refuse : (e : Error) → Refuses w (Call.init capacity size) (error_number e)
-              (left init_reply (After.after (InitAnswer.Refused e no_state) w.first w.second w.entries)) =
-          λ e. (refl, refl)
+      (left init_reply (After.after (InitAnswer.Refused e no_state) w.first w.second w.entries)) =
+      λ e. (refl, refl)
       in
       gated (left init_reply) (passes_not (tells_and (tells_true (legal_capacity capacity)) (tells_true (legal_size size))))
       (λ limits.
@@ -369,8 +369,8 @@ module _ (w : World) where
       read (λ a. kept w (end_reply w.state a) []) _ _ (refl, refl)
       (λ h.
       let refuse : (e : Error) → Refuses w (Call.read (ReadCall.end_iterator fingerprint)) (error_number e)
-              (kept w (end_reply w.state (EndAnswer.Refused e)) []) =
-          λ e. (refl, refl)
+      (kept w (end_reply w.state (EndAnswer.Refused e)) []) =
+      λ e. (refl, refl)
       in
       gated (λ a. kept w (end_reply w.state a) []) (passes_not (tells_eq fingerprint _)) (λ e. Good.answered refl refl)
       (refuse Error.Changed))
@@ -393,8 +393,8 @@ module _ (w : World) where
       read set_out _ _ (refl, refl)
       (λ h.
       let refuse : (e : Error) → Refuses w (Call.note StateCall.begin_safe) (error_number e)
-              (set_out (StateAnswer.Refused e)) =
-          λ e. (refl, refl)
+      (set_out (StateAnswer.Refused e)) =
+      λ e. (refl, refl)
       in
       gated set_out (passes_lt _ most_safe_iterators) (λ e. Good.answered refl refl) (refuse Error.TooManyIterators))
   note_good StateCall.end_safe = read set_out _ _ (refl, refl) (λ h. fewer_good w.state.safe_iterators)

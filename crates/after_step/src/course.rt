@@ -35,8 +35,8 @@ pub enum ChainSight {
 
 // The chain of bucket b of the old table, for the key's bucket in the new one and the entry asked for.
 fn survey_bucket(current: &[u32], entries: &[u32], s: State, b: u32, key: u32, n: u32) -> Survey
-    requires capacity_in_bounds { (s.capacity * 3 ≤ length entries.now) × (s.old_size ≤ length current.now) }
-    requires old_size_value { (legal_size s.old_size ≡ true) × (legal_size s.new_size ≡ true) × (b < s.old_size) }
+    requires entries_fit { (s.capacity * 3 ≤ length entries.now) × (s.old_size ≤ length current.now) }
+    requires legal { (legal_size s.old_size ≡ true) × (legal_size s.new_size ≡ true) × (b < s.old_size) }
     ensures { result ≡ surveyed entries.now s.new_size (bucket_of key s.new_size) key n
         (old_chain s current.now entries.now b) }
 {
@@ -108,7 +108,7 @@ pub fn link_beside(
     n: u32,
 ) -> u32
     requires sound { Sound s (length current.now) (length other.now) (length entries.now) }
-    requires rehashing_value { (s.rehashing ≡ true) × (0 < n) × (n ≤ s.capacity) }
+    requires rehashing { (s.rehashing ≡ true) × (0 < n) × (n ≤ s.capacity) }
     requires goes_chain { GoesChain s current.now other.now entries.now n
         (calls.step_taken s current.now other.now entries.now) b count meets }
     ensures { result ≡ link_of (entries_after

@@ -17,9 +17,9 @@ fn head_then(own: bool, met: u32, head: u32) -> u32
 // The link of entry n once the chain of that many entries has moved to a table of that size. The entries go to the heads of
 // their buckets in turn, so entry n is linked to what then heads its own.
 pub fn link_moved(buckets: &[u32], entries: &[u32], size: u32, head: u32, count: u32, n: u32) -> u32
-    requires size_value { (legal_size size ≡ true) × (size ≤ length buckets.now) }
+    requires legal { (legal_size size ≡ true) × (size ≤ length buckets.now) }
     requires chain_of { ChainOf entries.now head count }
-    requires n_nonzero { (0 < n) × (n * 3 ≤ length entries.now) }
+    requires is_entry { (0 < n) × (n * 3 ≤ length entries.now) }
     ensures { LinkMoved size head n result (chains buckets.now entries.now) }
 {
     let own = bucket_index(key_of(entries, n), size);

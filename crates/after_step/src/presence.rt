@@ -57,8 +57,8 @@ pub fn survey_chain(
     key: u32,
     n: u32,
 ) -> Survey
-    requires capacity_in_bounds { capacity * 3 ≤ length entries.now }
-    requires size_value { (legal_size size ≡ true) × (legal_size new_size ≡ true) }
+    requires entries_fit { capacity * 3 ≤ length entries.now }
+    requires legal { (legal_size size ≡ true) × (legal_size new_size ≡ true) }
     ensures { result ≡ surveyed entries.now new_size c key n
         (chain (in_bucket size b) entries.now capacity budget head) }
 {
@@ -197,7 +197,7 @@ pub fn tables_then(
     moves: bool,
 ) -> Presence
     requires sound { Sound s (length current.now) (length other.now) (length entries.now) }
-    requires rehashing_value { s.rehashing ≡ true }
+    requires rehashing { s.rehashing ≡ true }
     ensures { result ≡ tables_then s current.now other.now entries.now b key left budget last moves }
 {
     let new = new_then(

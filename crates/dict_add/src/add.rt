@@ -35,7 +35,7 @@ fn push_one(
     value: u32,
 ) -> Push
     requires readable { Readable size (length buckets.old) capacity (length entries.old) }
-    requires free_le_capacity { free ≤ capacity }
+    requires free_in_range { free ≤ capacity }
     ensures { left result buckets.new entries.new
         ≡ push_found buckets.old entries.old
         (push_free buckets.old entries.old size capacity used free key value)
@@ -54,8 +54,8 @@ fn push_resting(
     key: u32,
     value: u32,
 ) -> Push
-    requires s_value { sound_lent (length first.old) (length second.old) (length entries.old) s ≡ true }
-    requires rehashing_value { s.rehashing ≡ false }
+    requires sound { sound_lent (length first.old) (length second.old) (length entries.old) s ≡ true }
+    requires resting { s.rehashing ≡ false }
     ensures { after (push_answer s result) first.new second.new entries.new
         ≡ calls.add_after_step s first.old second.old entries.old key value }
 {
@@ -104,9 +104,9 @@ fn add_rehashing(
     key: u32,
     value: u32,
 ) -> Taken
-    requires s_value { sound_lent (length first.old) (length second.old) (length entries.old) s ≡ true }
-    requires rehashing_value { s.rehashing ≡ true }
-    ensures entries_after { after (taken_answer s result) first.new second.new entries.new
+    requires sound { sound_lent (length first.old) (length second.old) (length entries.old) s ≡ true }
+    requires rehashing { s.rehashing ≡ true }
+    ensures outcome { after (taken_answer s result) first.new second.new entries.new
         ≡ calls.add_after_step s first.old second.old entries.old key value }
     ensures taken_room { taken_room s result }
 {

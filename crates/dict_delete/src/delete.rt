@@ -102,8 +102,8 @@ fn step_lent(
     s: State,
     key: u32,
 ) -> Taken
-    requires s_value { sound_lent (length first.old) (length second.old) (length entries.old) s ≡ true }
-    requires s_value_2 { calls.step_due s ≡ true }
+    requires sound { sound_lent (length first.old) (length second.old) (length entries.old) s ≡ true }
+    requires step_due { calls.step_due s ≡ true }
     ensures { PreparedLent s first.old second.old entries.old key result
         first.new second.new entries.new }
 {
@@ -154,8 +154,8 @@ fn step_before(
     s: State,
     key: u32,
 ) -> StepAnswer
-    requires s_value { sound_lent (length first.old) (length second.old) (length entries.old) s ≡ true }
-    requires s_value_2 { calls.step_due s ≡ true }
+    requires sound { sound_lent (length first.old) (length second.old) (length entries.old) s ≡ true }
+    requires step_due { calls.step_due s ≡ true }
     ensures { SteppedBefore s first.old second.old entries.old key result
         first.new second.new entries.new }
 {
@@ -184,8 +184,8 @@ fn delete_after_step(
     s: State,
     key: u32,
 ) -> DeleteAnswer
-    requires s_value { sound_lent (length first.old) (length second.old) (length entries.old) s ≡ true }
-    requires s_value_2 { calls.step_due s ≡ true }
+    requires sound { sound_lent (length first.old) (length second.old) (length entries.old) s ≡ true }
+    requires step_due { calls.step_due s ≡ true }
     ensures { after result first.new second.new entries.new
         ≡ calls.delete s first.old second.old entries.old key }
 {

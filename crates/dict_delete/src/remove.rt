@@ -19,7 +19,7 @@ use search::lookup::lookup_in;
 // Entry n off its chain, where it stands behind another entry or at the head of the key's bucket.
 fn unlink(buckets: &mut [u32], entries: &mut [u32], size: u32, key: u32, before: u32, n: u32)
     requires readable { Readable size (length buckets.old) n (length entries.old) }
-    requires n_nonzero { (0 < n) × (before * 3 ≤ length entries.old) }
+    requires is_entry { (0 < n) × (before * 3 ≤ length entries.old) }
     ensures buckets_after { buckets.new
         ≡ calls.unlink_bucket buckets.old entries.old (bucket_of key size) before n }
     ensures entries_after { entries.new ≡ calls.unlink_entry entries.old before n }
@@ -44,7 +44,7 @@ pub fn free_entry(
     free: u32,
 )
     requires readable { Readable size (length buckets.old) n (length entries.old) }
-    requires n_nonzero { (0 < n) × (before * 3 ≤ length entries.old) }
+    requires is_entry { (0 < n) × (before * 3 ≤ length entries.old) }
     ensures buckets_after { buckets.new
         ≡ calls.unlink_bucket buckets.old entries.old (bucket_of key size) before n }
     ensures entries_after { entries.new
@@ -73,7 +73,7 @@ fn remove_one(
     key: u32,
 ) -> Removal
     requires { Readable size (length buckets.old) capacity (length entries.old) }
-    ensures entries_after { left result buckets.new entries.new
+    ensures outcome { left result buckets.new entries.new
         ≡ removed_one buckets.old entries.old size free key
         (searched_in entries.old capacity used buckets.old size key Table.Old) }
     ensures from_some { FromSome used result }
@@ -101,9 +101,9 @@ fn remove_resting(
     s: State,
     key: u32,
 ) -> Removal
-    requires s_value { sound_lent (length first.old) (length second.old) (length entries.old) s ≡ true }
-    requires rehashing_value { s.rehashing ≡ false }
-    ensures entries_after { after (removal_answer s result) first.new second.new entries.new
+    requires sound { sound_lent (length first.old) (length second.old) (length entries.old) s ≡ true }
+    requires resting { s.rehashing ≡ false }
+    ensures outcome { after (removal_answer s result) first.new second.new entries.new
         ≡ calls.delete_alone s first.old second.old entries.old key }
     ensures from_some { FromSome s.old_used result }
 {
@@ -154,8 +154,8 @@ pub fn delete_resting(
     s: State,
     key: u32,
 ) -> DeleteAnswer
-    requires s_value { sound_lent (length first.old) (length second.old) (length entries.old) s ≡ true }
-    requires rehashing_value { s.rehashing ≡ false }
+    requires sound { sound_lent (length first.old) (length second.old) (length entries.old) s ≡ true }
+    requires resting { s.rehashing ≡ false }
     ensures { after result first.new second.new entries.new
         ≡ calls.delete_alone s first.old second.old entries.old key }
 {

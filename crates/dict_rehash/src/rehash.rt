@@ -47,8 +47,8 @@ pub fn look_ahead(buckets: &[u32], from: u32, size: u32) -> Ahead
 // An entry to the head of its bucket in a table of that size; the answer is the next entry of the chain that it leaves.
 // The link is read before the entry is linked anew.
 fn move_entry(buckets: &mut [u32], entries: &mut [u32], size: u32, n: u32) -> u32
-    requires size_value { (legal_size size ≡ true) × (size ≤ length buckets.old) }
-    requires n_nonzero { (0 < n) × (n * 3 ≤ length entries.old) }
+    requires legal { (legal_size size ≡ true) × (size ≤ length buckets.old) }
+    requires is_entry { (0 < n) × (n * 3 ≤ length entries.old) }
     ensures { EntryMoved size n result (chains buckets.old entries.old)
         (chains buckets.new entries.new) }
 {
@@ -62,7 +62,7 @@ fn move_entry(buckets: &mut [u32], entries: &mut [u32], size: u32, n: u32) -> u3
 
 // The chain of that many entries from its head, in turn, to a table of that size.
 fn move_chain(buckets: &mut [u32], entries: &mut [u32], size: u32, head: u32, count: u32)
-    requires size_value { (legal_size size ≡ true) × (size ≤ length buckets.old) }
+    requires legal { (legal_size size ≡ true) × (size ≤ length buckets.old) }
     requires chain_of { ChainOf entries.old head count }
     ensures { ChainMoved size head (chains buckets.old entries.old)
         (chains buckets.new entries.new) }
@@ -84,9 +84,9 @@ pub fn move_counted(
     count: u32,
 ) -> Progress
     requires sound { Sound s (length current.old) (length other.old) (length entries.old) }
-    requires rehashing_value { (s.rehashing ≡ true) × (b < s.old_size) }
+    requires rehashing { (s.rehashing ≡ true) × (b < s.old_size) }
     requires old_chain { OldChain s current.old entries.old b count }
-    ensures entries_after { after (step_answer s result) current.new other.new entries.new
+    ensures outcome { after (step_answer s result) current.new other.new entries.new
         ≡ calls.moved_chain s current.old other.old entries.old b
         (old_chain s current.old entries.old b) }
     ensures step_room { step_room s result }
@@ -109,8 +109,8 @@ fn move_bucket(
     b: u32,
 ) -> Progress
     requires sound { Sound s (length current.old) (length other.old) (length entries.old) }
-    requires rehashing_value { (s.rehashing ≡ true) × (b < s.old_size) }
-    ensures entries_after { after (step_answer s result) current.new other.new entries.new
+    requires rehashing { (s.rehashing ≡ true) × (b < s.old_size) }
+    ensures outcome { after (step_answer s result) current.new other.new entries.new
         ≡ calls.moved_chain s current.old other.old entries.old b
         (old_chain s current.old entries.old b) }
     ensures step_room { step_room s result }
@@ -128,8 +128,8 @@ fn move_bucket(
 // The old table holds keys, so if its end comes first it is damaged.
 fn move_next(current: &mut [u32], other: &mut [u32], entries: &mut [u32], s: State) -> Progress
     requires sound { Sound s (length current.old) (length other.old) (length entries.old) }
-    requires rehashing_value { s.rehashing ≡ true }
-    ensures entries_after { after (step_answer s result) current.new other.new entries.new
+    requires rehashing { s.rehashing ≡ true }
+    ensures outcome { after (step_answer s result) current.new other.new entries.new
         ≡ calls.moved_from s current.old other.old entries.old
         (calls.ahead_of s current.old) }
     ensures step_room { step_room s result }
@@ -145,8 +145,8 @@ fn move_next(current: &mut [u32], other: &mut [u32], entries: &mut [u32], s: Sta
 // During a rehash that no safe iterator holds up. With no keys in the old table the step only ends the rehash.
 fn take_step(current: &mut [u32], other: &mut [u32], entries: &mut [u32], s: State) -> Progress
     requires sound { Sound s (length current.old) (length other.old) (length entries.old) }
-    requires rehashing_value { s.rehashing ≡ true }
-    ensures entries_after { after (step_answer s result) current.new other.new entries.new
+    requires rehashing { s.rehashing ≡ true }
+    ensures outcome { after (step_answer s result) current.new other.new entries.new
         ≡ calls.step_taken s current.old other.old entries.old }
     ensures step_room { step_room s result }
 {
@@ -159,7 +159,7 @@ fn take_step(current: &mut [u32], other: &mut [u32], entries: &mut [u32], s: Sta
 
 // On the current and the other bucket buffer: the tests in the order of the answers.
 fn step_in(current: &mut [u32], other: &mut [u32], entries: &mut [u32], s: State) -> Progress
-    ensures entries_after { after (step_answer s result) current.new other.new entries.new
+    ensures outcome { after (step_answer s result) current.new other.new entries.new
         ≡ calls.checked s entries.old (λ c o. after (answer.Refused why.BadState) c o entries.old)
         (λ c o. calls.stepped s c o entries.old s.rehashing) current.old other.old }
     ensures step_room { step_room s result }
@@ -181,7 +181,7 @@ fn step_in(current: &mut [u32], other: &mut [u32], entries: &mut [u32], s: State
 
 // The state says which of the lent buffers is the current one.
 fn step_oriented(first: &mut [u32], second: &mut [u32], entries: &mut [u32], s: State) -> Progress
-    ensures entries_after { after (step_answer s result) first.new second.new entries.new
+    ensures outcome { after (step_answer s result) first.new second.new entries.new
         ≡ calls.rehash_step s first.old second.old entries.old }
     ensures step_room { step_room s result }
 {

@@ -31,8 +31,8 @@ fn change_paused(
     purpose: Purpose,
 ) -> Taken
     requires sound { Sound s (length current.now) (length other.old) (length entries.old) }
-    requires rehashing_value { s.rehashing ≡ true }
-    requires fact { s.safe_iterators ≡ 0 → ⊥ }
+    requires rehashing { s.rehashing ≡ true }
+    requires paused { s.safe_iterators ≡ 0 → ⊥ }
     ensures { Meets s current.now other.old entries.old key purpose result
         current.now other.new entries.new }
 {

@@ -13,7 +13,7 @@ use model::State;
 
 // Entry n, with the key and the value, at the head of the key's bucket.
 pub fn push_entry(buckets: &mut [u32], entries: &mut [u32], size: u32, n: u32, key: u32, value: u32)
-    requires n_nonzero { 0 < n }
+    requires is_entry { 0 < n }
     requires readable { Readable size (length buckets.old) n (length entries.old) }
     ensures buckets_after { buckets.new ≡ set buckets.old (bucket_of key size) n }
     ensures entries_after { entries.new

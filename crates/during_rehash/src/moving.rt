@@ -105,7 +105,7 @@ fn add_still(
     presence: Presence,
 ) -> Taken
     requires sound { Sound s (length current.now) (length other.old) (length entries.old) }
-    requires s_value { calls.step_due s ≡ true }
+    requires step_due { calls.step_due s ≡ true }
     requires foreseen { Foreseen s current.now other.old entries.old key s.free_head
         (calls.step_taken s current.now other.old entries.old) (sight presence (Course.Still next)) }
     ensures { Comes s current.now other.old entries.old key value result
@@ -189,7 +189,7 @@ fn add_chain(
     presence: Presence,
 ) -> Taken
     requires sound { Sound s (length current.old) (length other.old) (length entries.old) }
-    requires s_value { calls.step_due s ≡ true }
+    requires step_due { calls.step_due s ≡ true }
     requires foreseen { Foreseen s current.old other.old entries.old key s.free_head
         (calls.step_taken s current.old other.old entries.old) (sight presence (Course.Moving b count meets)) }
     ensures { Comes s current.old other.old entries.old key value result
@@ -267,7 +267,7 @@ fn step_chain(
     presence: Presence,
 ) -> Taken
     requires sound { Sound s (length current.old) (length other.old) (length entries.old) }
-    requires s_value { calls.step_due s ≡ true }
+    requires step_due { calls.step_due s ≡ true }
     requires foreseen { Foreseen s current.old other.old entries.old key s.free_head
         (calls.step_taken s current.old other.old entries.old) (sight presence (Course.Moving b count meets)) }
     ensures { PreparedIn s current.old other.old entries.old key result
@@ -292,7 +292,7 @@ fn change_still(
     presence: Presence,
 ) -> Taken
     requires sound { Sound s (length current.now) (length other.old) (length entries.old) }
-    requires s_value { calls.step_due s ≡ true }
+    requires step_due { calls.step_due s ≡ true }
     requires foreseen { Foreseen s current.now other.old entries.old key s.free_head
         (calls.step_taken s current.now other.old entries.old) (sight presence (Course.Still next)) }
     ensures { Meets s current.now other.old entries.old key purpose result
@@ -318,7 +318,7 @@ fn change_chain(
     presence: Presence,
 ) -> Taken
     requires sound { Sound s (length current.old) (length other.old) (length entries.old) }
-    requires s_value { calls.step_due s ≡ true }
+    requires step_due { calls.step_due s ≡ true }
     requires foreseen { Foreseen s current.old other.old entries.old key s.free_head
         (calls.step_taken s current.old other.old entries.old) (sight presence (Course.Moving b count meets)) }
     ensures { Meets s current.old other.old entries.old key purpose result
@@ -369,8 +369,8 @@ fn change_ahead(
     purpose: Purpose,
 ) -> Taken
     requires sound { Sound s (length current.old) (length other.old) (length entries.old) }
-    requires s_value { calls.step_due s ≡ true }
-    requires old_used_nonzero { 0 < s.old_used }
+    requires step_due { calls.step_due s ≡ true }
+    requires keys_left { 0 < s.old_used }
     ensures { Meets s current.old other.old entries.old key purpose result
         current.new other.new entries.new }
 {
@@ -398,7 +398,7 @@ pub fn change_moving(
     purpose: Purpose,
 ) -> Taken
     requires sound { Sound s (length current.old) (length other.old) (length entries.old) }
-    requires s_value { calls.step_due s ≡ true }
+    requires step_due { calls.step_due s ≡ true }
     ensures { Meets s current.old other.old entries.old key purpose result
         current.new other.new entries.new }
 {

@@ -33,7 +33,7 @@ fn push_free(
     value: u32,
 ) -> Push
     requires readable { Readable size (length buckets.old) capacity (length entries.old) }
-    requires free_le_capacity { free ≤ capacity }
+    requires free_in_range { free ≤ capacity }
     ensures { left result buckets.new entries.new
         ≡ push_free buckets.old entries.old size capacity held free key value }
 {
@@ -65,7 +65,7 @@ pub fn push_found(
     at: Found,
 ) -> Push
     requires readable { Readable size (length buckets.old) capacity (length entries.old) }
-    requires free_le_capacity { free ≤ capacity }
+    requires free_in_range { free ≤ capacity }
     ensures { left result buckets.new entries.new
         ≡ push_found buckets.old entries.old
         (push_free buckets.old entries.old size capacity held free key value) at }
@@ -87,7 +87,7 @@ pub(crate) fn push_paused(
     value: u32,
 ) -> Push
     requires sound { Sound s (length current.now) (length other.old) (length entries.old) }
-    requires rehashing_value { s.rehashing ≡ true }
+    requires rehashing { s.rehashing ≡ true }
     ensures { after (push_answer s result) current.now other.new entries.new
         ≡ calls.added s current.now other.old entries.old key value
         (calls.lookup s current.now other.old entries.old key) }

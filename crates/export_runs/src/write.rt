@@ -26,7 +26,7 @@ fn with_entries(
     answer: &mut [u8],
     change: Change,
 ) -> u32
-    requires whole { Whole most_entry_bytes (length entries.old) }
+    requires entries_whole { Whole most_entry_bytes (length entries.old) }
     requires ready { Ready change state.old answer.old }
     ensures { done result (lent state.new (encode first.new) (encode second.new) entries.new [] answer.new)
         ≡ leaves change state.old (perform (numbers_from state.old first.old second.old (decode entries.old)) (change_call change)) }
@@ -46,8 +46,8 @@ fn with_second(
     answer: &mut [u8],
     change: Change,
 ) -> u32
-    requires whole { Whole most_bucket_bytes (length second.old) }
-    requires whole_2 { Whole most_entry_bytes (length entries.old) }
+    requires second_whole { Whole most_bucket_bytes (length second.old) }
+    requires entries_whole { Whole most_entry_bytes (length entries.old) }
     requires ready { Ready change state.old answer.old }
     ensures { done result (lent state.new (encode first.new) second.new entries.new [] answer.new)
         ≡ leaves change state.old (perform (numbers_from state.old first.old (decode second.old) (decode entries.old)) (change_call change)) }

@@ -79,7 +79,7 @@ fn iterate_rehashing(
     place: u32,
 ) -> ScanAnswer
     requires sound { Sound s (length current.now) (length other.now) (length entries.now) }
-    requires rehashing_value { s.rehashing ≡ true }
+    requires rehashing { s.rehashing ≡ true }
     ensures { after result list.new
         ≡ iterators.handed s current.now other.now entries.now list.old
         (iterators.first_place (iterators.filled s current.now other.now) (tables_of s) place) }
@@ -114,8 +114,8 @@ fn iterate_both(
     s: State,
     place: u32,
 ) -> ScanAnswer
-    requires s_value { sound_lent (length first.now) (length second.now) (length entries.now) s ≡ true }
-    requires rehashing_value { s.rehashing ≡ true }
+    requires sound { sound_lent (length first.now) (length second.now) (length entries.now) s ≡ true }
+    requires rehashing { s.rehashing ≡ true }
     ensures { after result list.new
         ≡ iterators.iterate s first.now second.now entries.now list.old place }
 {
@@ -135,8 +135,8 @@ fn iterate_only(
     s: State,
     place: u32,
 ) -> ScanAnswer
-    requires s_value { sound_lent (length first.now) (length second.now) (length entries.now) s ≡ true }
-    requires rehashing_value { s.rehashing ≡ false }
+    requires sound { sound_lent (length first.now) (length second.now) (length entries.now) s ≡ true }
+    requires resting { s.rehashing ≡ false }
     ensures { after result list.new
         ≡ iterators.iterate s first.now second.now entries.now list.old place }
 {

@@ -24,8 +24,8 @@ pub fn chain_length(
     size: u32,
     b: usize,
 ) -> ChainLength
-    requires capacity_in_bounds { capacity * 3 ≤ length entries.now }
-    requires size_value { legal_size size ≡ true }
+    requires entries_fit { capacity * 3 ≤ length entries.now }
+    requires legal { legal_size size ≡ true }
     ensures { result ≡ length_of (chain (in_bucket size b) entries.now capacity budget head) }
 {
     let mut at = head;

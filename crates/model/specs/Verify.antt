@@ -1,6 +1,6 @@
 -- SPECIFICATION, "Check and mend": the check. Whether a store whose state is sound is undamaged, as the code finds it out: no
--- entry is marked, but every entry looks up its own key. That this is so is proved (`verified_tells`, integrity), and stated as
--- `yes` and `no` (refinement/specs/Integrity).
+-- entry is marked, but every entry looks up its own key. That it says yes exactly of an undamaged store is proved
+-- (`verified_tells`, integrity).
 use Rattle.std.specs.Prelude.{ℕ, zero, suc, ◌+◌, ◌-◌, Bool, true, false, ◌&&◌, not, cond, List, [], ◌∷◌, length, get_or, eqb}
 use Rattle.std.proofs.Math.Option.{Option, none, some}
 use Rattle.model.specs.declared.State.{State}

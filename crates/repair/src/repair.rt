@@ -29,7 +29,7 @@ fn cut_and_mark(
     s: State,
 )
     requires sound { Sound s (length current.old) (length other.old) (length entries.old) }
-    requires capacity_in_bounds { s.capacity ≤ length marks.old }
+    requires marks_fit { s.capacity ≤ length marks.old }
     ensures { buffers current.new other.new entries.new marks.new
         ≡ cut_and_marked s current.old other.old entries.old marks.old }
 {
@@ -47,7 +47,7 @@ fn rebuild(
     s: State,
 ) -> u32
     requires sound { Sound s (length current.old) (length other.old) (length entries.old) }
-    requires capacity_in_bounds { s.capacity ≤ length marks.now }
+    requires marks_fit { s.capacity ≤ length marks.now }
     ensures { after result current.new other.new entries.new
         ≡ rebuilt s marks.now current.old other.old entries.old }
 {
@@ -59,9 +59,9 @@ fn rebuild(
 // The state with the counts and the first free entry set right, and with the next bucket to rehash no further than the first
 // filled one.
 fn recount(current: &[u32], other: &[u32], entries: &[u32], s: State, free: u32) -> State
-    requires countable { Countable current.now entries.now s.capacity s.old_size }
-    requires countable_2 { Countable other.now entries.now s.capacity s.new_size }
-    requires rehash_index_in_bounds { s.rehash_index ≤ length current.now }
+    requires current_countable { Countable current.now entries.now s.capacity s.old_size }
+    requires other_countable { Countable other.now entries.now s.capacity s.new_size }
+    requires index_in_range { s.rehash_index ≤ length current.now }
     ensures { result ≡ recounted s current.now other.now entries.now free }
 {
     let mut t = s;

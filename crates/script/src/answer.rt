@@ -9,6 +9,7 @@ use crate::number::write_number;
 use model::Error;
 
 // The number of a refusal (SPECIFICATION, "Answers").
+#[tactic(auto, unfolding(model::specs::Answers::error_number))]
 pub fn error_number(e: Error) -> u32
     ensures { result ≡ error_number e }
 {

@@ -60,8 +60,8 @@ fn search_entry(
     b: usize,
     key: u32,
 ) -> Found
-    requires capacity_in_bounds { capacity * 3 ≤ length entries.now }
-    requires size_value { legal_size size ≡ true }
+    requires entries_fit { capacity * 3 ≤ length entries.now }
+    requires legal { legal_size size ≡ true }
     ensures { (t : Table) → result ≡ found_of (searched entries.now key t 0
         (chain (in_bucket size b) entries.now capacity budget head)) }
 {
@@ -100,6 +100,7 @@ pub fn entry_in(
 }
 
 // Both chains must be sound, and the old table's entry comes first.
+#[tactic(auto, unfolding(crate::specs::Found::both_found))]
 fn both_found(old: Found, new: Found) -> Found
     ensures { result ≡ both_found old new }
 {
@@ -126,8 +127,8 @@ pub fn entry_in_both(
     new_size: u32,
     key: u32,
 ) -> Found
-    requires readable { Readable old_size (length old.now) capacity (length entries.now) }
-    requires readable_2 { Readable new_size (length new.now) capacity (length entries.now) }
+    requires old_readable { Readable old_size (length old.now) capacity (length entries.now) }
+    requires new_readable { Readable new_size (length new.now) capacity (length entries.now) }
     ensures { result ≡ found_of (both
         (searched_in entries.now capacity old_used old.now old_size key Table.Old)
         (searched_in entries.now capacity new_used new.now new_size key Table.New)) }
@@ -168,8 +169,8 @@ fn entry_lent(
 
 // The key's entry with no rehash under way. It is small enough for the compiler to build it into find and into update.
 pub fn entry_resting(first: &[u32], second: &[u32], entries: &[u32], s: State, key: u32) -> Found
-    requires s_value { sound_lent (length first.now) (length second.now) (length entries.now) s ≡ true }
-    requires rehashing_value { s.rehashing ≡ false }
+    requires sound { sound_lent (length first.now) (length second.now) (length entries.now) s ≡ true }
+    requires resting { s.rehashing ≡ false }
     ensures { result ≡ found_of (lookup_lent s first.now second.now entries.now key) }
 {
     entry_lent(
@@ -187,8 +188,8 @@ pub fn entry_resting(first: &[u32], second: &[u32], entries: &[u32], s: State, k
 // The key's entry during a rehash: the new table lies in the other buffer. Its two loops are too much to be built into two
 // calls, so that it stays a call of its own, off the quick path.
 pub fn entry_moving(first: &[u32], second: &[u32], entries: &[u32], s: State, key: u32) -> Found
-    requires s_value { sound_lent (length first.now) (length second.now) (length entries.now) s ≡ true }
-    requires rehashing_value { s.rehashing ≡ true }
+    requires sound { sound_lent (length first.now) (length second.now) (length entries.now) s ≡ true }
+    requires rehashing { s.rehashing ≡ true }
     ensures { result ≡ found_of (lookup_lent s first.now second.now entries.now key) }
 {
     let in_old = entry_lent(

@@ -28,8 +28,8 @@ fn search_chain(
     key: u32,
     table: Table,
 ) -> Lookup
-    requires capacity_in_bounds { capacity * 3 ≤ length entries.now }
-    requires size_value { legal_size size ≡ true }
+    requires entries_fit { capacity * 3 ≤ length entries.now }
+    requires legal { legal_size size ≡ true }
     ensures { result ≡ searched entries.now key table 0
         (chain (in_bucket size b) entries.now capacity budget head) }
 {
@@ -82,6 +82,7 @@ pub fn lookup_in(
 }
 
 // Both chains must be sound, and the old table's entry comes first.
+#[tactic(auto, unfolding(model::specs::Calls::both))]
 fn both_tables(old: Lookup, new: Lookup) -> Lookup
     ensures { result ≡ both old new }
 {

@@ -12,7 +12,7 @@ use search::found::{entry_in, entry_in_both, found_is};
 // By the entry's number alone, as find has it: the way to an entry would go through memory.
 fn finds_itself(current: &[u32], other: &[u32], entries: &[u32], s: State, n: u32) -> bool
     requires sound { Sound s (length current.now) (length other.now) (length entries.now) }
-    requires n_nonzero { (0 < n) × (n ≤ s.capacity) }
+    requires is_entry { (0 < n) × (n ≤ s.capacity) }
     ensures { result ≡ finds_itself s current.now other.now entries.now n }
 {
     let key = key_of(entries, n);

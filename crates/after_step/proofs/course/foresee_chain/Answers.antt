@@ -6,7 +6,7 @@ use Rattle.after_step.proofs.Courses.{foreseen_unsound, foreseen_moving}
 use Rattle.after_step.proofs.course.foresee_chain.Goals as goal
 
 pub survey_bucket-moving-requires : goal.survey_bucket-moving-requires
-survey_bucket-moving-requires c = record { capacity_in_bounds = (search rules, search rules); old_size_value = (search rules, search new_legal, search rules) }
+survey_bucket-moving-requires c = record { entries_fit = (search rules, search rules); legal = (search rules, search new_legal, search rules) }
 
 pub overflow_sub-left : goal.overflow_sub-left
 overflow_sub-left c = search (old_enough, rules)

@@ -5,7 +5,7 @@ use Rattle.after_step.proofs.Courses.{goes_counted, link_met, link_kept}
 use Rattle.after_step.proofs.course.link_beside.Goals as goal
 
 pub link_moved-requires : goal.link_moved-requires
-link_moved-requires c = record { size_value = (search target_legal, search target_fits); chain_of = search goes_counted; n_nonzero = search rules }
+link_moved-requires c = record { legal = (search target_legal, search target_fits); chain_of = search goes_counted; is_entry = search rules }
 
 pub returns-then-meets : goal.returns-then-meets
 returns-then-meets c = search link_met

@@ -7,13 +7,13 @@ use Rattle.dict_add.proofs.During.{taken_by}
 use Rattle.dict_add.proofs.add.add_after_step.Goals as goal
 
 pub add_rehashing-taken-requires : goal.add_rehashing-taken-requires
-add_rehashing-taken-requires c = record { s_value = search tested_lent; rehashing_value = search rules }
+add_rehashing-taken-requires c = record { sound = search tested_lent; rehashing = search rules }
 
 pub answer_taken-requires : goal.answer_taken-requires
 answer_taken-requires c = record { counted = search counted; taken_room = search rules }
 
 pub push_resting-pushed-requires : goal.push_resting-pushed-requires
-push_resting-pushed-requires c = record { s_value = search tested_lent; rehashing_value = search rules }
+push_resting-pushed-requires c = record { sound = search tested_lent; resting = search rules }
 
 pub answer_of-requires : goal.answer_of-requires
 answer_of-requires c = search counted

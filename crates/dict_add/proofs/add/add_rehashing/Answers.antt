@@ -11,7 +11,7 @@ during-requires-else-s c = search sound_first
 
 -- the second buffer is the current one
 pub returns-then-s : goal.returns-then-s
-returns-then-s c = record { entries_after = search moving_second; taken_room = search moving_room }
+returns-then-s c = record { outcome = search moving_second; taken_room = search moving_room }
 
 pub returns-else-s : goal.returns-else-s
-returns-else-s c = record { entries_after = search moving_first; taken_room = search moving_room }
+returns-else-s c = record { outcome = search moving_first; taken_room = search moving_room }

@@ -6,13 +6,13 @@ use Rattle.dict_delete.proofs.Deleting.{delete_unsound, delete_now}
 use Rattle.dict_delete.proofs.delete.delete.Goals as goal
 
 pub delete_after_step-requires : goal.delete_after_step-requires
-delete_after_step-requires c = record { s_value = search tested_lent; s_value_2 = search due_tested }
+delete_after_step-requires c = record { sound = search tested_lent; step_due = search due_tested }
 
 pub delete_alone-requires : goal.delete_alone-requires
 delete_alone-requires c = search tested_lent
 
 pub delete_resting-requires : goal.delete_resting-requires
-delete_resting-requires c = record { s_value = search tested_lent; rehashing_value = search rules }
+delete_resting-requires c = record { sound = search tested_lent; resting = search rules }
 
 pub returns-then-s-2 : goal.returns-then-s-2
 returns-then-s-2 c = search (delete_now, due_tested)

@@ -5,25 +5,17 @@ use Rattle.model.specs.Calls.{state_of, old_new, recounted, with_count}
 use Rattle.dict_delete.proofs.Removing.{old_removable, new_removable, old_used, new_used, removed_old, removed_new}
 use Rattle.dict_delete.proofs.delete.remove_at.Goals as goal
 
-pub enum_told-1 : goal.enum_told-1
-unfolding recounted state_of with_count old_new size_of
-enum_told-1 c = search rules
-
 pub free_entry-requires : goal.free_entry-requires
 unfolding recounted state_of with_count old_new size_of
-free_entry-requires c = record { readable = search old_removable; n_nonzero = search rules }
+free_entry-requires c = record { readable = search old_removable; is_entry = search rules }
 
 pub overflow_sub-t : goal.overflow_sub-t
 unfolding recounted state_of with_count old_new size_of
 overflow_sub-t c = search old_used
 
-pub enum_told-in-New : goal.enum_told-in-New
-unfolding recounted state_of with_count old_new size_of
-enum_told-in-New c = search rules
-
 pub free_entry-requires-in-New : goal.free_entry-requires-in-New
 unfolding recounted state_of with_count old_new size_of
-free_entry-requires-in-New c = record { readable = search new_removable; n_nonzero = search rules }
+free_entry-requires-in-New c = record { readable = search new_removable; is_entry = search rules }
 
 pub overflow_sub-t-in-New : goal.overflow_sub-t-in-New
 unfolding recounted state_of with_count old_new size_of

@@ -9,14 +9,6 @@ pub look_up-at-requires : goal.look_up-at-requires
 unfolding deleted held
 look_up-at-requires c = search rules
 
-pub enum_told-1 : goal.enum_told-1
-unfolding deleted held
-enum_told-1 c = search rules
-
-pub enum_told-in-Absent : goal.enum_told-in-Absent
-unfolding deleted held
-enum_told-in-Absent c = search rules
-
 pub enum_known-at : goal.enum_known-at
 unfolding deleted held
 enum_known-at c = search rules

@@ -8,21 +8,13 @@ pub lookup_in-at-requires : goal.lookup_in-at-requires
 unfolding FromSome
 lookup_in-at-requires c = search rules
 
-pub enum_told-1 : goal.enum_told-1
-unfolding FromSome
-enum_told-1 c = search rules
-
-pub enum_told-in-Absent : goal.enum_told-in-Absent
-unfolding FromSome
-enum_told-in-Absent c = search rules
-
 pub enum_known-at : goal.enum_known-at
 unfolding FromSome
 enum_known-at c = search rules
 
 pub free_entry-requires : goal.free_entry-requires
 unfolding FromSome
-free_entry-requires c = record { readable = search one_readable; n_nonzero = search (one_entry, one_before) }
+free_entry-requires c = record { readable = search one_readable; is_entry = search (one_entry, one_before) }
 
 pub shape_of-buckets-in-Damaged : goal.shape_of-buckets-in-Damaged
 unfolding FromSome
@@ -34,7 +26,7 @@ shape_of-entries-in-Damaged c = search rules
 
 pub returns-in-Damaged : goal.returns-in-Damaged
 unfolding FromSome
-returns-in-Damaged c = record { entries_after = search one_damaged; from_some = tt }
+returns-in-Damaged c = record { outcome = search one_damaged; from_some = tt }
 
 pub shape_of-buckets-in-Absent : goal.shape_of-buckets-in-Absent
 unfolding FromSome
@@ -46,7 +38,7 @@ shape_of-entries-in-Absent c = search rules
 
 pub returns-in-Absent : goal.returns-in-Absent
 unfolding FromSome
-returns-in-Absent c = record { entries_after = search one_absent; from_some = tt }
+returns-in-Absent c = record { outcome = search one_absent; from_some = tt }
 
 pub shape_of-buckets-in-At : goal.shape_of-buckets-in-At
 unfolding FromSome
@@ -58,4 +50,4 @@ shape_of-entries-in-At c = search rules
 
 pub returns-in-At : goal.returns-in-At
 unfolding FromSome
-returns-in-At c = record { entries_after = search one_freed; from_some = search one_some }
+returns-in-At c = record { outcome = search one_freed; from_some = search one_some }

@@ -12,7 +12,7 @@ remove_one-requires-else-s c = search old_first
 
 -- the second buffer has it
 pub returns-then-s : goal.returns-then-s
-returns-then-s c = record { entries_after = search resting_second; from_some = search rules }
+returns-then-s c = record { outcome = search resting_second; from_some = search rules }
 
 pub returns-else-s : goal.returns-else-s
-returns-else-s c = record { entries_after = search resting_first; from_some = search rules }
+returns-else-s c = record { outcome = search resting_first; from_some = search rules }

@@ -6,13 +6,13 @@ use Rattle.dict_find_update.proofs.Finding.{find_bad_state, find_sound}
 use Rattle.dict_find_update.proofs.find.find.Goals as goal
 
 pub entry_moving-at-requires : goal.entry_moving-at-requires
-entry_moving-at-requires c = record { s_value = search tested_lent; rehashing_value = search rules }
+entry_moving-at-requires c = record { sound = search tested_lent; rehashing = search rules }
 
 pub value_at-requires : goal.value_at-requires
 value_at-requires c = search found_inside
 
 pub entry_resting-at-requires : goal.entry_resting-at-requires
-entry_resting-at-requires c = record { s_value = search tested_lent; rehashing_value = search rules }
+entry_resting-at-requires c = record { sound = search tested_lent; resting = search rules }
 
 pub value_at-requires-else-s : goal.value_at-requires-else-s
 value_at-requires-else-s c = search found_inside

@@ -6,13 +6,13 @@ use Rattle.dict_find_update.proofs.Updating.{update_bad_state, update_sound}
 use Rattle.dict_find_update.proofs.update.update.Goals as goal
 
 pub entry_moving-at-requires : goal.entry_moving-at-requires
-entry_moving-at-requires c = record { s_value = search tested_lent; rehashing_value = search rules }
+entry_moving-at-requires c = record { sound = search tested_lent; rehashing = search rules }
 
 pub update_at-requires : goal.update_at-requires
 update_at-requires c = search found_inside
 
 pub entry_resting-at-requires : goal.entry_resting-at-requires
-entry_resting-at-requires c = record { s_value = search tested_lent; rehashing_value = search rules }
+entry_resting-at-requires c = record { sound = search tested_lent; resting = search rules }
 
 pub update_at-requires-else-s : goal.update_at-requires-else-s
 update_at-requires-else-s c = search found_inside

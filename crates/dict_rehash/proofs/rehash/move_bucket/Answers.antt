@@ -5,8 +5,8 @@ use Rattle.dict_rehash.proofs.Stepping.{old_counted, bucket_unsound}
 use Rattle.dict_rehash.proofs.rehash.move_bucket.Goals as goal
 
 pub move_counted-requires : goal.move_counted-requires
-move_counted-requires c = record { sound = search rules; rehashing_value = search rules; old_chain = search old_counted }
+move_counted-requires c = record { sound = search rules; rehashing = search rules; old_chain = search old_counted }
 
 pub returns-in-Unsound : goal.returns-in-Unsound
 unfolding step_room
-returns-in-Unsound c = record { entries_after = search bucket_unsound; step_room = tt }
+returns-in-Unsound c = record { outcome = search bucket_unsound; step_room = tt }

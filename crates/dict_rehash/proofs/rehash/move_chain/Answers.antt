@@ -7,7 +7,7 @@ pub loop-init : goal.loop-init
 loop-init c = search relinking_start
 
 pub move_entry-at-requires : goal.move_entry-at-requires
-move_entry-at-requires c = record { size_value = search rules; n_nonzero = (search relinking_pos, search relinking_fits) }
+move_entry-at-requires c = record { legal = search rules; is_entry = (search relinking_pos, search relinking_fits) }
 
 pub loop-preserved : goal.loop-preserved
 loop-preserved c = search relinking_next

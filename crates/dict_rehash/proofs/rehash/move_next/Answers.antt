@@ -9,16 +9,16 @@ pub look_ahead-ahead-requires : goal.look_ahead-ahead-requires
 look_ahead-ahead-requires c = (search index_fits, search rules)
 
 pub move_bucket-requires : goal.move_bucket-requires
-move_bucket-requires c = record { sound = search rules; rehashing_value = (search rules, search (next_below, index_fits)) }
+move_bucket-requires c = record { sound = search rules; rehashing = (search rules, search (next_below, index_fits)) }
 
 pub returns-in-Filled : goal.returns-in-Filled
 unfolding ahead_of
-returns-in-Filled c = record { entries_after = search next_filled; step_room = search rules }
+returns-in-Filled c = record { outcome = search next_filled; step_room = search rules }
 
 pub returns-in-Empty : goal.returns-in-Empty
 unfolding ahead_of
-returns-in-Empty c = record { entries_after = search next_empty; step_room = search none_moved }
+returns-in-Empty c = record { outcome = search next_empty; step_room = search none_moved }
 
 pub returns-in-End : goal.returns-in-End
 unfolding ahead_of step_room
-returns-in-End c = record { entries_after = search next_end; step_room = tt }
+returns-in-End c = record { outcome = search next_end; step_room = tt }

@@ -6,8 +6,8 @@ use Rattle.dict_rehash.proofs.rehash.step_oriented.Goals as goal
 
 pub returns-then-s : goal.returns-then-s
 unfolding rehash_step writing
-returns-then-s c = record { entries_after = search written_second; step_room = search rules }
+returns-then-s c = record { outcome = search written_second; step_room = search rules }
 
 pub returns-else-s : goal.returns-else-s
 unfolding rehash_step writing
-returns-else-s c = record { entries_after = search written_first; step_room = search rules }
+returns-else-s c = record { outcome = search written_first; step_room = search rules }

@@ -4,7 +4,7 @@ use Rattle.dict_rehash.proofs.Stepping.{none_moved, step_finished, step_moved}
 use Rattle.dict_rehash.proofs.rehash.take_step.Goals as goal
 
 pub returns-then-s-eq0 : goal.returns-then-s-eq0
-returns-then-s-eq0 c = record { entries_after = search step_finished; step_room = search none_moved }
+returns-then-s-eq0 c = record { outcome = search step_finished; step_room = search none_moved }
 
 pub returns-else-s-eq0 : goal.returns-else-s-eq0
-returns-else-s-eq0 c = record { entries_after = search step_moved; step_room = search rules }
+returns-else-s-eq0 c = record { outcome = search step_moved; step_room = search rules }

@@ -4,4 +4,4 @@ use Rattle.dict_rehash.proofs.Due.{due_of}
 use Rattle.during_rehash.proofs.during.during.Goals as goal
 
 pub change_moving-requires : goal.change_moving-requires
-change_moving-requires c = record { sound = search rules; s_value = search due_of }
+change_moving-requires c = record { sound = search rules; step_due = search due_of }

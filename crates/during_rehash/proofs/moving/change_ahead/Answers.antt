@@ -25,11 +25,11 @@ change_filled-requires c = record {
 }
 
 pub entry_in_both-requires : goal.entry_in_both-requires
-entry_in_both-requires c = record { readable = search (old_readable, due_rehashing); readable_2 = search (new_readable, due_rehashing) }
+entry_in_both-requires c = record { old_readable = search (old_readable, due_rehashing); new_readable = search (new_readable, due_rehashing) }
 
 pub change_still-requires : goal.change_still-requires
 unfolding ahead_of
-change_still-requires c = record { sound = search rules; s_value = search rules; foreseen = search ahead_still }
+change_still-requires c = record { sound = search rules; step_due = search rules; foreseen = search ahead_still }
 
 pub returns-in-End : goal.returns-in-End
 unfolding ahead_of

@@ -9,4 +9,4 @@ pub entry_in-requires : goal.entry_in-requires
 entry_in-requires c = search (new_readable, due_rehashing)
 
 pub change_still-requires : goal.change_still-requires
-change_still-requires c = record { sound = search rules; s_value = search rules; foreseen = search foreseen_ended }
+change_still-requires c = record { sound = search rules; step_due = search rules; foreseen = search foreseen_ended }

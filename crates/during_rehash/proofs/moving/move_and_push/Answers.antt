@@ -6,10 +6,10 @@ use Rattle.during_rehash.proofs.Ways.{takes_below, takes_chain, chain_stopped, c
 use Rattle.during_rehash.proofs.moving.move_and_push.Goals as goal
 
 pub move_counted-progress-requires : goal.move_counted-progress-requires
-move_counted-progress-requires c = record { sound = search rules; rehashing_value = (search due_rehashing, search takes_below); old_chain = search takes_chain }
+move_counted-progress-requires c = record { sound = search rules; rehashing = (search due_rehashing, search takes_below); old_chain = search takes_chain }
 
 pub push_entry-requires : goal.push_entry-requires
-push_entry-requires c = record { n_nonzero = search rules; readable = search chain_readable }
+push_entry-requires c = record { is_entry = search rules; readable = search chain_readable }
 
 pub returns-in-Refused : goal.returns-in-Refused
 returns-in-Refused c = search chain_stopped

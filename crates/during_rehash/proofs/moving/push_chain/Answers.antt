@@ -6,7 +6,7 @@ use Rattle.during_rehash.proofs.Ways.{room_chain}
 use Rattle.during_rehash.proofs.moving.push_chain.Goals as goal
 
 pub link_beside-link-requires : goal.link_beside-link-requires
-link_beside-link-requires c = record { sound = search rules; rehashing_value = (search due_rehashing, search rules, search rules); goes_chain = search room_chain }
+link_beside-link-requires c = record { sound = search rules; rehashing = (search due_rehashing, search rules, search rules); goes_chain = search room_chain }
 
 -- refused for the link that the move leaves
 pub returns-else-link-s : goal.returns-else-link-s

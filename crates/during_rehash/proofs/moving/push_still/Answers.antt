@@ -4,7 +4,7 @@ use Rattle.during_rehash.proofs.Ways.{still_readable, still_bad_link, still_take
 use Rattle.during_rehash.proofs.moving.push_still.Goals as goal
 
 pub push_entry-requires : goal.push_entry-requires
-push_entry-requires c = record { n_nonzero = search rules; readable = search still_readable }
+push_entry-requires c = record { is_entry = search rules; readable = search still_readable }
 
 pub returns-then-link-s : goal.returns-then-link-s
 returns-then-link-s c = search still_taken

@@ -5,7 +5,7 @@ use Rattle.during_rehash.proofs.Preparing.{held_below, held_chain, held_stopped,
 use Rattle.during_rehash.proofs.moving.step_held.Goals as goal
 
 pub move_counted-step-requires : goal.move_counted-step-requires
-move_counted-step-requires c = record { sound = search rules; rehashing_value = (search due_rehashing, search held_below); old_chain = search held_chain }
+move_counted-step-requires c = record { sound = search rules; rehashing = (search due_rehashing, search held_below); old_chain = search held_chain }
 
 pub returns-in-Refused : goal.returns-in-Refused
 returns-in-Refused c = search held_stopped

@@ -4,21 +4,9 @@ use Rattle.during_rehash.specs.Push.{push_found}
 use Rattle.during_rehash.proofs.Pushing.{found_by}
 use Rattle.during_rehash.proofs.push.push_found.Goals as goal
 
-pub enum_told-1 : goal.enum_told-1
-unfolding push_found
-enum_told-1 c = search rules
-
-pub enum_told-in-Absent : goal.enum_told-in-Absent
-unfolding push_found
-enum_told-in-Absent c = search rules
-
 pub push_free-requires : goal.push_free-requires
 unfolding push_found
 push_free-requires c = search rules
-
-pub enum_told-in-At : goal.enum_told-in-At
-unfolding push_found
-enum_told-in-At c = search rules
 
 pub returns-in-Damaged : goal.returns-in-Damaged
 unfolding push_found

@@ -10,7 +10,7 @@ pub returns-then-free-eq0 : goal.returns-then-free-eq0
 returns-then-free-eq0 c = search free_none
 
 pub push_entry-requires : goal.push_entry-requires
-push_entry-requires c = record { n_nonzero = search rules; readable = search entry_readable }
+push_entry-requires c = record { is_entry = search rules; readable = search entry_readable }
 
 pub returns-then-next-capacity : goal.returns-then-next-capacity
 returns-then-next-capacity c = search free_taken

@@ -7,7 +7,7 @@ pub numbers_of-numbers-requires : goal.numbers_of-numbers-requires
 numbers_of-numbers-requires c = search first_fits
 
 pub with_second-number-requires : goal.with_second-number-requires
-with_second-number-requires c = record { whole = search second_fits; whole_2 = search entries_fit; ready = search ready }
+with_second-number-requires c = record { second_whole = search second_fits; entries_whole = search entries_fit; ready = search ready }
 
 pub write_numbers-requires : goal.write_numbers-requires
 write_numbers-requires c = search as_many

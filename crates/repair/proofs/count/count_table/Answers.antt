@@ -8,7 +8,7 @@ pub loop-b-init : goal.loop-b-init
 loop-b-init c = search tally_start
 
 pub chain_length-requires : goal.chain_length-requires
-chain_length-requires c = record { capacity_in_bounds = search rules; size_value = search tally_legal }
+chain_length-requires c = record { entries_fit = search rules; legal = search tally_legal }
 
 pub overflow_add-count : goal.overflow_add-count
 overflow_add-count c = search tally_small

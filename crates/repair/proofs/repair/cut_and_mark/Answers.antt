@@ -7,8 +7,8 @@ cut_table-requires-2 c = search second_tabled
 
 pub decide-requires : goal.decide-requires
 decide-requires c = record {
-  sound = cut_sound _ _ _ _ _ c.requires.sound c.requires.capacity_in_bounds _ _ _ c.cut_table.ensures _ _ _ c.cut_table-2.ensures;
-  capacity_in_bounds = cut_marks _ _ _ _ _ c.requires.sound c.requires.capacity_in_bounds _ _ _ c.cut_table.ensures _ _ _ c.cut_table-2.ensures;
+  sound = cut_sound _ _ _ _ _ c.requires.sound c.requires.marks_fit _ _ _ c.cut_table.ensures _ _ _ c.cut_table-2.ensures;
+  marks_fit = cut_marks _ _ _ _ _ c.requires.sound c.requires.marks_fit _ _ _ c.cut_table.ensures _ _ _ c.cut_table-2.ensures;
 }
 
 pub returns : goal.returns

@@ -10,7 +10,7 @@ slice_bounds-cut_and_mark-end c = search rules
 
 pub cut_and_mark-requires : goal.cut_and_mark-requires
 unfolding largest_capacity
-cut_and_mark-requires c = record { sound = search rules; capacity_in_bounds = search enough_marks }
+cut_and_mark-requires c = record { sound = search rules; marks_fit = search enough_marks }
 
 pub slice_bounds-rebuild-end : goal.slice_bounds-rebuild-end
 unfolding largest_capacity
@@ -20,15 +20,15 @@ pub rebuild-free-requires : goal.rebuild-free-requires
 unfolding largest_capacity
 rebuild-free-requires c = record {
   sound = marked_sound _ _ _ _ _ c.requires c.requires.capacity_limit _ _ _ _ c.cut_and_mark.ensures;
-  capacity_in_bounds = marked_long _ _ _ _ _ c.requires c.requires.capacity_limit _ _ _ _ c.cut_and_mark.ensures;
+  marks_fit = marked_long _ _ _ _ _ c.requires c.requires.capacity_limit _ _ _ _ c.cut_and_mark.ensures;
 }
 
 pub recount-requires : goal.recount-requires
 unfolding largest_capacity
 recount-requires c = record {
-  countable = old_countable _ _ _ _ c.requires largest_capacity c.requires.capacity_limit _ _ _ _ c.cut_and_mark.ensures _ _ _ _ c.rebuild-free.ensures;
-  countable_2 = new_countable _ _ _ _ c.requires largest_capacity c.requires.capacity_limit _ _ _ _ c.cut_and_mark.ensures _ _ _ _ c.rebuild-free.ensures;
-  rehash_index_in_bounds = index_countable _ _ _ _ c.requires largest_capacity c.requires.capacity_limit _ _ _ _ c.cut_and_mark.ensures _ _ _ _ c.rebuild-free.ensures;
+  current_countable = old_countable _ _ _ _ c.requires largest_capacity c.requires.capacity_limit _ _ _ _ c.cut_and_mark.ensures _ _ _ _ c.rebuild-free.ensures;
+  other_countable = new_countable _ _ _ _ c.requires largest_capacity c.requires.capacity_limit _ _ _ _ c.cut_and_mark.ensures _ _ _ _ c.rebuild-free.ensures;
+  index_in_range = index_countable _ _ _ _ c.requires largest_capacity c.requires.capacity_limit _ _ _ _ c.cut_and_mark.ensures _ _ _ _ c.rebuild-free.ensures;
 }
 
 pub shape_of-current : goal.shape_of-current

@@ -11,7 +11,7 @@ pub overflow_add-n : goal.overflow_add-n
 overflow_add-n c = omega arith
 
 pub decide_one-requires : goal.decide_one-requires
-decide_one-requires c = record { sound = search rules; n_nonzero = search rules; capacity_in_bounds = search decides_fits }
+decide_one-requires c = record { sound = search rules; is_entry = search rules; marks_fit = search decides_fits }
 
 pub loop-n-smaller : goal.loop-n-smaller
 loop-n-smaller c = omega arith

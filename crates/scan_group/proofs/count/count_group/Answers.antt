@@ -16,10 +16,6 @@ pub chain_length-first-requires : goal.chain_length-first-requires
 unfolding group_chains
 chain_length-first-requires c = search rules
 
-pub enum_told-1 : goal.enum_told-1
-unfolding group_chains
-enum_told-1 c = search rules
-
 pub enum_known-first : goal.enum_known-first
 unfolding group_chains
 enum_known-first c = search rules
@@ -31,10 +27,6 @@ overflow_sub-limit c = search first_fits
 pub count_large-rest-requires : goal.count_large-rest-requires
 unfolding group_chains
 count_large-rest-requires c = search rules
-
-pub enum_told-in-Unsound-rest : goal.enum_told-in-Unsound-rest
-unfolding group_chains
-enum_told-in-Unsound-rest c = search rules
 
 pub enum_known-rest : goal.enum_known-rest
 unfolding group_chains

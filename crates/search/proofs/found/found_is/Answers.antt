@@ -4,14 +4,6 @@ use Rattle.search.specs.Found.{found_is}
 use Rattle.search.proofs.Held.{found_at}
 use Rattle.search.proofs.found.found_is.Goals as goal
 
-pub enum_told-1 : goal.enum_told-1
-unfolding found_is
-enum_told-1 c = search rules
-
-pub enum_told-in-Absent : goal.enum_told-in-Absent
-unfolding found_is
-enum_told-in-Absent c = search rules
-
 pub enum_known-found : goal.enum_known-found
 unfolding found_is
 enum_known-found c = search rules

@@ -4,7 +4,7 @@ use Rattle.verify.proofs.Parts.{free_unsound, free_none, free_some, last_some, l
 use Rattle.verify.proofs.held.free_verified.Goals as goal
 
 pub finds_itself-requires : goal.finds_itself-requires
-finds_itself-requires c = record { sound = search rules; n_nonzero = (search last_some, search last_fits) }
+finds_itself-requires c = record { sound = search rules; is_entry = (search last_some, search last_fits) }
 
 pub returns-in-Unsound : goal.returns-in-Unsound
 returns-in-Unsound c = search free_unsound

@@ -8,7 +8,7 @@ pub loop-b-init : goal.loop-b-init
 loop-b-init c = search tabling_start
 
 pub chain_length-length-requires : goal.chain_length-length-requires
-chain_length-length-requires c = record { capacity_in_bounds = search rules; size_value = search table_legal }
+chain_length-length-requires c = record { entries_fit = search rules; legal = search table_legal }
 
 pub returns-in-Unsound : goal.returns-in-Unsound
 returns-in-Unsound c = search tabling_out

@@ -154,52 +154,52 @@ module _ (state first second entries list answer : List ℕ) (b : Slices state f
 
 -- what demand 1 says of each
 
-returns-on : (key : ℕ) (c : KeyCall) → Returns (Call.on key c) []
+returns_on : (key : ℕ) (c : KeyCall) → Returns (Call.on key c) []
 unfolding LeavesAll Leaves
-returns-on key c w o l = (_, l)
+returns_on key c w o l = (_, l)
 
-returns-resize : (size : ℕ) → Returns (Call.resize size) []
+returns_resize : (size : ℕ) → Returns (Call.resize size) []
 unfolding LeavesAll Leaves
-returns-resize size w o l = (_, l)
+returns_resize size w o l = (_, l)
 
-returns-step : Returns Call.rehash_step []
+returns_step : Returns Call.rehash_step []
 unfolding LeavesAll Leaves
-returns-step w o l = (_, l)
+returns_step w o l = (_, l)
 
-returns-read : (c : ReadCall) → Returns (Call.read c) []
+returns_read : (c : ReadCall) → Returns (Call.read c) []
 unfolding LeavesAll Leaves
-returns-read c w o l = (_, l)
+returns_read c w o l = (_, l)
 
-returns-note : (c : StateCall) → Returns (Call.note c) []
+returns_note : (c : StateCall) → Returns (Call.note c) []
 unfolding LeavesAll Leaves
-returns-note c w o l = (_, l)
+returns_note c w o l = (_, l)
 
-returns-scan : (cursor : ℕ) (list : List ℕ) → Returns (Call.scan cursor list) list
+returns_scan : (cursor : ℕ) (list : List ℕ) → Returns (Call.scan cursor list) list
 unfolding LeavesAll LeavesList Leaves
-returns-scan cursor list w o (count, due, l) = (_, l)
+returns_scan cursor list w o (count, due, l) = (_, l)
 
-returns-iterate : (place : ℕ) (list : List ℕ) → Returns (Call.iterate place list) list
+returns_iterate : (place : ℕ) (list : List ℕ) → Returns (Call.iterate place list) list
 unfolding LeavesAll LeavesList Leaves
-returns-iterate place list w o (count, due, l) = (_, l)
+returns_iterate place list w o (count, due, l) = (_, l)
 
 pub refusals : Refusals exported
 unfolding ListFor
 refusals (Export.init capacity size) f g h i list a b l = stays_init f g h i list a b capacity size l
-refusals (Export.find key) f g h i list a b l = stays_plain f g h i list a b (Call.on key KeyCall.find) (returns-on key KeyCall.find) l
-refusals (Export.update key value) f g h i list a b l = stays_plain f g h i list a b (Call.on key (KeyCall.update value)) (returns-on key (KeyCall.update value)) l
-refusals (Export.add key value) f g h i list a b l = stays_plain f g h i list a b (Call.on key (KeyCall.add value)) (returns-on key (KeyCall.add value)) l
-refusals (Export.delete key) f g h i list a b l = stays_plain f g h i list a b (Call.on key KeyCall.delete) (returns-on key KeyCall.delete) l
-refusals (Export.resize size) f g h i list a b l = stays_plain f g h i list a b (Call.resize size) (returns-resize size) l
-refusals Export.rehash_step f g h i list a b l = stays_plain f g h i list a b Call.rehash_step returns-step l
-refusals (Export.scan cursor) f g h i list a b l = stays_call f g h i list a b (Call.scan cursor) (returns-scan cursor (decode list))
+refusals (Export.find key) f g h i list a b l = stays_plain f g h i list a b (Call.on key KeyCall.find) (returns_on key KeyCall.find) l
+refusals (Export.update key value) f g h i list a b l = stays_plain f g h i list a b (Call.on key (KeyCall.update value)) (returns_on key (KeyCall.update value)) l
+refusals (Export.add key value) f g h i list a b l = stays_plain f g h i list a b (Call.on key (KeyCall.add value)) (returns_on key (KeyCall.add value)) l
+refusals (Export.delete key) f g h i list a b l = stays_plain f g h i list a b (Call.on key KeyCall.delete) (returns_on key KeyCall.delete) l
+refusals (Export.resize size) f g h i list a b l = stays_plain f g h i list a b (Call.resize size) (returns_resize size) l
+refusals Export.rehash_step f g h i list a b l = stays_plain f g h i list a b Call.rehash_step returns_step l
+refusals (Export.scan cursor) f g h i list a b l = stays_call f g h i list a b (Call.scan cursor) (returns_scan cursor (decode list))
 refusals (Export.iterate place) f g h i list a b l =
-    stays_call f g h i list a b (Call.iterate place) (returns-iterate place (decode list))
-refusals Export.begin_iterator f g h i list a b l = stays_plain f g h i list a b (Call.read ReadCall.begin_iterator) (returns-read _) l
+    stays_call f g h i list a b (Call.iterate place) (returns_iterate place (decode list))
+refusals Export.begin_iterator f g h i list a b l = stays_plain f g h i list a b (Call.read ReadCall.begin_iterator) (returns_read _) l
 refusals (Export.end_iterator print) f g h i list a b l =
-    stays_plain f g h i list a b (Call.read (ReadCall.end_iterator print)) (returns-read _) l
-refusals Export.begin_safe f g h i list a b l = stays_plain f g h i list a b (Call.note StateCall.begin_safe) (returns-note _) l
-refusals Export.end_safe f g h i list a b l = stays_plain f g h i list a b (Call.note StateCall.end_safe) (returns-note _) l
+    stays_plain f g h i list a b (Call.read (ReadCall.end_iterator print)) (returns_read _) l
+refusals Export.begin_safe f g h i list a b l = stays_plain f g h i list a b (Call.note StateCall.begin_safe) (returns_note _) l
+refusals Export.end_safe f g h i list a b l = stays_plain f g h i list a b (Call.note StateCall.end_safe) (returns_note _) l
 refusals (Export.suggested_size growing) f g h i list a b l =
-    stays_flag f g h i list a b (λ on. Call.read (ReadCall.suggested_size on)) growing (λ on. returns-read (ReadCall.suggested_size on)) l
+    stays_flag f g h i list a b (λ on. Call.read (ReadCall.suggested_size on)) growing (λ on. returns_read (ReadCall.suggested_size on)) l
 refusals (Export.allow_resize allowed) f g h i list a b l =
-    stays_flag f g h i list a b (λ on. Call.note (StateCall.allow_resize on)) allowed (λ on. returns-note (StateCall.allow_resize on)) l
+    stays_flag f g h i list a b (λ on. Call.note (StateCall.allow_resize on)) allowed (λ on. returns_note (StateCall.allow_resize on)) l

@@ -178,8 +178,8 @@ module _ (w : World) where
       (_, linked_nth w.entries w.state.capacity (head_of w p) ns r.1 k (omega arith), e)
 
   -- a chain that comes back to an entry is not sound
-  pub loop-unsound : (p : Place) (i d : ℕ)
+  pub loop_unsound : (p : Place) (i d : ℕ)
       → nth w.entries (head_of w p) (i + suc d) ≡ nth w.entries (head_of w p) i
       → ¬ (nth w.entries (head_of w p) i ≡ 0) → ¬ SoundChain w p
   unfolding SoundChain ChainAt
-  loop-unsound p i d e f c = no_loop (belongs w.state p) w.entries w.state.capacity (head_of w p) i d c.0 e f c.2
+  loop_unsound p i d e f c = no_loop (belongs w.state p) w.entries w.state.capacity (head_of w p) i d c.0 e f c.2

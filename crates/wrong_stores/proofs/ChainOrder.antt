@@ -32,7 +32,7 @@ use Rattle.wrong_stores.specs.KeyCalls as wrong
 use Rattle.wrong_stores.specs.KeyCalls.{relinked, reordering, adds_at_end, finds_to_front}
 use Rattle.wrong_stores.proofs.Start.{zeros, computing, alike, started, reached, started_ideal, find, add, at, apart}
 use Rattle.wrong_stores.proofs.Reordered.{SameAt, Reordered, reordered_undamaged, reordered_matches}
-use Rattle.wrong_stores.proofs.SameNumbers.{Near, near_demand1, near_done, near-keys}
+use Rattle.wrong_stores.proofs.SameNumbers.{Near, near_demand1, near_done, near_keys}
 
 -- To link entries anew changes no key and no value.
 
@@ -177,15 +177,15 @@ pub adds_at_end_demand1 : Demand1 adds_at_end
 unfolding adds_at_end but_add one.none
 adds_at_end_demand1 =
     near_demand1 adds_at_end
-    (near-keys _ _ _ _ (λ key w o. inl refl) (λ key value w o. inl refl) (λ key value w o. reordering_near key _ o)
+    (near_keys _ _ _ _ (λ key w o. inl refl) (λ key value w o. inl refl) (λ key value w o. reordering_near key _ o)
     (λ key w o. inl refl))
     demand1
 
-pub findsToFront-demand1 : Demand1 finds_to_front
+pub finds_to_front_demand1 : Demand1 finds_to_front
 unfolding finds_to_front but_find one.none
-findsToFront-demand1 =
+finds_to_front_demand1 =
     near_demand1 finds_to_front
-    (near-keys _ _ _ _ (λ key w o. reordering_near key _ o) (λ key value w o. inl refl) (λ key value w o. inl refl)
+    (near_keys _ _ _ _ (λ key w o. reordering_near key _ o) (λ key value w o. inl refl) (λ key value w o. inl refl)
     (λ key w o. inl refl))
     demand1
 

@@ -93,16 +93,16 @@ looped =
     let w = reached 1 (add 1 10 ∷ []) in
     world w.state w.first w.second (1 ∷ 1 ∷ 10 ∷ replicate 6 0)
 
-loop-unsound : SoundChain looped (Place.bucket Table.Old 0) → ⊥
+loop_unsound : SoundChain looped (Place.bucket Table.Old 0) → ⊥
 unfolding computing looped
-loop-unsound (zero, fits, c) = eqb-false 1 0 refl c.end
-loop-unsound (suc zero, fits, c) = eqb-false 1 0 refl c.end
-loop-unsound (suc (suc count), fits, c) = omega arith
+loop_unsound (zero, fits, c) = eqb-false 1 0 refl c.end
+loop_unsound (suc zero, fits, c) = eqb-false 1 0 refl c.end
+loop_unsound (suc (suc count), fits, c) = omega arith
 
 pub overlooks_damage_excluded : Demand1 overlooks_damage → ⊥
 unfolding computing overlooks_damage looped
 overlooks_damage_excluded d =
-    must_be_damaged 3 refl refl (Place.bucket Table.Old 0, inl refl, loop-unsound) (d.numbers looped (find 1))
+    must_be_damaged 3 refl refl (Place.bucket Table.Old 0, inl refl, loop_unsound) (d.numbers looped (find 1))
 
 -- .. and so is a group with more entries than the store holds keys: before short, and whatever the capacity.
 

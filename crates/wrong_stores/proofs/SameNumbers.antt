@@ -35,21 +35,21 @@ near_done instead o same zero e = inr (ap (λ (r : Reply State). r.number) same 
 near_done instead o same (suc n) e = inl refl
 
 -- each call on a key is near, and the others are ours
-pub near-keys : (find : ℕ → Change) (update add : ℕ → ℕ → Change) (delete : ℕ → Change)
+pub near_keys : (find : ℕ → Change) (update add : ℕ → ℕ → Change) (delete : ℕ → Change)
     → ((key : ℕ) (w : World) (o : Outcome) → Near (find key w o) o)
     → ((key value : ℕ) (w : World) (o : Outcome) → Near (update key value w o) o)
     → ((key value : ℕ) (w : World) (o : Outcome) → Near (add key value w o) o)
     → ((key : ℕ) (w : World) (o : Outcome) → Near (delete key w o) o) → (w : World) (c : Call)
     → Near (but_on (by_key_call find update add delete) w c) (perform w c)
 unfolding but_on but by_call by_key_call one.none
-near-keys find update add delete f u a d w (Call.init capacity size) = inl refl
-near-keys find update add delete f u a d w (Call.on key KeyCall.find) = f key w _
-near-keys find update add delete f u a d w (Call.on key (KeyCall.update value)) = u key value w _
-near-keys find update add delete f u a d w (Call.on key (KeyCall.add value)) = a key value w _
-near-keys find update add delete f u a d w (Call.on key KeyCall.delete) = d key w _
-near-keys find update add delete f u a d w (Call.resize size) = inl refl
-near-keys find update add delete f u a d w Call.rehash_step = inl refl
-near-keys find update add delete f u a d w (Call.scan cursor lent) = inl refl
-near-keys find update add delete f u a d w (Call.iterate place lent) = inl refl
-near-keys find update add delete f u a d w (Call.read c) = inl refl
-near-keys find update add delete f u a d w (Call.note c) = inl refl
+near_keys find update add delete f u a d w (Call.init capacity size) = inl refl
+near_keys find update add delete f u a d w (Call.on key KeyCall.find) = f key w _
+near_keys find update add delete f u a d w (Call.on key (KeyCall.update value)) = u key value w _
+near_keys find update add delete f u a d w (Call.on key (KeyCall.add value)) = a key value w _
+near_keys find update add delete f u a d w (Call.on key KeyCall.delete) = d key w _
+near_keys find update add delete f u a d w (Call.resize size) = inl refl
+near_keys find update add delete f u a d w Call.rehash_step = inl refl
+near_keys find update add delete f u a d w (Call.scan cursor lent) = inl refl
+near_keys find update add delete f u a d w (Call.iterate place lent) = inl refl
+near_keys find update add delete f u a d w (Call.read c) = inl refl
+near_keys find update add delete f u a d w (Call.note c) = inl refl

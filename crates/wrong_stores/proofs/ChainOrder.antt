@@ -4,17 +4,16 @@
 -- find is lent its buffers for reading only. Here: demand 1 holds of both stores as of ours, demand 3 too at a history at
 -- which they differ from ours; and that they differ.
 -- Assumes nothing.
-use Prim.Native.Nat.{ℕ, zero, suc, ◌+◌, ◌*◌}
+use Prim.Native.Nat.{ℕ, zero, suc}
 use mathlib.Core.Path.{◌≡◌, refl, ◌∙◌}
 use mathlib.Core.Bool.{Bool, true, false}
 use mathlib.Core.Logic.{◌⊎◌, inl, inr}
 use mathlib.Core.List.{List, [], ◌∷◌}
 use lib.ListN.{get_or, take, replicate}
-use lib.Seq.{get_or-set_other}
 use native.Mathlib.Omega.{arith}
 use borrow.Author.Tests.{eqb-false}
 use Rattle.model.specs.declared.Table.{Table}
-use Rattle.model.specs.Memory.{key_of, value_of, set_link, Place, Live}
+use Rattle.model.specs.Memory.{set_link, Place, Live}
 use Rattle.model.specs.declared.State.{State}
 use Rattle.model.specs.Answers.{Reply}
 use Rattle.model.specs.Calls.{oriented, back, changed, old_new, empty_state, recounted, noted}
@@ -26,6 +25,7 @@ use Rattle.refinement.specs.Demand3.{lengths_of, replay, Matches, SequenceHolds}
 use Rattle.refinement.proofs.Demand1.{demand1}
 use Rattle.refinement.proofs.Demand2.{demand2}
 use Rattle.refinement.proofs.Demand3.{demand3}
+use Rattle.model.proofs.Fields.{key_set_link, value_set_link}
 use Rattle.wrong_stores.specs.OneCall as one
 use Rattle.wrong_stores.specs.OneCall.{but_add, but_find, if_done}
 use Rattle.wrong_stores.specs.KeyCalls as wrong
@@ -33,20 +33,6 @@ use Rattle.wrong_stores.specs.KeyCalls.{relinked, reordering, adds_at_end, finds
 use Rattle.wrong_stores.proofs.Start.{zeros, computing, alike, started, reached, started_ideal, find, add, at, apart}
 use Rattle.wrong_stores.proofs.Reordered.{SameAt, Reordered, reordered_undamaged, reordered_matches}
 use Rattle.wrong_stores.proofs.SameNumbers.{Near, near_demand1, near_done, near_keys}
-
--- To link entries anew changes no key and no value.
-
-link_key : (entries : List ℕ) (m link n : ℕ) → key_of (set_link entries m link) n ≡ key_of entries n
-unfolding key_of set_link
-link_key entries zero link n = refl
-link_key entries (suc m) link zero = refl
-link_key entries (suc m) link (suc n) = get_or-set_other entries (m * 3) (n * 3 + 1) link 0 (omega arith)
-
-link_value : (entries : List ℕ) (m link n : ℕ) → value_of (set_link entries m link) n ≡ value_of entries n
-unfolding value_of set_link
-link_value entries zero link n = refl
-link_value entries (suc m) link zero = refl
-link_value entries (suc m) link (suc n) = get_or-set_other entries (m * 3) (n * 3 + 2) link 0 (omega arith)
 
 -- Two keys in one bucket: ours has the second before the first.
 
@@ -86,8 +72,8 @@ turned_reordered =
     record {
       places = turned_places;
       empty = turned_empty;
-      key = λ n. link_key (set_link ours.entries 2 0) 1 2 n ∙ link_key ours.entries 2 0 n;
-      value = λ n. link_value (set_link ours.entries 2 0) 1 2 n ∙ link_value ours.entries 2 0 n;
+      key = λ n. key_set_link (set_link ours.entries 2 0) 1 n 2 ∙ key_set_link ours.entries 2 n 0;
+      value = λ n. value_set_link (set_link ours.entries 2 0) 1 n 2 ∙ value_set_link ours.entries 2 n 0;
       current_length = refl;
       other_length = refl;
       lengths = refl;

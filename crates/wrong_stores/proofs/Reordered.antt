@@ -1,14 +1,14 @@
 -- Two worlds that differ in nothing but the order of their chains are the same to `undamaged` and `matches`.
 -- Assumes nothing.
-use Prim.Native.Nat.{ℕ, zero, suc, ◌<◌}
-use mathlib.Core.Path.{◌≡◌, refl, sym, ◌∙◌, ap}
+use Prim.Native.Nat.{ℕ}
+use mathlib.Core.Path.{◌≡◌, sym, ◌∙◌, ap}
 use mathlib.Core.List.{List}
 use mathlib.Core.Option.{some}
 use lib.ListN.{length, get_or}
-use native.Mathlib.Omega.{arith}
 use Rattle.cursor.specs.Member.{In}
-use Rattle.model.specs.Memory.{key_of, value_of, size_of, Place, Live, chain_at, sum}
+use Rattle.model.specs.Memory.{key_of, value_of, size_of, Place, Live, chain_at}
 use Rattle.model.specs.Sequences.{World, world}
+use Rattle.model.proofs.Sums.{sum_same}
 use Rattle.refinement.specs.Worlds.{current, other, UndamagedAt, Held}
 use Rattle.refinement.specs.Demand3.{Lengths, lengths_of, Ideal, Matches}
 use Rattle.wrong_stores.proofs.Start.{entries_in, held}
@@ -29,14 +29,6 @@ pub record Reordered (w v : World) : Type 0 where
   pub current_length : length (current v) ≡ length (current w)
   pub other_length : length (other v) ≡ length (other w)
   pub lengths : lengths_of v ≡ lengths_of w
-
-sum_same : (f g : ℕ → ℕ) (n : ℕ) → ((b : ℕ) → b < n → f b ≡ g b) → sum f n ≡ sum g n
-unfolding sum
-sum_same f g zero same = refl
-sum_same f g (suc n) same =
-    let front = sum_same f g n (λ b before. same b (omega arith)) in
-    let last = same n (omega arith) in
-    cc
 
 module _ (w : World) (first second entries : List ℕ) (r : Reordered w (world w.state first second entries)) where
   pub reordered_undamaged : UndamagedAt w → UndamagedAt (world w.state first second entries)

@@ -15,7 +15,6 @@ use Rattle.model.specs.declared.State.{State}
 use Rattle.model.specs.declared.Table.{Table}
 use Rattle.model.specs.declared.Error.{Error}
 use Rattle.model.specs.declared.Ahead.{Ahead}
-use Rattle.model.specs.declared.StepAnswer.{StepAnswer}
 use Rattle.model.specs.Keys.{bucket_of}
 use Rattle.model.specs.Memory.{link_of}
 use Rattle.model.specs.Calls.{After, oriented, back, both, moved_chain, moved_from, ahead_of, step_taken, stepped, rehash_step, step_due}
@@ -39,12 +38,13 @@ use Rattle.after_step.specs.Links.{LinkMoved}
 use Rattle.after_step.specs.Course.{Course, Foresight, sight, chain_sight, GoesChain, Goes, Foreseen}
 use Rattle.after_step.proofs.Surveying.{surveyed_none, surveyed_some}
 use Rattle.after_step.proofs.Deciding.{moving_unsound, moving_sound, ahead_end, ahead_empty, step_ended}
+use Rattle.std.specs.Prelude.{Result, Err}
 
 -- ---- the chain of bucket b of the old table
 
 module _ (s : State) (current other entries : List ℕ) (b key c n : ℕ) (r : Survey)
     (e : r ≡ surveyed entries s.new_size c key n (old_chain s current entries b)) where
-  abbrev step : After StepAnswer
+  abbrev step : After (Result (ℕ × State) Error)
   step = moved_chain s current other entries b (old_chain s current entries b)
 
   pub foreseen_unsound : r ≡ Survey.Unsound → Foreseen s current other entries key n
@@ -76,7 +76,7 @@ module _ (s : State) (current other entries : List ℕ) (b key c n : ℕ) (r : S
             };
       }
 
-module _ (s : State) (current other entries : List ℕ) (key n b : ℕ) (a : After StepAnswer) (r : ChainSight)
+module _ (s : State) (current other entries : List ℕ) (key n b : ℕ) (a : After (Result (ℕ × State) Error)) (r : ChainSight)
     (h : Foreseen s current other entries key n a (chain_sight b r)) where
   pub chain_unsound : r ≡ ChainSight.Unsound
       → Foreseen s current other entries key n a (sight Presence.Damaged Course.Refused)
@@ -92,9 +92,9 @@ module _ (s : State) (current other entries : List ℕ) (key n b : ℕ) (a : Aft
 
 module _ (s : State) (current other entries : List ℕ) (key n : ℕ) where
   -- foreseen of one step, and so of another that does the same
-  pub same_step : (a b : After StepAnswer) → a ≡ b → (r : Foresight) → Foreseen s current other entries key n a r
+  pub same_step : (a b : After (Result (ℕ × State) Error)) → a ≡ b → (r : Foresight) → Foreseen s current other entries key n a r
       → Foreseen s current other entries key n b r
-  same_step a b e r h = subst (λ (x : After StepAnswer). Foreseen s current other entries key n x r) e h
+  same_step a b e r h = subst (λ (x : After (Result (ℕ × State) Error)). Foreseen s current other entries key n x r) e h
 
   module _ (r o : Ahead) (f : r ≡ o) where
     pub foreseen_end : r ≡ Ahead.End
@@ -144,7 +144,7 @@ not_among n (m ∷ ns) e (inr i) = not_among n ns (behind (eqb m n) (among n ns)
     behind false u f = f
     behind true u f = let z : ◌≡◌ {A = ℕ} 0 1 = cc in absurd (omega arith)
 
-module _ (s : State) (current other entries : List ℕ) (n : ℕ) (a : After StepAnswer) where
+module _ (s : State) (current other entries : List ℕ) (n : ℕ) (a : After (Result (ℕ × State) Error)) where
   module _ (b count : ℕ) (meets : Bool) (k : GoesChain s current other entries n a b count meets) where
     pub goes_counted : Sound s (length current) (length other) (length entries) → ChainOf entries (get_or current b 0) count
     goes_counted h = chain_of_lem s current entries b count k.chain h.entries_fit
@@ -172,27 +172,27 @@ module _ (s : State) (current other entries : List ℕ) (n : ℕ) (a : After Ste
     pub link_still : (next : ℕ) → course ≡ Course.Still next → (link : ℕ) → link ≡ link_of entries n
         → link ≡ link_of (entries_after a) n
     unfolding entries_after
-    link_still next e link l = l ∙ ap (λ (x : After StepAnswer). link_of (entries_after x) n) (goes_still next e)
+    link_still next e link l = l ∙ ap (λ (x : After (Result (ℕ × State) Error)). link_of (entries_after x) n) (goes_still next e)
 
 -- ---- on the lent buffers, where a step is due
 
 module _ (s : State) (first second entries : List ℕ) (h : sound_lent (length first) (length second) (length entries) s ≡ true)
     (d : step_due s ≡ true) where
-  pub taken_first : (a : StepAnswer) (x y z : List ℕ) → s.second_is_current ≡ false
+  pub taken_first : (a : Result (ℕ × State) Error) (x y z : List ℕ) → s.second_is_current ≡ false
       → After.after a x y z ≡ step_taken s first second entries → After.after a x y z ≡ rehash_step s first second entries
   unfolding rehash_step
   taken_first a x y z f e =
       writing_sound s first second entries true (sym h) _ _ _ refl
       (written_first _ _ first second _ x y z f (e ∙ due_stepped s d first second entries))
 
-  pub taken_second : (a : StepAnswer) (x y z : List ℕ) → s.second_is_current ≡ true
+  pub taken_second : (a : Result (ℕ × State) Error) (x y z : List ℕ) → s.second_is_current ≡ true
       → After.after a y x z ≡ step_taken s second first entries → After.after a x y z ≡ rehash_step s first second entries
   unfolding rehash_step
   taken_second a x y z f e =
       writing_sound s first second entries true (sym h) _ _ _ refl
       (written_second _ _ first second _ y x z f (e ∙ due_stepped s d second first entries))
 
-  abbrev step_on : List ℕ → List ℕ → After StepAnswer
+  abbrev step_on : List ℕ → List ℕ → After (Result (ℕ × State) Error)
   step_on current other = stepped s current other entries s.rehashing
 
   -- what a lookup answers after it
@@ -202,9 +202,9 @@ module _ (s : State) (first second entries : List ℕ) (h : sound_lent (length f
   unfolding presence_then rehash_step
   told_lent key current other o x e =
       e
-      ∙ ap (λ (a : After StepAnswer). presence_after key (back s.second_is_current a)) (due_stepped s d current other entries ∙ o)
+      ∙ ap (λ (a : After (Result (ℕ × State) Error)). presence_after key (back s.second_is_current a)) (due_stepped s d current other entries ∙ o)
       ∙ ap (presence_after key)
-      (writing_sound s first second entries true (sym h) (StepAnswer.Refused Error.BadState) step_on _ refl refl)
+      (writing_sound s first second entries true (sym h) (Err Error.BadState) step_on _ refl refl)
 
   pub told_first : (key : ℕ) (x : Presence) → s.second_is_current ≡ false
       → x ≡ presence_then key s.second_is_current (step_taken s first second entries)

@@ -14,7 +14,6 @@ use borrow.Author.Tests.{eqb-true, eqb-false, eq-eqb, ne_eqb}
 use Rattle.model.specs.declared.State.{State}
 use Rattle.model.specs.declared.Table.{Table}
 use Rattle.model.specs.declared.Error.{Error}
-use Rattle.model.specs.declared.StepAnswer.{StepAnswer}
 use Rattle.model.specs.Keys.{bucket_of}
 use Rattle.model.specs.Limits.{legal_size, largest_exponent}
 use Rattle.model.specs.Memory.{size_of, in_bucket, last_or}
@@ -33,12 +32,13 @@ use Rattle.model.proofs.Moved.{moved_key}
 use Rattle.after_step.proofs.Stacking.{stacked}
 use Rattle.after_step.proofs.ChainsAfter.{unless_last, old_chain_kept, old_chain_emptied, new_chain_after}
 use Rattle.after_step.proofs.Presences.{seen, seen_kept, presence_both, presence_in, has_stacked}
+use Rattle.std.specs.Prelude.{Ok, Err}
 
 -- ---- on the current and the other buffer, by the flag of the state before the step
 
 module _ (key : ℕ) (current other entries : List ℕ) where
   pub then_refused : (second : Bool) (e : Error)
-      → presence_then key second (After.after (StepAnswer.Refused e) current other entries) ≡ Presence.Damaged
+      → presence_then key second (After.after (Err e) current other entries) ≡ Presence.Damaged
   unfolding presence_then presence_after back
   then_refused false e = refl
   then_refused true e = refl
@@ -46,7 +46,7 @@ module _ (key : ℕ) (current other entries : List ℕ) where
   module _ (count : ℕ) (t : State) where
     -- the rehash goes on: the buffers keep their parts
     then_on : (second : Bool) → t.second_is_current ≡ second
-        → presence_then key second (After.after (StepAnswer.Stepped count t) current other entries)
+        → presence_then key second (After.after (Ok (count, t)) current other entries)
         ≡ presence (lookup t current other entries key)
     unfolding presence_then presence_after back lookup_lent
     then_on false f = sym (ap presence (read_first _ (λ x y. lookup t x y entries key) current other _ f refl))
@@ -54,7 +54,7 @@ module _ (key : ℕ) (current other entries : List ℕ) where
 
     -- it is over: they change parts
     then_over : (second : Bool) → t.second_is_current ≡ not second
-        → presence_then key second (After.after (StepAnswer.Stepped count t) current other entries)
+        → presence_then key second (After.after (Ok (count, t)) current other entries)
         ≡ presence (lookup t other current entries key)
     unfolding presence_then presence_after back lookup_lent
     then_over false f = sym (ap presence (read_second _ (λ x y. lookup t x y entries key) current other _ f refl))
@@ -81,7 +81,7 @@ then_done s count next key current other entries = by (eqb (s.old_used - count) 
 
     by : (over : Bool)
         → presence_then key s.second_is_current
-        (After.after (StepAnswer.Stepped count (cond over (finished (advanced s count next)) (advanced s count next))) current other entries)
+        (After.after (Ok (count, (cond over (finished (advanced s count next)) (advanced s count next)))) current other entries)
         ≡ either (cond over Presence.Absent old) (new Table.New)
     by true =
         then_over key current other entries count (finished t) s.second_is_current refl

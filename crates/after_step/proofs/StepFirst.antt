@@ -10,7 +10,6 @@ use Rattle.model.specs.declared.State.{State}
 use Rattle.model.specs.declared.Table.{Table}
 use Rattle.model.specs.declared.Error.{Error}
 use Rattle.model.specs.declared.Lookup.{Lookup}
-use Rattle.model.specs.declared.StepAnswer.{StepAnswer}
 use Rattle.model.specs.Calls.{After, oriented, back, writing, lookup, rehash_step, unless_refused, call_after, step_due, step_first}
 use Rattle.model.proofs.StepLeaves.{Follows, RehashLeaves, rehash_leaves}
 use Rattle.model.proofs.StepFirst.{resting_first, stepping_first}
@@ -21,6 +20,7 @@ use Rattle.dict_rehash.proofs.Due.{due_rehashing, due_unpaused}
 use Rattle.after_step.specs.declared.presence.Presence.{Presence}
 use Rattle.after_step.specs.Presence.{presence, presence_after, entries_after}
 use Rattle.after_step.specs.Planned.{Planned}
+use Rattle.std.specs.Prelude.{Result, Ok, Err}
 
 -- ---- what a call answers
 
@@ -75,40 +75,40 @@ module _ (s : State) (first second entries : List ℕ) (h : sound_lent (length f
   leaves = rehash_leaves s first second entries (due_rehashing s e) (due_unpaused s e) (sym (lent_oriented s first second entries) ∙ h)
 
   module _ (count : ℕ) (t : State) (x y z : List ℕ)
-      (r : After.after (StepAnswer.Stepped count t) x y z ≡ rehash_step s first second entries) where
+      (r : After.after (Ok (count, t)) x y z ≡ rehash_step s first second entries) where
     stepped_sound : sound_lent (length x) (length y) (length z) t ≡ true
     unfolding RehashLeaves
     stepped_sound =
-        let k : RehashLeaves s first second entries (After.after (StepAnswer.Stepped count t) x y z) =
+        let k : RehashLeaves s first second entries (After.after (Ok (count, t)) x y z) =
         subst (RehashLeaves s first second entries) (sym r) leaves in
         lent_oriented t x y z ∙ k.4
 
     stepped_follows : Follows s t
     unfolding RehashLeaves
     stepped_follows =
-        let k : RehashLeaves s first second entries (After.after (StepAnswer.Stepped count t) x y z) =
+        let k : RehashLeaves s first second entries (After.after (Ok (count, t)) x y z) =
         subst (RehashLeaves s first second entries) (sym r) leaves in
         k.3
 
 -- that world to a call that knew as much before the step
 pub record StepTaken (s : State) (first second entries : List ℕ) (key : ℕ) (v : Presence) (count : ℕ) (t : State) (x y z : List ℕ) : Type 0 where
-  pub step : After.after (StepAnswer.Stepped count t) x y z ≡ rehash_step s first second entries
+  pub step : After.after (Ok (count, t)) x y z ≡ rehash_step s first second entries
   pub sound : sound_lent (length x) (length y) (length z) t ≡ true
   pub follows : Follows s t
   pub told : v ≡ presence (lookup_lent t x y z key)
 
 module _ (s : State) (first second entries : List ℕ) (key : ℕ) (v : Presence) (p : Planned s first second entries key v)
-    (r : StepAnswer) (x y z : List ℕ) (e : After.after r x y z ≡ rehash_step s first second entries) where
+    (r : Result (ℕ × State) Error) (x y z : List ℕ) (e : After.after r x y z ≡ rehash_step s first second entries) where
   -- no step is refused but where damage was told
-  pub then_damaged : (error : Error) → r ≡ StepAnswer.Refused error → v ≡ Presence.Damaged
+  pub then_damaged : (error : Error) → r ≡ Err error → v ≡ Presence.Damaged
   unfolding presence_after
   then_damaged error d = p.told ∙ ap (presence_after key) (sym (rw d at e))
 
-  module _ (count : ℕ) (t : State) (d : r ≡ StepAnswer.Stepped count t) where
+  module _ (count : ℕ) (t : State) (d : r ≡ Ok (count, t)) where
     pub step_taken_lem : StepTaken s first second entries key v count t x y z
     unfolding presence_after
     step_taken_lem =
-        let taken : After.after (StepAnswer.Stepped count t) x y z ≡ rehash_step s first second entries = rw d at e in
+        let taken : After.after (Ok (count, t)) x y z ≡ rehash_step s first second entries = rw d at e in
         record {
           step = taken;
           sound = stepped_sound s first second entries p.sound p.due count t x y z taken;
@@ -135,8 +135,8 @@ module _ {A : Type 0} (refused : Error → A) (done : A → Bool) (call : State 
   unfolding step_first call_after rehash_step
   first_unsound t e f h = by (step_due s)
     where
-      stopped : After.after (StepAnswer.Refused Error.BadState) first second entries ≡ rehash_step s first second entries
-      stopped = writing_refused s first second entries t e (StepAnswer.Refused Error.BadState) _ f
+      stopped : After.after (Err Error.BadState) first second entries ≡ rehash_step s first second entries
+      stopped = writing_refused s first second entries t e (Err Error.BadState) _ f
 
       by : (b : Bool)
           → After.after (refused Error.BadState) first second entries
@@ -147,7 +147,7 @@ module _ {A : Type 0} (refused : Error → A) (done : A → Bool) (call : State 
   module _ (e : step_due s ≡ true) where
     -- the step is taken, and then the call
     pub first_done : (count : ℕ) (t : State) (x y z : List ℕ) (a : A) (p q w : List ℕ)
-        → After.after (StepAnswer.Stepped count t) x y z ≡ rehash_step s first second entries
+        → After.after (Ok (count, t)) x y z ≡ rehash_step s first second entries
         → After.after a p q w ≡ call t x y z → done a ≡ true
         → After.after a p q w ≡ step_first refused done call s first second entries
     unfolding call_after unless_refused
@@ -169,14 +169,14 @@ module _ {A : Type 0} (refused : Error → A) (done : A → Bool) (call : State 
             → After.after answer first second entries ≡ unless_refused done first second entries o
         kept (After.after a x y z) f = rw (f, d) refl
 
-        by : (o : After StepAnswer) → o ≡ rehash_step s first second entries
+        by : (o : After (Result (ℕ × State) Error)) → o ≡ rehash_step s first second entries
             → After.after answer first second entries ≡ call_after refused done call first second entries o
-        by (After.after (StepAnswer.Refused error) x y z) r =
-            let told : RehashLeaves s first second entries (After.after (StepAnswer.Refused error) x y z) =
+        by (After.after (Err error) x y z) r =
+            let told : RehashLeaves s first second entries (After.after (Err error) x y z) =
             subst (RehashLeaves s first second entries) (sym r) (leaves s first second entries h e) in
             ap (λ (a : A). After.after a first second entries)
             (damaged (k ∙ ap (presence_after key) (sym r)) ∙ ap refused (sym told.0))
-        by (After.after (StepAnswer.Stepped count t) x y z) r =
+        by (After.after (Ok (count, t)) x y z) r =
             kept (call t x y z)
             (each t x y z (stepped_sound s first second entries h e count t x y z r)
             (stepped_follows s first second entries h e count t x y z r) (ap entries_after r)

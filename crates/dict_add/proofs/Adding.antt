@@ -10,7 +10,6 @@ use lib.ListN.{length}
 use Rattle.model.specs.declared.State.{State}
 use Rattle.model.specs.declared.Table.{Table}
 use Rattle.model.specs.declared.Error.{Error}
-use Rattle.model.specs.declared.AddAnswer.{AddAnswer}
 use Rattle.model.specs.Memory.{size_of, buckets_of, keys_held}
 use Rattle.model.specs.Calls.{After, changed, lookup, target, added, add_alone, is_added, add_after_step}
 use Rattle.model.proofs.Soundness.{Sound, Counted, tells_sound, tested_counts}
@@ -26,6 +25,7 @@ use Rattle.during_rehash.specs.Counts.{one_more}
 use Rattle.during_rehash.specs.declared.push.Push.{Push}
 use Rattle.during_rehash.specs.Push.{Left, push_free, push_found, push_answer}
 use Rattle.during_rehash.proofs.Pushed.{after_left, added_by}
+use Rattle.std.specs.Prelude.{Result, Ok, Err}
 
 -- What a sound state gives, whichever buffer is current.
 
@@ -60,12 +60,12 @@ module _ (s : State) (current other entries : List ℕ) (key value : ℕ) (r : P
 
 -- On the lent buffers.
 
-module _ (s : State) (first second entries : List ℕ) (key value : ℕ) (a : AddAnswer) (x y e : List ℕ)
+module _ (s : State) (first second entries : List ℕ) (key value : ℕ) (a : Result State Error) (x y e : List ℕ)
     (h : sound_lent (length first) (length second) (length entries) s ≡ true) (rests : s.rehashing ≡ false) where
-  alone : (r : After AddAnswer) → r ≡ add_alone s first second entries key value → r ≡ add_after_step s first second entries key value
+  alone : (r : After (Result State Error)) → r ≡ add_alone s first second entries key value → r ≡ add_after_step s first second entries key value
   unfolding add_after_step
   alone r p =
-      first_alone AddAnswer.Refused is_added (λ t x y z. add_alone t x y z key value) s first second entries r (none_due_resting s rests) p
+      first_alone Err is_added (λ t x y z. add_alone t x y z key value) s first second entries r (none_due_resting s rests) p
 
   pub added_first : s.second_is_current ≡ false
       → After.after a x y e ≡ added s first second entries key value (lookup s first second entries key)
@@ -89,22 +89,22 @@ counted s first second entries t e h = tested_counts s _ _ entries t e h
 
 pub add_unsound : (s : State) (first second entries : List ℕ) (key value : ℕ) (t : Bool)
     → t ≡ sound_lent (length first) (length second) (length entries) s → t ≡ false
-    → After.after (AddAnswer.Refused Error.BadState) first second entries ≡ add_after_step s first second entries key value
+    → After.after (Err Error.BadState) first second entries ≡ add_after_step s first second entries key value
 unfolding add_after_step add_alone
 add_unsound s first second entries key value t e f =
-    first_unsound AddAnswer.Refused is_added (λ t x y z. add_alone t x y z key value) s first second entries t e f
+    first_unsound Err is_added (λ t x y z. add_alone t x y z key value) s first second entries t e f
     (writing_refused s first second entries t e _ _ f)
 
 module _ (s : State) (r : Push) where
-  pub answer_refused : (error : Error) → r ≡ Push.Refused error → AddAnswer.Refused error ≡ push_answer s r
+  pub answer_refused : (error : Error) → r ≡ Push.Refused error → Err error ≡ push_answer s r
   unfolding push_answer
   answer_refused error p = rw p
 
   pub answer_done : (free : ℕ) (t : State) → r ≡ Push.Done free → t ≡ one_more s (target s.rehashing) free
-      → AddAnswer.Added t ≡ push_answer s r
+      → Ok t ≡ push_answer s r
   unfolding push_answer
   answer_done free t p o = rw (p, o)
 
-  pub answered_by : (x y e : List ℕ) (meant : After AddAnswer) (a : AddAnswer) → After.after (push_answer s r) x y e ≡ meant
+  pub answered_by : (x y e : List ℕ) (meant : After (Result State Error)) (a : Result State Error) → After.after (push_answer s r) x y e ≡ meant
       → a ≡ push_answer s r → After.after a x y e ≡ meant
-  answered_by x y e meant a h p = ap (λ (b : AddAnswer). After.after b x y e) p ∙ h
+  answered_by x y e meant a h p = ap (λ (b : Result State Error). After.after b x y e) p ∙ h

@@ -6,7 +6,6 @@ use mathlib.Core.Bool.{Bool, true, false}
 use mathlib.Core.List.{List}
 use Rattle.model.specs.declared.State.{State}
 use Rattle.model.specs.declared.Error.{Error}
-use Rattle.model.specs.declared.AddAnswer.{AddAnswer}
 use Rattle.model.specs.Calls.{After, oriented, back, target, advanced, settled, add_after_step}
 use Rattle.during_rehash.specs.declared.moving.Taken.{Taken}
 use Rattle.during_rehash.specs.declared.moving.Purpose.{Purpose}
@@ -14,6 +13,7 @@ use Rattle.during_rehash.specs.Counts.{one_more}
 use Rattle.during_rehash.specs.Moving.{first_of, second_of, add_moving, moved_state, taken_answer, taken_room, Comes, Meets}
 use Rattle.during_rehash.proofs.AddingAfter.{twice_back}
 use Rattle.during_rehash.proofs.Numbered.{numbered, same_state}
+use Rattle.std.specs.Prelude.{Result, Ok, Err}
 
 -- On the lent buffers.
 
@@ -43,18 +43,18 @@ module _ (s : State) (e : s.rehashing ≡ true) (first second entries : List ℕ
 -- The answer.
 
 module _ (s : State) (r : Taken) where
-  pub taken_refused : (error : Error) → r ≡ Taken.Refused error → AddAnswer.Refused error ≡ taken_answer s r
+  pub taken_refused : (error : Error) → r ≡ Taken.Refused error → Err error ≡ taken_answer s r
   unfolding taken_answer
   taken_refused error e = rw e
 
   pub taken_pushed : (free : ℕ) (t : State) → r ≡ Taken.Pushed free → t ≡ one_more s (target s.rehashing) free
-      → AddAnswer.Added t ≡ taken_answer s r
+      → Ok t ≡ taken_answer s r
   unfolding taken_answer
   taken_pushed free t e f = rw (e, f)
 
   module _ (count next free : ℕ) (e : r ≡ Taken.Stepped count next free) where
     pub taken_stepped : (t u : State) → t ≡ settled (advanced s count next) → u ≡ one_more t (target t.rehashing) free
-        → AddAnswer.Added u ≡ taken_answer s r
+        → Ok u ≡ taken_answer s r
     unfolding taken_answer moved_state
     taken_stepped t u f g = rw (e, g, f)
 
@@ -68,6 +68,6 @@ module _ (s : State) (r : Taken) where
     pub room_new : taken_room s r → s.new_used + count ≤ s.capacity
     room_new h = (room_of h).1
 
-  pub taken_by : (x y e : List ℕ) (meant : After AddAnswer) (a : AddAnswer) → After.after (taken_answer s r) x y e ≡ meant
+  pub taken_by : (x y e : List ℕ) (meant : After (Result State Error)) (a : Result State Error) → After.after (taken_answer s r) x y e ≡ meant
       → a ≡ taken_answer s r → After.after a x y e ≡ meant
-  taken_by x y e meant a h p = ap (λ (b : AddAnswer). After.after b x y e) p ∙ h
+  taken_by x y e meant a h p = ap (λ (b : Result State Error). After.after b x y e) p ∙ h

@@ -20,7 +20,7 @@ use during_rehash::entry::one_more;
 use during_rehash::moving::{Purpose, Taken};
 use during_rehash::push::{Push, push_found};
 use memory::state::is_sound_lent;
-use model::{AddAnswer, Error, State};
+use model::{Error, State};
 use search::found::entry_in;
 
 // Into the only table.
@@ -85,13 +85,13 @@ fn push_resting(
 }
 
 // The answer, of what happened to the buffers.
-fn answer_of(s: State, pushed: Push) -> AddAnswer
+fn answer_of(s: State, pushed: Push) -> Result<State, Error>
     requires { Counted s }
     ensures { result ≡ push_answer s pushed }
 {
     match pushed {
-        Push::Refused(e) => AddAnswer::Refused(e),
-        Push::Done(free) => AddAnswer::Added(one_more(s, free)),
+        Push::Refused(e) => Err(e),
+        Push::Done(free) => Ok(one_more(s, free)),
     }
 }
 
@@ -150,17 +150,17 @@ fn add_rehashing(
 }
 
 // The answer, of what happened to the buffers during a rehash.
-fn answer_taken(s: State, taken: Taken) -> AddAnswer
+fn answer_taken(s: State, taken: Taken) -> Result<State, Error>
     requires counted { Counted s }
     requires taken_room { taken_room s taken }
     ensures { result ≡ taken_answer s taken }
 {
     match taken {
-        Taken::Refused(e) => AddAnswer::Refused(e),
-        Taken::Pushed(free) => AddAnswer::Added(one_more(s, free)),
+        Taken::Refused(e) => Err(e),
+        Taken::Pushed(free) => Ok(one_more(s, free)),
         Taken::Stepped { count, next, free } => {
             let t = state_after(s, count, next);
-            AddAnswer::Added(one_more(t, free))
+            Ok(one_more(t, free))
         }
     }
 }
@@ -173,7 +173,7 @@ pub fn add_after_step(
     s: State,
     key: u32,
     value: u32,
-) -> AddAnswer
+) -> Result<State, Error>
     ensures { after result first.new second.new entries.new
         ≡ calls.add_after_step s first.old second.old entries.old key value }
 {
@@ -186,6 +186,6 @@ pub fn add_after_step(
             answer_of(s, pushed)
         }
     } else {
-        AddAnswer::Refused(Error::BadState)
+        Err(Error::BadState)
     }
 }

@@ -10,8 +10,6 @@ use Rattle.model.specs.declared.State.{State}
 use Rattle.model.specs.declared.Table.{Table}
 use Rattle.model.specs.declared.Error.{Error}
 use Rattle.model.specs.declared.Lookup.{Lookup}
-use Rattle.model.specs.declared.DeleteAnswer.{DeleteAnswer}
-use Rattle.model.specs.declared.StepAnswer.{StepAnswer}
 use Rattle.model.specs.Memory.{used_of}
 use Rattle.model.specs.Calls.{After, changed, recounted, with_count, lookup, held, removed, deleted, delete_alone, advanced, settled, step_done, rehash_step, step_due, is_deleted, delete}
 use Rattle.memory.specs.Lent.{sound_lent}
@@ -27,10 +25,11 @@ use Rattle.during_rehash.specs.declared.moving.Purpose.{Purpose}
 use Rattle.during_rehash.specs.Moving.{RefusedFor, Stopped, Ready, Prepared, PreparedIn, Meets}
 use Rattle.during_rehash.proofs.Numbered.{numbered, same_state}
 use Rattle.dict_delete.specs.Prepared.{PreparedLent, SteppedBefore}
+use Rattle.std.specs.Prelude.{Result, Ok, Err}
 
 -- Alone, on the lent buffers.
 
-module _ (s : State) (first second entries : List ℕ) (key : ℕ) (a : DeleteAnswer) (x y e : List ℕ)
+module _ (s : State) (first second entries : List ℕ) (key : ℕ) (a : Result State Error) (x y e : List ℕ)
     (h : sound_lent (length first) (length second) (length entries) s ≡ true) where
   pub alone_first : s.second_is_current ≡ false
       → After.after a x y e ≡ deleted s first second entries key (lookup s first second entries key)
@@ -48,8 +47,8 @@ module _ (s : State) (first second entries : List ℕ) (key : ℕ) (a : DeleteAn
 
 -- What a delete alone answers, by what the lookup finds.
 
-delete_answer : State → Lookup → DeleteAnswer
-delete_answer s l = held DeleteAnswer.Refused (λ t before n. DeleteAnswer.Deleted (recounted s n (with_count s t (used_of s t - 1)))) l
+delete_answer : State → Lookup → Result State Error
+delete_answer s l = held Err (λ t before n. Ok (recounted s n (with_count s t (used_of s t - 1)))) l
 
 module _ (s : State) (x y z : List ℕ) (key : ℕ) where
   answered : (c o : List ℕ) (l : Lookup) → answer_of (deleted s c o z key l) ≡ delete_answer s l
@@ -63,15 +62,15 @@ module _ (s : State) (x y z : List ℕ) (key : ℕ) where
       → answer_of (delete_alone s x y z key) ≡ delete_answer s (lookup_lent s x y z key)
   unfolding delete_alone
   alone_answer h =
-      answer_by s x y z key (DeleteAnswer.Refused Error.BadState) (λ c o l. deleted s c o z key l) (delete_answer s) answered h
+      answer_by s x y z key (Err Error.BadState) (λ c o l. deleted s c o z key l) (delete_answer s) answered h
 
 -- what was told of the key says as much
 
-told_damaged : (s : State) (l : Lookup) → Presence.Damaged ≡ presence l → delete_answer s l ≡ DeleteAnswer.Refused Error.Damaged
+told_damaged : (s : State) (l : Lookup) → Presence.Damaged ≡ presence l → delete_answer s l ≡ Err Error.Damaged
 unfolding delete_answer held
 told_damaged s l e = ap (delete_answer s) (is_damaged l e)
 
-told_absent : (s : State) (l : Lookup) → Presence.Absent ≡ presence l → delete_answer s l ≡ DeleteAnswer.Refused Error.Absent
+told_absent : (s : State) (l : Lookup) → Presence.Absent ≡ presence l → delete_answer s l ≡ Err Error.Absent
 unfolding delete_answer held
 told_absent s l e = ap (delete_answer s) (is_absent l e)
 
@@ -83,41 +82,41 @@ told_held s l e = ap (λ (k : Lookup). is_deleted (delete_answer s k)) (is_held 
 
 module _ (s : State) (first second entries : List ℕ) (key : ℕ) where
   pub delete_unsound : (t : Bool) → t ≡ sound_lent (length first) (length second) (length entries) s → t ≡ false
-      → After.after (DeleteAnswer.Refused Error.BadState) first second entries ≡ delete s first second entries key
+      → After.after (Err Error.BadState) first second entries ≡ delete s first second entries key
   unfolding delete delete_alone
   delete_unsound t e f =
-      first_unsound DeleteAnswer.Refused is_deleted (λ t x y z. delete_alone t x y z key) s first second entries t e f
+      first_unsound Err is_deleted (λ t x y z. delete_alone t x y z key) s first second entries t e f
       (writing_refused s first second entries t e _ _ f)
 
   -- no step is due
-  pub delete_now : (r : After DeleteAnswer) → step_due s ≡ false → r ≡ delete_alone s first second entries key
+  pub delete_now : (r : After (Result State Error)) → step_due s ≡ false → r ≡ delete_alone s first second entries key
       → r ≡ delete s first second entries key
   unfolding delete
   delete_now r f h =
-      first_alone DeleteAnswer.Refused is_deleted (λ t x y z. delete_alone t x y z key) s first second entries r f h
+      first_alone Err is_deleted (λ t x y z. delete_alone t x y z key) s first second entries r f h
 
   module _ (h : sound_lent (length first) (length second) (length entries) s ≡ true) (f : step_due s ≡ true) (v : Presence)
       (k : v ≡ presence_after key (rehash_step s first second entries)) where
     pub delete_damaged : v ≡ Presence.Damaged
-        → After.after (DeleteAnswer.Refused Error.Damaged) first second entries ≡ delete s first second entries key
+        → After.after (Err Error.Damaged) first second entries ≡ delete s first second entries key
     unfolding delete is_deleted
     delete_damaged d =
-        first_refused DeleteAnswer.Refused is_deleted (λ t x y z. delete_alone t x y z key) s first second entries f key v
-        (DeleteAnswer.Refused Error.Damaged) h k (λ e. refl) refl
+        first_refused Err is_deleted (λ t x y z. delete_alone t x y z key) s first second entries f key v
+        (Err Error.Damaged) h k (λ e. refl) refl
         (λ t x y z p o e w. alone_answer t x y z key p ∙ told_damaged t (lookup_lent t x y z key) (sym d ∙ w))
 
     pub delete_absent : v ≡ Presence.Absent
-        → After.after (DeleteAnswer.Refused Error.Absent) first second entries ≡ delete s first second entries key
+        → After.after (Err Error.Absent) first second entries ≡ delete s first second entries key
     unfolding delete is_deleted
     delete_absent d =
-        first_refused DeleteAnswer.Refused is_deleted (λ t x y z. delete_alone t x y z key) s first second entries f key v
-        (DeleteAnswer.Refused Error.Absent) h k (λ e. let z : ◌≡◌ {A = ℕ} 0 1 = cc in absurd (omega arith)) refl
+        first_refused Err is_deleted (λ t x y z. delete_alone t x y z key) s first second entries f key v
+        (Err Error.Absent) h k (λ e. let z : ◌≡◌ {A = ℕ} 0 1 = cc in absurd (omega arith)) refl
         (λ t x y z p o e w. alone_answer t x y z key p ∙ told_absent t (lookup_lent t x y z key) (sym d ∙ w))
 
   -- refused for what was told
   delete_refused_for : (v : Presence) → v ≡ presence_after key (rehash_step s first second entries) → (error : Error)
       → RefusedFor v error → sound_lent (length first) (length second) (length entries) s ≡ true → step_due s ≡ true
-      → After.after (DeleteAnswer.Refused error) first second entries ≡ delete s first second entries key
+      → After.after (Err error) first second entries ≡ delete s first second entries key
   unfolding RefusedFor
   delete_refused_for Presence.Damaged k error e h f = rw e (delete_damaged h f Presence.Damaged k refl)
   delete_refused_for Presence.Absent k error e h f = rw e (delete_absent h f Presence.Absent k refl)
@@ -127,11 +126,11 @@ module _ (s : State) (first second entries : List ℕ) (key : ℕ) where
 
   module _ (r : Taken) (x y z : List ℕ) (k : PreparedLent s first second entries key r x y z) where
     pub before_stopped : (error : Error) → r ≡ Taken.Refused error
-        → SteppedBefore s first second entries key (StepAnswer.Refused error) x y z
+        → SteppedBefore s first second entries key (Err error) x y z
     unfolding Prepared SteppedBefore
     before_stopped error e = rw e at k
 
-    pub before_pushed : (free : ℕ) (a : StepAnswer) → r ≡ Taken.Pushed free → SteppedBefore s first second entries key a x y z
+    pub before_pushed : (free : ℕ) (a : Result (ℕ × State) Error) → r ≡ Taken.Pushed free → SteppedBefore s first second entries key a x y z
     unfolding Prepared
     before_pushed free a e = absurd (rw e at k)
 
@@ -149,24 +148,24 @@ module _ (s : State) (first second entries : List ℕ) (key : ℕ) where
       ready_new = ready.room.1
 
       pub before_stepped : (t : State) → t ≡ settled (advanced s count next)
-          → SteppedBefore s first second entries key (StepAnswer.Stepped count t) x y z
+          → SteppedBefore s first second entries key (Ok (count, t)) x y z
       unfolding SteppedBefore step_answer step_done
       before_stepped t te = (ready.told, rw te ready.step)
 
   -- and the delete
 
-  module _ (h : sound_lent (length first) (length second) (length entries) s ≡ true) (f : step_due s ≡ true) (r : StepAnswer)
+  module _ (h : sound_lent (length first) (length second) (length entries) s ≡ true) (f : step_due s ≡ true) (r : Result (ℕ × State) Error)
       (x y z : List ℕ) (k : SteppedBefore s first second entries key r x y z) where
-    pub delete_stopped : (error : Error) → r ≡ StepAnswer.Refused error
-        → After.after (DeleteAnswer.Refused error) x y z ≡ delete s first second entries key
+    pub delete_stopped : (error : Error) → r ≡ Err error
+        → After.after (Err error) x y z ≡ delete s first second entries key
     unfolding SteppedBefore
     delete_stopped error e =
         let g : Stopped (presence_after key (rehash_step s first second entries)) first second entries error x y z = rw e at k in
         rw (g.first_same, g.second_same, g.entries_same) (delete_refused_for _ refl error g.told h f)
 
-    module _ (count : ℕ) (t : State) (e : r ≡ StepAnswer.Stepped count t) where
+    module _ (count : ℕ) (t : State) (e : r ≡ Ok (count, t)) where
       told_and_taken : (Presence.Held ≡ presence_after key (rehash_step s first second entries))
-          × (After.after (StepAnswer.Stepped count t) x y z ≡ rehash_step s first second entries)
+          × (After.after (Ok (count, t)) x y z ≡ rehash_step s first second entries)
       unfolding SteppedBefore
       told_and_taken = rw e at k
 
@@ -174,16 +173,16 @@ module _ (s : State) (first second entries : List ℕ) (key : ℕ) where
       then =
           step_taken_lem s first second entries key Presence.Held
           record { sound = h; due = f; told = told_and_taken.0 }
-          (StepAnswer.Stepped count t) x y z told_and_taken.1 count t refl
+          (Ok (count, t)) x y z told_and_taken.1 count t refl
 
       pub then_sound : sound_lent (length x) (length y) (length z) t ≡ true
       then_sound = then.sound
 
-      pub delete_held : (a : DeleteAnswer) (p q w : List ℕ) → After.after a p q w ≡ delete_alone t x y z key
+      pub delete_held : (a : Result State Error) (p q w : List ℕ) → After.after a p q w ≡ delete_alone t x y z key
           → After.after a p q w ≡ delete s first second entries key
       unfolding delete answer_of
       delete_held a p q w g =
-          first_done DeleteAnswer.Refused is_deleted (λ t x y z. delete_alone t x y z key) s first second entries f count t x y z
+          first_done Err is_deleted (λ t x y z. delete_alone t x y z key) s first second entries f count t x y z
           a p q w then.step g
           (ap is_deleted (ap answer_of g ∙ alone_answer t x y z key then.sound)
           ∙ told_held t (lookup_lent t x y z key) then.told)
@@ -191,8 +190,8 @@ module _ (s : State) (first second entries : List ℕ) (key : ℕ) where
 -- From the current and the other buffer to the lent ones.
 
 -- what is left to a delete, said of another step that comes to the same in other places
-elsewhere : (s : State) (v w : Presence) (a b : After StepAnswer) (c o p q entries : List ℕ) (x y x' y' z : List ℕ) → v ≡ w
-    → ((m : StepAnswer) → After.after m x y z ≡ a → After.after m x' y' z ≡ b)
+elsewhere : (s : State) (v w : Presence) (a b : After (Result (ℕ × State) Error)) (c o p q entries : List ℕ) (x y x' y' z : List ℕ) → v ≡ w
+    → ((m : Result (ℕ × State) Error) → After.after m x y z ≡ a → After.after m x' y' z ≡ b)
     → (x ≡ c → y ≡ o → (x' ≡ p) × (y' ≡ q)) → (r : Taken)
     → Prepared s v a c o entries r x y z → Prepared s w b p q entries r x' y' z
 unfolding Prepared

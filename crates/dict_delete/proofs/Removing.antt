@@ -9,13 +9,14 @@ use lib.ListN.{set}
 use Rattle.model.specs.declared.State.{State}
 use Rattle.model.specs.declared.Table.{Table}
 use Rattle.model.specs.declared.Lookup.{Lookup}
-use Rattle.model.specs.declared.DeleteAnswer.{DeleteAnswer}
 use Rattle.model.specs.Keys.{bucket_of}
 use Rattle.model.specs.Memory.{link_of, set_link, set_entry, size_of, used_of, buckets_of}
 use Rattle.model.specs.Calls.{After, changed, recounted, with_count, lookup, unlink_bucket, unlink_entry, removed, deleted}
 use Rattle.model.proofs.Soundness.{Sound}
 use Rattle.model.proofs.Lookups.{Located}
 use Rattle.search.specs.Tables.{Readable}
+use Rattle.std.specs.Prelude.{Result, Ok}
+use Rattle.model.specs.declared.Error.{Error}
 
 -- The entry off its chain.
 
@@ -72,20 +73,20 @@ module _ (s : State) (t : Table) (before n : ℕ) (l : Located s t before n) whe
 module _ (s : State) (current other entries : List ℕ) (key : ℕ) (t : Table) (before n : ℕ) (b e : List ℕ)
     (z : e ≡ set_entry (unlink_entry entries before n) n s.free_head 0 0) where
   pub removed_old : t ≡ Table.Old → b ≡ unlink_bucket current entries (bucket_of key s.old_size) before n
-      → After.after (DeleteAnswer.Deleted (recounted s n (with_count s Table.Old (s.old_used - 1)))) b other e
+      → After.after (Ok (recounted s n (with_count s Table.Old (s.old_used - 1)))) b other e
       ≡ removed s current other entries key t before n
   unfolding removed changed buckets_of size_of used_of
   removed_old i w = rw (i, w, z)
 
   pub removed_new : t ≡ Table.New → b ≡ unlink_bucket other entries (bucket_of key s.new_size) before n
-      → After.after (DeleteAnswer.Deleted (recounted s n (with_count s Table.New (s.new_used - 1)))) current b e
+      → After.after (Ok (recounted s n (with_count s Table.New (s.new_used - 1)))) current b e
       ≡ removed s current other entries key t before n
   unfolding removed changed buckets_of size_of used_of
   removed_new i w = rw (i, w, z)
 
 -- What the lookup found.
 
-pub deleted_by : (s : State) (current other entries : List ℕ) (key : ℕ) (at v : Lookup) (r : After DeleteAnswer)
+pub deleted_by : (s : State) (current other entries : List ℕ) (key : ℕ) (at v : Lookup) (r : After (Result State Error))
     → at ≡ lookup s current other entries key → at ≡ v → r ≡ deleted s current other entries key v
     → r ≡ deleted s current other entries key (lookup s current other entries key)
 deleted_by s current other entries key at v r l a h = rw (← l, a) h

@@ -10,7 +10,6 @@ use Rattle.model.specs.declared.State.{State}
 use Rattle.model.specs.declared.Table.{Table}
 use Rattle.model.specs.declared.Error.{Error}
 use Rattle.model.specs.declared.Lookup.{Lookup}
-use Rattle.model.specs.declared.DeleteAnswer.{DeleteAnswer}
 use Rattle.model.specs.Keys.{bucket_of}
 use Rattle.model.specs.Memory.{set_entry, size_of, used_of, buckets_of}
 use Rattle.model.specs.Calls.{After, changed, state_of, old_new, recounted, with_count, lookup, held, unlink_bucket, unlink_entry, removed, deleted, delete_alone}
@@ -22,6 +21,7 @@ use Rattle.search.proofs.Lookups.{lookup_resting}
 use Rattle.dict_delete.specs.declared.remove.Removal.{Removal}
 use Rattle.dict_delete.specs.Removal.{Left, removed_one, FromSome, removal_answer}
 use Rattle.dict_delete.proofs.Deleting.{alone_first, alone_second}
+use Rattle.std.specs.Prelude.{Result, Ok, Err}
 
 -- In the only table, by its numbers.
 
@@ -84,7 +84,7 @@ module _ (buckets entries : List ℕ) (capacity used size free key : ℕ) (at : 
 -- On the current and the other buffer.
 
 module _ (s : State) (current other entries : List ℕ) (key : ℕ) (rests : s.rehashing ≡ false) where
-  answered : Left → After DeleteAnswer
+  answered : Left → After (Result State Error)
   answered (Left.left r b z) = After.after (removal_answer s r) b other z
 
   in_old : (l : Lookup) → l ≡ lookup s current other entries key
@@ -132,12 +132,12 @@ module _ (s : State) (first second entries : List ℕ) (key : ℕ) (r : Removal)
 -- The answer.
 
 module _ (s : State) (r : Removal) where
-  pub answer_refused : (error : Error) → r ≡ Removal.Refused error → DeleteAnswer.Refused error ≡ removal_answer s r
+  pub answer_refused : (error : Error) → r ≡ Removal.Refused error → Err error ≡ removal_answer s r
   unfolding removal_answer
   answer_refused error e = rw e
 
   pub answer_freed : (n : ℕ) → r ≡ Removal.Freed n
-      → DeleteAnswer.Deleted (recounted s n (with_count s Table.Old (s.old_used - 1))) ≡ removal_answer s r
+      → Ok (recounted s n (with_count s Table.Old (s.old_used - 1))) ≡ removal_answer s r
   unfolding removal_answer
   answer_freed n e = rw e
 
@@ -145,6 +145,6 @@ module _ (s : State) (r : Removal) where
   unfolding FromSome
   freed_some n h e = rw e at h
 
-  pub answered_by : (x y z : List ℕ) (meant : After DeleteAnswer) (a : DeleteAnswer) → After.after (removal_answer s r) x y z ≡ meant
+  pub answered_by : (x y z : List ℕ) (meant : After (Result State Error)) (a : Result State Error) → After.after (removal_answer s r) x y z ≡ meant
       → a ≡ removal_answer s r → After.after a x y z ≡ meant
-  answered_by x y z meant a h p = ap (λ (b : DeleteAnswer). After.after b x y z) p ∙ h
+  answered_by x y z meant a h p = ap (λ (b : Result State Error). After.after b x y z) p ∙ h

@@ -1,14 +1,14 @@
 -- What the functions below delete hand up where there is one table, and what they promise, in numbers: they know no state. The
 -- answer is made of it.
-use Rattle.std.specs.Prelude.{ℕ, ◌-◌, ◌<◌, List}
+use Rattle.std.specs.Prelude.{ℕ, ◌-◌, ◌<◌, List, Result, Ok, Err}
 use Rattle.model.specs.declared.State.{State}
 use Rattle.model.specs.declared.Table.{Table}
 use Rattle.model.specs.declared.Lookup.{Lookup}
-use Rattle.model.specs.declared.DeleteAnswer.{DeleteAnswer}
 use Rattle.model.specs.Keys.{bucket_of}
 use Rattle.model.specs.Memory.{set_entry}
 use Rattle.model.specs.Calls.{recounted, with_count, held, unlink_bucket, unlink_entry}
 use Rattle.dict_delete.specs.declared.remove.Removal.{Removal}
+use Rattle.model.specs.declared.Error.{Error}
 
 -- what is handed up, and the table's buckets and the entries as they are left
 pub data Left : Type 0 where
@@ -28,6 +28,6 @@ unfoldable pub FromSome : ℕ → Removal → Type 0
 FromSome used (Removal.Refused e) = Unit {0}
 FromSome used (Removal.Freed n) = 0 < used
 
-unfoldable pub removal_answer : State → Removal → DeleteAnswer
-removal_answer s (Removal.Refused e) = DeleteAnswer.Refused e
-removal_answer s (Removal.Freed n) = DeleteAnswer.Deleted (recounted s n (with_count s Table.Old (s.old_used - 1)))
+unfoldable pub removal_answer : State → Removal → Result State Error
+removal_answer s (Removal.Refused e) = Err e
+removal_answer s (Removal.Freed n) = Ok (recounted s n (with_count s Table.Old (s.old_used - 1)))

@@ -14,7 +14,7 @@ use dict_rehash::rehash::state_after;
 use during_rehash::during::during;
 use during_rehash::moving::{Purpose, Taken};
 use memory::state::is_sound_lent;
-use model::{DeleteAnswer, Error, Lookup, State, StepAnswer, Table};
+use model::{Error, Lookup, State, Table};
 use search::lookup::look_up;
 
 // The entry that the lookup found, out of the table that it is in.
@@ -27,7 +27,7 @@ fn remove_at(
     table: Table,
     before: u32,
     n: u32,
-) -> DeleteAnswer
+) -> Result<State, Error>
     requires sound { Sound s (length current.old) (length other.old) (length entries.old) }
     requires located { Located s table before n }
     ensures { after result current.new other.new entries.new
@@ -39,12 +39,12 @@ fn remove_at(
         Table::Old => {
             free_entry(current, entries, s.old_size, key, before, n, s.free_head);
             t.old_used = s.old_used - 1;
-            DeleteAnswer::Deleted(t)
+            Ok(t)
         }
         Table::New => {
             free_entry(other, entries, s.new_size, key, before, n, s.free_head);
             t.new_used = s.new_used - 1;
-            DeleteAnswer::Deleted(t)
+            Ok(t)
         }
     }
 }
@@ -56,7 +56,7 @@ fn remove_sound(
     entries: &mut [u32],
     s: State,
     key: u32,
-) -> DeleteAnswer
+) -> Result<State, Error>
     requires { Sound s (length current.old) (length other.old) (length entries.old) }
     ensures { after result current.new other.new entries.new
         ≡ calls.deleted s current.old other.old entries.old key
@@ -64,8 +64,8 @@ fn remove_sound(
 {
     let at = look_up(current, other, entries, s, key);
     match at {
-        Lookup::Damaged => DeleteAnswer::Refused(Error::Damaged),
-        Lookup::Absent => DeleteAnswer::Refused(Error::Absent),
+        Lookup::Damaged => Err(Error::Damaged),
+        Lookup::Absent => Err(Error::Absent),
         Lookup::At {
             table,
             before,
@@ -81,7 +81,7 @@ fn delete_alone(
     entries: &mut [u32],
     s: State,
     key: u32,
-) -> DeleteAnswer
+) -> Result<State, Error>
     requires { sound_lent (length first.old) (length second.old) (length entries.old) s ≡ true }
     ensures { after result first.new second.new entries.new
         ≡ calls.delete_alone s first.old second.old entries.old key }
@@ -153,7 +153,7 @@ fn step_before(
     entries: &mut [u32],
     s: State,
     key: u32,
-) -> StepAnswer
+) -> Result<(u32, State), Error>
     requires sound { sound_lent (length first.old) (length second.old) (length entries.old) s ≡ true }
     requires step_due { calls.step_due s ≡ true }
     ensures { SteppedBefore s first.old second.old entries.old key result
@@ -161,16 +161,16 @@ fn step_before(
 {
     let taken = step_lent(first, second, entries, s, key);
     match taken {
-        Taken::Refused(e) => StepAnswer::Refused(e),
+        Taken::Refused(e) => Err(e),
         // No delete pushes an entry.
-        Taken::Pushed(_) => StepAnswer::Refused(Error::Damaged),
+        Taken::Pushed(_) => Err(Error::Damaged),
         Taken::Stepped {
             count,
             next,
             free: _,
         } => {
             let t = state_after(s, count, next);
-            StepAnswer::Stepped(count, t)
+            Ok((count, t))
         }
     }
 }
@@ -183,7 +183,7 @@ fn delete_after_step(
     entries: &mut [u32],
     s: State,
     key: u32,
-) -> DeleteAnswer
+) -> Result<State, Error>
     requires sound { sound_lent (length first.old) (length second.old) (length entries.old) s ≡ true }
     requires step_due { calls.step_due s ≡ true }
     ensures { after result first.new second.new entries.new
@@ -191,8 +191,8 @@ fn delete_after_step(
 {
     let stepped = step_before(first, second, entries, s, key);
     match stepped {
-        StepAnswer::Refused(e) => DeleteAnswer::Refused(e),
-        StepAnswer::Stepped(_, t) => delete_alone(first, second, entries, t, key),
+        Err(e) => Err(e),
+        Ok((_, t)) => delete_alone(first, second, entries, t, key),
     }
 }
 
@@ -202,7 +202,7 @@ pub fn delete(
     entries: &mut [u32],
     s: State,
     key: u32,
-) -> DeleteAnswer
+) -> Result<State, Error>
     ensures { after result first.new second.new entries.new
         ≡ calls.delete s first.old second.old entries.old key }
 {
@@ -215,6 +215,6 @@ pub fn delete(
             delete_resting(first, second, entries, s, key)
         }
     } else {
-        DeleteAnswer::Refused(Error::BadState)
+        Err(Error::BadState)
     }
 }

@@ -13,7 +13,7 @@ ghost use Rattle.dict_delete.specs.Removal.Left.{left};
 
 use memory::entry::{link_of, set_entry, set_link};
 use memory::state::bucket_index;
-use model::{DeleteAnswer, Error, Lookup, State, Table};
+use model::{Error, Lookup, State, Table};
 use search::lookup::lookup_in;
 
 // Entry n off its chain, where it stands behind another entry or at the head of the key's bucket.
@@ -131,17 +131,17 @@ fn remove_resting(
 }
 
 // The answer, of what happened to the buffers.
-fn answer_of(s: State, removal: Removal) -> DeleteAnswer
+fn answer_of(s: State, removal: Removal) -> Result<State, Error>
     requires { FromSome s.old_used removal }
     ensures { result ≡ removal_answer s removal }
 {
     match removal {
-        Removal::Refused(e) => DeleteAnswer::Refused(e),
+        Removal::Refused(e) => Err(e),
         Removal::Freed(n) => {
             let mut t = s;
             t.free_head = n;
             t.old_used = s.old_used - 1;
-            DeleteAnswer::Deleted(t)
+            Ok(t)
         }
     }
 }
@@ -153,7 +153,7 @@ pub fn delete_resting(
     entries: &mut [u32],
     s: State,
     key: u32,
-) -> DeleteAnswer
+) -> Result<State, Error>
     requires sound { sound_lent (length first.old) (length second.old) (length entries.old) s ≡ true }
     requires resting { s.rehashing ≡ false }
     ensures { after result first.new second.new entries.new

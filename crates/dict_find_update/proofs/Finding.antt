@@ -8,7 +8,6 @@ use lib.ListN.{length}
 use Rattle.model.specs.declared.State.{State}
 use Rattle.model.specs.declared.Error.{Error}
 use Rattle.model.specs.declared.Lookup.{Lookup}
-use Rattle.model.specs.declared.FindAnswer.{FindAnswer}
 use Rattle.model.specs.Memory.{value_of}
 use Rattle.model.specs.Calls.{lookup, found, find}
 use Rattle.memory.specs.Lent.{sound_lent}
@@ -17,32 +16,33 @@ use Rattle.search.specs.declared.found.Found.{Found}
 use Rattle.search.specs.Tables.{lookup_lent}
 use Rattle.search.specs.Found.{found_of}
 use Rattle.search.proofs.Held.{held_damaged, held_absent, held_at}
+use Rattle.std.specs.Prelude.{Result, Ok, Err}
 
 -- The answer to any lookup, from the entry that it found.
 
 module _ (entries : List ℕ) (r : Found) where
-  pub value_damaged : r ≡ Found.Damaged → (l : Lookup) → r ≡ found_of l → FindAnswer.Refused Error.Damaged ≡ found entries l
+  pub value_damaged : r ≡ Found.Damaged → (l : Lookup) → r ≡ found_of l → Err Error.Damaged ≡ found entries l
   unfolding found
   value_damaged d l e = held_damaged _ _ l r e d
 
-  pub value_absent : r ≡ Found.Absent → (l : Lookup) → r ≡ found_of l → FindAnswer.Refused Error.Absent ≡ found entries l
+  pub value_absent : r ≡ Found.Absent → (l : Lookup) → r ≡ found_of l → Err Error.Absent ≡ found entries l
   unfolding found
   value_absent d l e = held_absent _ _ l r e d
 
   pub value_found : (n value : ℕ) → r ≡ Found.At n → value ≡ value_of entries n
-      → (l : Lookup) → r ≡ found_of l → FindAnswer.Found value ≡ found entries l
+      → (l : Lookup) → r ≡ found_of l → Ok value ≡ found entries l
   unfolding found
-  value_found n value d v l e = ap FindAnswer.Found v ∙ held_at _ _ l r e n d
+  value_found n value d v l e = ap Ok v ∙ held_at _ _ l r e n d
 
 -- The call.
 
 module _ (s : State) (first second entries : List ℕ) (key : ℕ) (t : Bool)
     (e : t ≡ sound_lent (length first) (length second) (length entries) s) where
-  pub find_bad_state : t ≡ false → FindAnswer.Refused Error.BadState ≡ find s first second entries key
+  pub find_bad_state : t ≡ false → Err Error.BadState ≡ find s first second entries key
   unfolding find
   find_bad_state h = reading_refused s first second entries t e _ _ h
 
-  pub find_sound : t ≡ true → (r : Found) → r ≡ found_of (lookup_lent s first second entries key) → (a : FindAnswer)
+  pub find_sound : t ≡ true → (r : Found) → r ≡ found_of (lookup_lent s first second entries key) → (a : Result ℕ Error)
       → ((l : Lookup) → r ≡ found_of l → a ≡ found entries l) → a ≡ find s first second entries key
   unfolding find lookup_lent
   find_sound h r l a f =

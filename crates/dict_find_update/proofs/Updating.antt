@@ -8,7 +8,6 @@ use lib.ListN.{length}
 use Rattle.model.specs.declared.State.{State}
 use Rattle.model.specs.declared.Error.{Error}
 use Rattle.model.specs.declared.Lookup.{Lookup}
-use Rattle.model.specs.declared.UpdateAnswer.{UpdateAnswer}
 use Rattle.model.specs.Memory.{set_value}
 use Rattle.model.specs.Calls.{After, oriented, back, lookup, held, updated, update}
 use Rattle.memory.specs.Lent.{sound_lent}
@@ -17,23 +16,24 @@ use Rattle.search.specs.declared.found.Found.{Found}
 use Rattle.search.specs.Tables.{lookup_lent}
 use Rattle.search.specs.Found.{found_of}
 use Rattle.search.proofs.Held.{held_damaged, held_absent, held_at}
+use Rattle.std.specs.Prelude.{Result, Ok, Err}
 
 -- The answer to any lookup and what it leaves, from the entry that it found.
 
 module _ (entries : List ℕ) (value : ℕ) (r : Found) where
   pub update_damaged : r ≡ Found.Damaged → (first second : List ℕ) (l : Lookup) → r ≡ found_of l
-      → After.after (UpdateAnswer.Refused Error.Damaged) first second entries ≡ updated first second entries value l
+      → After.after (Err Error.Damaged) first second entries ≡ updated first second entries value l
   unfolding updated
   update_damaged d first second l e = held_damaged _ _ l r e d
 
   pub update_absent : r ≡ Found.Absent → (first second : List ℕ) (l : Lookup) → r ≡ found_of l
-      → After.after (UpdateAnswer.Refused Error.Absent) first second entries ≡ updated first second entries value l
+      → After.after (Err Error.Absent) first second entries ≡ updated first second entries value l
   unfolding updated
   update_absent d first second l e = held_absent _ _ l r e d
 
   pub update_value : (n : ℕ) (last : List ℕ) → r ≡ Found.At n → last ≡ set_value entries n value
       → (first second : List ℕ) (l : Lookup) → r ≡ found_of l
-      → After.after UpdateAnswer.Updated first second last ≡ updated first second entries value l
+      → After.after (Ok tt) first second last ≡ updated first second entries value l
   unfolding updated
   update_value n last d v first second l e = rw v (held_at _ _ l r e n d)
 
@@ -50,12 +50,12 @@ updated_back first second entries value (Lookup.At t before n) = refl
 module _ (s : State) (first second entries : List ℕ) (key value : ℕ) (t : Bool)
     (e : t ≡ sound_lent (length first) (length second) (length entries) s) where
   pub update_bad_state : t ≡ false
-      → After.after (UpdateAnswer.Refused Error.BadState) first second entries ≡ update s first second entries key value
+      → After.after (Err Error.BadState) first second entries ≡ update s first second entries key value
   unfolding update
   update_bad_state h = writing_refused s first second entries t e _ _ h
 
   pub update_sound : t ≡ true → (r : Found) → r ≡ found_of (lookup_lent s first second entries key)
-      → (a : UpdateAnswer) (last : List ℕ)
+      → (a : Result (Unit {0}) Error) (last : List ℕ)
       → ((x y : List ℕ) (l : Lookup) → r ≡ found_of l → After.after a x y last ≡ updated x y entries value l)
       → After.after a first second last ≡ update s first second entries key value
   unfolding update lookup_lent oriented back

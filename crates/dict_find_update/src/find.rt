@@ -7,25 +7,25 @@ ghost use Rattle.search.specs.Found.{found_of, Inside};
 
 use memory::entry::value_of;
 use memory::state::is_sound_lent;
-use model::{Error, FindAnswer, State};
+use model::{Error, State};
 use search::found::{Found, entry_moving, entry_resting};
 
 // The answer to any lookup that found this entry.
-fn value_at(entries: &[u32], at: Found) -> FindAnswer
+fn value_at(entries: &[u32], at: Found) -> Result<u32, Error>
     requires { Inside at (length entries.now) }
     ensures { (l : Lookup) → at ≡ found_of l → result ≡ calls.found entries.now l }
 {
     match at {
-        Found::Damaged => FindAnswer::Refused(Error::Damaged),
-        Found::Absent => FindAnswer::Refused(Error::Absent),
+        Found::Damaged => Err(Error::Damaged),
+        Found::Absent => Err(Error::Absent),
         Found::At(entry) => {
             let value = value_of(entries, entry);
-            FindAnswer::Found(value)
+            Ok(value)
         }
     }
 }
 
-pub fn find(first: &[u32], second: &[u32], entries: &[u32], s: State, key: u32) -> FindAnswer
+pub fn find(first: &[u32], second: &[u32], entries: &[u32], s: State, key: u32) -> Result<u32, Error>
     ensures { result ≡ calls.find s first.now second.now entries.now key }
 {
     if is_sound_lent(first.len(), second.len(), entries.len(), s) {
@@ -37,6 +37,6 @@ pub fn find(first: &[u32], second: &[u32], entries: &[u32], s: State, key: u32) 
             value_at(entries, at)
         }
     } else {
-        FindAnswer::Refused(Error::BadState)
+        Err(Error::BadState)
     }
 }

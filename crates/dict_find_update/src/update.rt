@@ -7,21 +7,21 @@ ghost use Rattle.search.specs.Found.{found_of, Inside};
 
 use memory::entry::set_value;
 use memory::state::is_sound_lent;
-use model::{Error, State, UpdateAnswer};
+use model::{Error, State};
 use search::found::{Found, entry_moving, entry_resting};
 
 // The answer to any lookup that found this entry, and what it leaves of the entries, beside any buckets.
-fn update_at(entries: &mut [u32], at: Found, value: u32) -> UpdateAnswer
+fn update_at(entries: &mut [u32], at: Found, value: u32) -> Result<(), Error>
     requires { Inside at (length entries.old) }
     ensures { (first second : List ℕ) (l : Lookup) → at ≡ found_of l
         → after result first second entries.new ≡ calls.updated first second entries.old value l }
 {
     match at {
-        Found::Damaged => UpdateAnswer::Refused(Error::Damaged),
-        Found::Absent => UpdateAnswer::Refused(Error::Absent),
+        Found::Damaged => Err(Error::Damaged),
+        Found::Absent => Err(Error::Absent),
         Found::At(entry) => {
             set_value(entries, entry, value);
-            UpdateAnswer::Updated
+            Ok(())
         }
     }
 }
@@ -33,7 +33,7 @@ pub fn update(
     s: State,
     key: u32,
     value: u32,
-) -> UpdateAnswer
+) -> Result<(), Error>
     ensures { after result first.now second.now entries.new
         ≡ calls.update s first.now second.now entries.old key value }
 {
@@ -46,6 +46,6 @@ pub fn update(
             update_at(entries, at, value)
         }
     } else {
-        UpdateAnswer::Refused(Error::BadState)
+        Err(Error::BadState)
     }
 }

@@ -10,13 +10,12 @@ use lib.Pow.{pow_mono}
 use borrow.Author.Tests.{lt-ltb, le-ltb}
 use Rattle.model.specs.declared.State.{State}
 use Rattle.model.specs.declared.Error.{Error}
-use Rattle.model.specs.declared.AddAnswer.{AddAnswer}
-use Rattle.model.specs.declared.ResizeAnswer.{ResizeAnswer}
 use Rattle.model.specs.Limits.{largest_exponent, legal_size, force_ratio}
 use Rattle.model.specs.Memory.{keys_held}
 use Rattle.model.specs.Calls.{After, resize, suggested, crowded, growth_due, grown_by, grown, then_grown, add_after_step, add}
 use Rattle.model.proofs.Power.{power_of}
 use Rattle.model.proofs.AddLeaves.{Growable, AddLeaves, add_leaves}
+use Rattle.std.specs.Prelude.{Result, Ok, Err}
 
 -- ---- the test
 
@@ -38,12 +37,12 @@ wanted s t full size e f h = rw (← e, f) h
 -- ---- the resize
 
 -- what it answers, as an add's answer
-module _ (s : State) (a : ResizeAnswer) (x y z : List ℕ) (meant : After ResizeAnswer) (e : After.after a x y z ≡ meant) where
-  pub begun : (t : State) → a ≡ ResizeAnswer.Resized t → After.after (AddAnswer.Added t) x y z ≡ grown_by s meant
+module _ (s : State) (a : Result State Error) (x y z : List ℕ) (meant : After (Result State Error)) (e : After.after a x y z ≡ meant) where
+  pub begun : (t : State) → a ≡ Ok t → After.after (Ok t) x y z ≡ grown_by s meant
   unfolding grown_by
   begun t d = ap (grown_by s) (rw d at e)
 
-  pub not_begun : (error : Error) → a ≡ ResizeAnswer.Refused error → After.after (AddAnswer.Added s) x y z ≡ grown_by s meant
+  pub not_begun : (error : Error) → a ≡ Err error → After.after (Ok s) x y z ≡ grown_by s meant
   unfolding grown_by
   not_begun error d = ap (grown_by s) (rw d at e)
 
@@ -51,21 +50,21 @@ module _ (s : State) (a : ResizeAnswer) (x y z : List ℕ) (meant : After Resize
 module _ (s : State) (first second entries : List ℕ) where
   by_tests : (full larger : Bool) → one_crowded s ≡ full → ltb s.old_size (suggested true (keys_held s)) ≡ larger
       → cond (full && larger) (grown_by s (resize s first second entries (suggested true (keys_held s))))
-      (After.after (AddAnswer.Added s) first second entries)
+      (After.after (Ok s) first second entries)
       ≡ grown s first second entries
   unfolding grown growth_due
   by_tests full larger f l = rw (← f, ← l, and_assoc)
 
   module _ (size : ℕ) (e : size ≡ cond (one_crowded s) (suggested true (keys_held s)) s.old_size) where
-    pub not_larger : size ≤ s.old_size → After.after (AddAnswer.Added s) first second entries ≡ grown s first second entries
+    pub not_larger : size ≤ s.old_size → After.after (Ok s) first second entries ≡ grown s first second entries
     not_larger l = by (one_crowded s) refl e
       where
         by : (full : Bool) → one_crowded s ≡ full → size ≡ cond full (suggested true (keys_held s)) s.old_size
-            → After.after (AddAnswer.Added s) first second entries ≡ grown s first second entries
+            → After.after (Ok s) first second entries ≡ grown s first second entries
         by true f e = by_tests true false f (rw e at (le-ltb s.old_size size l))
         by false f e = by_tests false _ f refl
 
-    pub larger : (a : AddAnswer) (x y : List ℕ) → s.old_size < size
+    pub larger : (a : Result State Error) (x y : List ℕ) → s.old_size < size
         → After.after a x y entries ≡ grown_by s (resize s first second entries size)
         → After.after a x y entries ≡ grown s first second entries
     larger a x y l r = by (one_crowded s) refl e
@@ -77,18 +76,18 @@ module _ (s : State) (first second entries : List ℕ) where
 
 -- ---- the add
 
-module _ (s : State) (first second entries : List ℕ) (key value : ℕ) (a : AddAnswer) (x y z : List ℕ)
+module _ (s : State) (first second entries : List ℕ) (key value : ℕ) (a : Result State Error) (x y z : List ℕ)
     (e : After.after a x y z ≡ add_after_step s first second entries key value) where
-  pub growable : (t : State) → a ≡ AddAnswer.Added t → Growable t
+  pub growable : (t : State) → a ≡ Ok t → Growable t
   unfolding AddLeaves
   growable t d = subst AddLeaves (sym (rw d at e)) (add_leaves key value s first second entries)
 
-  pub add_refused : (error : Error) → a ≡ AddAnswer.Refused error
-      → After.after (AddAnswer.Refused error) x y z ≡ add s first second entries key value
+  pub add_refused : (error : Error) → a ≡ Err error
+      → After.after (Err error) x y z ≡ add s first second entries key value
   unfolding add then_grown
   add_refused error d = ap then_grown (rw d at e)
 
-  pub add_grown : (t : State) (b : AddAnswer) (v w : List ℕ) → a ≡ AddAnswer.Added t
+  pub add_grown : (t : State) (b : Result State Error) (v w : List ℕ) → a ≡ Ok t
       → After.after b v w z ≡ grown t x y z → After.after b v w z ≡ add s first second entries key value
   unfolding add then_grown
   add_grown t b v w d g = g ∙ ap then_grown (rw d at e)

@@ -10,7 +10,7 @@ ghost use Rattle.model.proofs.AddLeaves.{Growable};
 use dict_add::add::add_after_step;
 use dict_suggest_look::suggest::suggest_for;
 use dict_tables::resize::resize;
-use model::{AddAnswer, FORCE_RATIO, ResizeAnswer, State};
+use model::{FORCE_RATIO, Error, State};
 
 // Too many keys for the table: as many as it has buckets, where it may grow, or so many more that it grows all the same.
 fn is_crowded(s: State) -> bool
@@ -36,19 +36,19 @@ fn wanted_size(s: State) -> u32
 }
 
 // The same resize as the call's. It may be refused for want of room in the other buffer, and the add is answered all the same.
-fn grow_to(first: &mut [u32], second: &mut [u32], entries: &[u32], s: State, size: u32) -> AddAnswer
+fn grow_to(first: &mut [u32], second: &mut [u32], entries: &[u32], s: State, size: u32) -> Result<State, Error>
     ensures { after result first.new second.new entries.now
         ≡ calls.grown_by s (calls.resize s first.old second.old entries.now size) }
 {
     let resized = resize(first, second, entries, s, size);
     match resized {
-        ResizeAnswer::Resized(n) => AddAnswer::Added(n),
-        ResizeAnswer::Refused(_) => AddAnswer::Added(s),
+        Ok(n) => Ok(n),
+        Err(_) => Ok(s),
     }
 }
 
 // What follows an add that was answered, and left this state.
-fn grow(first: &mut [u32], second: &mut [u32], entries: &[u32], s: State) -> AddAnswer
+fn grow(first: &mut [u32], second: &mut [u32], entries: &[u32], s: State) -> Result<State, Error>
     requires { Growable s }
     ensures { after result first.new second.new entries.now
         ≡ calls.grown s first.old second.old entries.now }
@@ -57,7 +57,7 @@ fn grow(first: &mut [u32], second: &mut [u32], entries: &[u32], s: State) -> Add
     if s.old_size < size {
         grow_to(first, second, entries, s, size)
     } else {
-        AddAnswer::Added(s)
+        Ok(s)
     }
 }
 
@@ -68,13 +68,13 @@ pub fn add(
     s: State,
     key: u32,
     value: u32,
-) -> AddAnswer
+) -> Result<State, Error>
     ensures { after result first.new second.new entries.new
         ≡ calls.add s first.old second.old entries.old key value }
 {
     let answer = add_after_step(first, second, entries, s, key, value);
     match answer {
-        AddAnswer::Refused(e) => AddAnswer::Refused(e),
-        AddAnswer::Added(n) => grow(first, second, entries, n),
+        Err(e) => Err(e),
+        Ok(n) => grow(first, second, entries, n),
     }
 }

@@ -1,22 +1,21 @@
 // Whether the table may grow by itself (SPECIFICATION, "Permission to grow").
-ghost use Rattle.std.specs.Prelude.{◌≡◌};
+ghost use Rattle.std.specs.Prelude.{◌≡◌, Ok, Err};
 ghost use Rattle.model.specs.declared.Error.TheVariants as why;
-ghost use Rattle.model.specs.declared.StateAnswer.TheVariants as answer;
 ghost use Rattle.model.specs.Calls as calls;
 
 use memory::state::is_sound;
-use model::{Error, State, StateAnswer};
+use model::{Error, State};
 
-fn allow_in(current: &[u32], other: &[u32], entries: &[u32], s: State, allowed: bool) -> StateAnswer
-    ensures { result ≡ calls.checked s entries.now (λ c o. answer.Refused why.BadState)
-        (λ c o. answer.Set (calls.noted s allowed s.safe_iterators)) current.now other.now }
+fn allow_in(current: &[u32], other: &[u32], entries: &[u32], s: State, allowed: bool) -> Result<State, Error>
+    ensures { result ≡ calls.checked s entries.now (λ c o. Err why.BadState)
+        (λ c o. Ok (calls.noted s allowed s.safe_iterators)) current.now other.now }
 {
     if is_sound(current.len(), other.len(), entries.len(), s) {
         let mut n = s;
         n.resize_allowed = allowed;
-        StateAnswer::Set(n)
+        Ok(n)
     } else {
-        StateAnswer::Refused(Error::BadState)
+        Err(Error::BadState)
     }
 }
 
@@ -26,7 +25,7 @@ pub fn allow_resize(
     entries: &[u32],
     s: State,
     allowed: bool,
-) -> StateAnswer
+) -> Result<State, Error>
     ensures { result ≡ calls.allow_resize s first.now second.now entries.now allowed }
 {
     if s.second_is_current {

@@ -9,9 +9,9 @@ use lib.Dec.{ltb, eqb}
 use borrow.Author.Tests.{lt-ltb, ne_eqb}
 use Rattle.model.specs.declared.State.{State}
 use Rattle.model.specs.declared.Error.{Error}
-use Rattle.model.specs.declared.StepAnswer.{StepAnswer}
 use Rattle.model.specs.Calls.{After, step_taken, paused, stepped, step_due}
 use Rattle.model.proofs.StepFirst.{due_facts}
+use Rattle.std.specs.Prelude.{Err}
 
 not_first : (a : Bool) → (a && not true) ≡ false
 not_first true = refl
@@ -45,13 +45,13 @@ module _ (s : State) where
 
   -- during a rehash
   pub stepped_by : (current other entries : List ℕ) → s.rehashing ≡ true → (f : Bool) → paused s ≡ f
-      → cond f (After.after (StepAnswer.Refused Error.Paused) current other entries) (step_taken s current other entries)
+      → cond f (After.after (Err Error.Paused) current other entries) (step_taken s current other entries)
       ≡ stepped s current other entries s.rehashing
   unfolding stepped
   stepped_by current other entries p f e =
       ap
       (λ (g : Bool).
-      cond g (After.after (StepAnswer.Refused Error.Paused) current other entries) (step_taken s current other entries))
+      cond g (After.after (Err Error.Paused) current other entries) (step_taken s current other entries))
       (sym e)
       ∙ ap (stepped s current other entries) (sym p)
 

@@ -14,7 +14,6 @@ use borrow.Author.Tests.{eq-eqb, ne_eqb}
 use Rattle.model.specs.declared.State.{State}
 use Rattle.model.specs.declared.Error.{Error}
 use Rattle.model.specs.declared.Ahead.{Ahead}
-use Rattle.model.specs.declared.StepAnswer.{StepAnswer}
 use Rattle.model.specs.Limits.{legal_size}
 use Rattle.model.specs.Memory.{size_of, used_of, buckets_of, chain, head_at, budget_at, belongs, chain_at, listed}
 use Rattle.model.specs.Calls.{After, Chains, state_of, old_new, retabled, moved, advanced, finished, settled, step_done, moved_chain, moved_from, ahead, ahead_of, step_taken, stepped}
@@ -27,6 +26,7 @@ use Rattle.memory.proofs.Counted.{counted, uncounted}
 use Rattle.dict_rehash.specs.declared.rehash.Progress.{Progress}
 use Rattle.dict_rehash.specs.Progress.{step_answer, step_room, old_chain, OldChain, chains, ChainOf, ChainMoved}
 use Rattle.dict_rehash.proofs.Due.{is_paused, due_of, stepped_by, due_stepped}
+use Rattle.std.specs.Prelude.{Result, Ok, Err}
 
 -- what a sound state says of the two tables during a rehash
 module _ (s : State) (current other entries : ℕ) (h : Sound s current other entries) (e : s.rehashing ≡ true) where
@@ -125,7 +125,7 @@ module _ (s : State) (current other entries : List ℕ) (r o : Ahead) (f : r ≡
   unfolding moved_from step_answer
   next_empty b e = rw (← f, e)
 
-  pub next_filled : (b : ℕ) → r ≡ Ahead.Filled b → (a : After StepAnswer)
+  pub next_filled : (b : ℕ) → r ≡ Ahead.Filled b → (a : After (Result (ℕ × State) Error))
       → a ≡ moved_chain s current other entries b (old_chain s current entries b) → a ≡ moved_from s current other entries o
   unfolding moved_from chain_at head_at budget_at belongs size_of used_of buckets_of
   next_filled b e a h = rw (← f, e) h
@@ -138,7 +138,7 @@ module _ (s : State) (current other entries : List ℕ) where
   unfolding step_taken step_answer
   step_finished z = rw (eq-eqb s.old_used 0 z)
 
-  pub step_moved : (a : After StepAnswer) → (s.old_used ≡ 0 → ⊥) → a ≡ moved_from s current other entries (ahead_of s current)
+  pub step_moved : (a : After (Result (ℕ × State) Error)) → (s.old_used ≡ 0 → ⊥) → a ≡ moved_from s current other entries (ahead_of s current)
       → a ≡ step_taken s current other entries
   unfolding step_taken
   step_moved a z d = rw (ne_eqb s.old_used 0 z) d
@@ -158,7 +158,7 @@ module _ (s : State) (current other entries : List ℕ) where
   unfolding step_answer
   step_paused p i = stepped_by s current other entries p true (is_paused s i)
 
-  pub step_due_lem : (a : After StepAnswer) → s.rehashing ≡ true → s.safe_iterators ≡ 0 → a ≡ step_taken s current other entries
+  pub step_due_lem : (a : After (Result (ℕ × State) Error)) → s.rehashing ≡ true → s.safe_iterators ≡ 0 → a ≡ step_taken s current other entries
       → a ≡ stepped s current other entries s.rehashing
   step_due_lem a p i d = d ∙ due_stepped s (due_of s p i) current other entries
 
@@ -176,15 +176,15 @@ module _ (s : State) (count next : ℕ) where
 
 -- ---- the answer, once it is known what happened
 
-module _ (s : State) (m : Progress) (x y e : List ℕ) (meant : After StepAnswer)
+module _ (s : State) (m : Progress) (x y e : List ℕ) (meant : After (Result (ℕ × State) Error))
     (d : After.after (step_answer s m) x y e ≡ meant) where
   pub answered_refused : (error : Error) → m ≡ Progress.Refused error
-      → After.after (StepAnswer.Refused error) x y e ≡ meant
+      → After.after (Err error) x y e ≡ meant
   unfolding step_answer
   answered_refused error h = rw (← d, h)
 
   pub answered_moved : (count next : ℕ) (t : State) → m ≡ Progress.Moved count next → t ≡ settled (advanced s count next)
-      → After.after (StepAnswer.Stepped count t) x y e ≡ meant
+      → After.after (Ok (count, t)) x y e ≡ meant
   unfolding step_answer step_done
   answered_moved count next t h k = rw (← d, h, k)
 

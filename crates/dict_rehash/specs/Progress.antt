@@ -1,17 +1,17 @@
 -- The answer of a rehash step, from what happened to the buffers.
-use Rattle.std.specs.Prelude.{ℕ, ◌+◌, ◌≤◌, ◌≡◌, List, length}
+use Rattle.std.specs.Prelude.{ℕ, ◌+◌, ◌≤◌, ◌≡◌, List, length, Result, Err}
 use Rattle.std.proofs.Math.Option.{Option, some}
 use Rattle.model.specs.declared.State.{State}
-use Rattle.model.specs.declared.StepAnswer.{StepAnswer}
 use Rattle.model.specs.Keys.{bucket_of}
 use Rattle.model.specs.Memory.{link_of, key_of}
 use Rattle.model.specs.Calls.{Chains, push, moved, step_done}
 use Rattle.model.proofs.Linked.{Linked, room}
 use Rattle.memory.specs.Length.{bucket_chain}
 use Rattle.dict_rehash.specs.declared.rehash.Progress.{Progress}
+use Rattle.model.specs.declared.Error.{Error}
 
-unfoldable pub step_answer : State → Progress → StepAnswer
-step_answer s (Progress.Refused e) = StepAnswer.Refused e
+unfoldable pub step_answer : State → Progress → Result (ℕ × State) Error
+step_answer s (Progress.Refused e) = Err e
 step_answer s (Progress.Moved count next) = step_done s count next
 
 -- the counts that change stay in range

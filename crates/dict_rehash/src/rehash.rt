@@ -1,7 +1,6 @@
 // One step of a rehash (SPECIFICATION, "Step").
-ghost use Rattle.std.specs.Prelude.{◌≡◌, true, ◌+◌, ◌-◌, ◌*◌, ◌≤◌, ◌<◌, length};
+ghost use Rattle.std.specs.Prelude.{◌≡◌, true, ◌+◌, ◌-◌, ◌*◌, ◌≤◌, ◌<◌, length, Err};
 ghost use Rattle.model.specs.declared.Error.TheVariants as why;
-ghost use Rattle.model.specs.declared.StepAnswer.TheVariants as answer;
 ghost use Rattle.model.specs.Limits.{legal_size, empty_visits};
 ghost use Rattle.model.specs.Calls as calls;
 ghost use Rattle.model.specs.Calls.After.{after};
@@ -11,7 +10,7 @@ ghost use Rattle.dict_rehash.specs.Progress.{step_answer, step_room, old_chain, 
 use memory::chain::{ChainLength, chain_length};
 use memory::entry::{key_of, link_of, set_link};
 use memory::state::{bucket_index, is_sound};
-use model::{Ahead, EMPTY_VISITS, Error, State, StepAnswer};
+use model::{EMPTY_VISITS, Ahead, Error, State};
 
 // What happened to the buffers, in numbers: the public call makes the answer of it, and a call that takes a step first its own.
 #[derive(Clone, Copy)]
@@ -160,7 +159,7 @@ fn take_step(current: &mut [u32], other: &mut [u32], entries: &mut [u32], s: Sta
 // On the current and the other bucket buffer: the tests in the order of the answers.
 fn step_in(current: &mut [u32], other: &mut [u32], entries: &mut [u32], s: State) -> Progress
     ensures outcome { after (step_answer s result) current.new other.new entries.new
-        ≡ calls.checked s entries.old (λ c o. after (answer.Refused why.BadState) c o entries.old)
+        ≡ calls.checked s entries.old (λ c o. after (Err why.BadState) c o entries.old)
         (λ c o. calls.stepped s c o entries.old s.rehashing) current.old other.old }
     ensures step_room { step_room s result }
 {
@@ -224,13 +223,13 @@ pub fn rehash_step(
     second: &mut [u32],
     entries: &mut [u32],
     s: State,
-) -> StepAnswer
+) -> Result<(u32, State), Error>
     ensures { after result first.new second.new entries.new
         ≡ calls.rehash_step s first.old second.old entries.old }
 {
     let progress = step_oriented(first, second, entries, s);
     match progress {
-        Progress::Refused(e) => StepAnswer::Refused(e),
-        Progress::Moved(count, next) => StepAnswer::Stepped(count, state_after(s, count, next)),
+        Progress::Refused(e) => Err(e),
+        Progress::Moved(count, next) => Ok((count, state_after(s, count, next))),
     }
 }

@@ -15,7 +15,6 @@ use Rattle.cursor.specs.Group.{Group, one_table, two_tables}
 use Rattle.model.specs.declared.State.{State}
 use Rattle.model.specs.declared.Table.{Table}
 use Rattle.model.specs.declared.Error.{Error}
-use Rattle.model.specs.declared.ScanAnswer.{ScanAnswer}
 use Rattle.model.specs.Keys.{bucket_of, hash}
 use Rattle.model.specs.Memory.{size_of, used_of, buckets_of, keys_held, Place, head_at, budget_at, belongs, chain_at, in_bucket}
 use Rattle.model.specs.Calls.{oriented}
@@ -32,6 +31,8 @@ use Rattle.scan_group.specs.Chains.{cursor_chain, chains, group_chains}
 use Rattle.scan_group.proofs.Chains.{joined_end, chain_short}
 use Rattle.dict_scan.specs.Tables.{Holding, Two}
 use Rattle.dict_scan.specs.Groups.{scanned_two, scanned_both}
+use Rattle.std.specs.Prelude.{Ok, Err}
+use Rattle.model.specs.declared.ScanError.{ScanError}
 
 -- The places of a group, over numbers.
 
@@ -122,24 +123,24 @@ module _ (s : State) (entries list : List ℕ) (cursor : ℕ) where
 
 module _ (s : State) (first second entries list : List ℕ) (cursor : ℕ) where
   pub scan_bad_state : (t : Bool) → t ≡ sound_lent (length first) (length second) (length entries) s → t ≡ false
-      → AfterScan.after (ScanAnswer.Refused Error.BadState) list ≡ walk.scan s first second entries list cursor
+      → AfterScan.after (Err (ScanError.Refused Error.BadState)) list ≡ walk.scan s first second entries list cursor
   unfolding walk.scan
   scan_bad_state t e h = reading_refused s first second entries t e _ _ h
 
   -- the counts decide first
   sound_scan : sound_lent (length first) (length second) (length entries) s ≡ true
-      → cond (eqb (s.old_used + s.new_used) 0) (AfterScan.after (ScanAnswer.Scanned 0 0) list)
+      → cond (eqb (s.old_used + s.new_used) 0) (AfterScan.after (Ok (0, 0)) list)
       (oriented s.second_is_current (scanned_by s entries list cursor s.rehashing) first second)
       ≡ walk.scan s first second entries list cursor
   unfolding walk.scan keys_held scanned_by tables_of
   sound_scan h =
       reading_sound s first second entries true (sym h) _ _ _ refl
       (sym
-      (oriented_map (cond (eqb (s.old_used + s.new_used) 0) (AfterScan.after (ScanAnswer.Scanned 0 0) list)) _ _ first second))
+      (oriented_map (cond (eqb (s.old_used + s.new_used) 0) (AfterScan.after (Ok (0, 0)) list)) _ _ first second))
 
   pub scan_nothing : (t : Bool) → t ≡ sound_lent (length first) (length second) (length entries) s → t ≡ true
       → s.old_used + s.new_used ≡ 0
-      → AfterScan.after (ScanAnswer.Scanned 0 0) list ≡ walk.scan s first second entries list cursor
+      → AfterScan.after (Ok (0, 0)) list ≡ walk.scan s first second entries list cursor
   scan_nothing t e h z = rw (eq-eqb _ 0 z) at (sound_scan (sym e ∙ h))
 
   module _ (rehashing : Bool) (g : Holding (length first) (length second) (length entries) s rehashing) where

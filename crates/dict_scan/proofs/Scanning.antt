@@ -10,7 +10,6 @@ use lib.ListN.{length, get_or}
 use borrow.Author.Tests.{lt-ltb, le-ltb}
 use Rattle.cursor.specs.Next.{next}
 use Rattle.cursor.specs.Group.{one_table}
-use Rattle.model.specs.declared.ScanAnswer.{ScanAnswer}
 use Rattle.model.specs.Keys.{bucket_of}
 use Rattle.model.specs.Limits.{legal_size}
 use Rattle.model.specs.Memory.{chain, in_bucket, listed}
@@ -26,6 +25,7 @@ use Rattle.scan_group.proofs.Chains.{joined_parts, linked_same, all_linked_same}
 use Rattle.scan_group.proofs.HandingOut.{scanned_written, writable}
 use Rattle.dict_scan.specs.Tables.{Both, Two}
 use Rattle.dict_scan.specs.Groups.{scanned_two, scanned_both}
+use Rattle.std.specs.Prelude.{Ok}
 
 -- One live table: the bucket is the cursor's.
 
@@ -67,7 +67,7 @@ module _ (entries larger list : List ℕ) (capacity small_used large_used small 
       → r ≡ length_of (at_most (small_used + large_used) read) → r ≡ ChainLength.Sound n → n * 2 ≤ length list
       → ((c : ℕ) → small ≡ 2 ^ c → turned ≡ next small cursor)
       → list' ≡ written entries list 0 (listed walked)
-      → AfterScan.after (ScanAnswer.Scanned turned n) list'
+      → AfterScan.after (Ok (turned, n)) list'
       ≡ scanned_two entries list capacity head larger small_used large_used small large cursor
   unfolding scanned_two
   two_written n r turned list' g l s h t w =

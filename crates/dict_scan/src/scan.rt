@@ -12,7 +12,7 @@ ghost use Rattle.dict_scan.specs.Groups.{scanned_two, scanned_both};
 use cursor::next_cursor;
 use memory::chain::ChainLength;
 use memory::state::{bucket_index, is_sound_lent};
-use model::{Error, ScanAnswer, State};
+use model::{Error, ScanError, State};
 use scan_group::bucket::bucket_head;
 use scan_group::count::count_group;
 use scan_group::hand_out::hand_out;
@@ -27,7 +27,7 @@ fn scan_one(
     used: u32,
     size: u32,
     cursor: u32,
-) -> ScanAnswer
+) -> Result<(u32, u32), ScanError>
     requires { One entries.now capacity used size }
     ensures { after result list.new
         ≡ walk.scanned entries.now list.old (one_table size cursor).answered
@@ -51,7 +51,7 @@ fn scan_two(
     small: u32,
     large: u32,
     cursor: u32,
-) -> ScanAnswer
+) -> Result<(u32, u32), ScanError>
     requires { Both larger.now entries.now capacity small_used large_used small large }
     ensures { after result list.new
         ≡ scanned_two entries.now list.old capacity head larger.now small_used large_used
@@ -63,13 +63,13 @@ fn scan_two(
         head, larger, entries, capacity, small_used, large_used, keys, small, large, cursor,
     );
     match length {
-        ChainLength::Unsound => ScanAnswer::Refused(Error::Damaged),
+        ChainLength::Unsound => Err(ScanError::Refused(Error::Damaged)),
         ChainLength::Sound(total) => {
             if total as usize * 2 <= list.len() {
                 write_group(head, larger, entries, list, small, large, cursor);
-                ScanAnswer::Scanned(next, total)
+                Ok((next, total))
             } else {
-                ScanAnswer::Short(total)
+                Err(ScanError::Short(total))
             }
         }
     }
@@ -87,7 +87,7 @@ fn scan_rehashing(
     old_size: u32,
     new_size: u32,
     cursor: u32,
-) -> ScanAnswer
+) -> Result<(u32, u32), ScanError>
     requires { Two current.now other.now entries.now capacity old_used new_used old_size new_size }
     ensures { after result list.new
         ≡ scanned_both entries.now list.old capacity current.now other.now
@@ -114,7 +114,7 @@ fn scan_both_tables(
     list: &mut [u32],
     s: State,
     cursor: u32,
-) -> ScanAnswer
+) -> Result<(u32, u32), ScanError>
     requires { Holding (length first.now) (length second.now) (length entries.now) s true }
     ensures { after result list.new
         ≡ walk.scan s first.now second.now entries.now list.old cursor }
@@ -140,7 +140,7 @@ fn scan_only_table(
     list: &mut [u32],
     s: State,
     cursor: u32,
-) -> ScanAnswer
+) -> Result<(u32, u32), ScanError>
     requires { Holding (length first.now) (length second.now) (length entries.now) s false }
     ensures { after result list.new
         ≡ walk.scan s first.now second.now entries.now list.old cursor }
@@ -166,19 +166,19 @@ pub fn scan(
     list: &mut [u32],
     s: State,
     cursor: u32,
-) -> ScanAnswer
+) -> Result<(u32, u32), ScanError>
     ensures { after result list.new
         ≡ walk.scan s first.now second.now entries.now list.old cursor }
 {
     if is_sound_lent(first.len(), second.len(), entries.len(), s) {
         if s.old_used + s.new_used == 0 {
-            ScanAnswer::Scanned(0, 0)
+            Ok((0, 0))
         } else if s.rehashing {
             scan_both_tables(first, second, entries, list, s, cursor)
         } else {
             scan_only_table(first, second, entries, list, s, cursor)
         }
     } else {
-        ScanAnswer::Refused(Error::BadState)
+        Err(ScanError::Refused(Error::BadState))
     }
 }

@@ -1,14 +1,13 @@
 // The size that a resize should take (SPECIFICATION, "Suggested size").
-ghost use Rattle.std.specs.Prelude.{◌≡◌};
+ghost use Rattle.std.specs.Prelude.{◌≡◌, Ok, Err};
 ghost use Rattle.model.specs.declared.Error.TheVariants as why;
-ghost use Rattle.model.specs.declared.SizeAnswer.TheVariants as answer;
 ghost use Rattle.model.specs.Limits.{largest_exponent};
 ghost use Rattle.model.specs.Memory.{keys_held};
 ghost use Rattle.model.specs.Calls as calls;
 ghost use Rattle.model.proofs.Soundness.{Counted};
 
 use memory::state::is_sound;
-use model::{Error, LARGEST_SIZE, LEAST_SUGGESTION, SizeAnswer, State};
+use model::{LARGEST_SIZE, LEAST_SUGGESTION, Error, State};
 
 // The smallest power of two that is not below n, and never above the largest size.
 fn power_for(n: u32) -> u32
@@ -51,14 +50,14 @@ fn suggest_in(
     entries: &[u32],
     s: State,
     growing: bool,
-) -> SizeAnswer
-    ensures { result ≡ calls.checked s entries.now (λ c o. answer.Refused why.BadState)
-        (λ c o. answer.Suggested (calls.suggested growing (keys_held s))) current.now other.now }
+) -> Result<u32, Error>
+    ensures { result ≡ calls.checked s entries.now (λ c o. Err why.BadState)
+        (λ c o. Ok (calls.suggested growing (keys_held s))) current.now other.now }
 {
     if is_sound(current.len(), other.len(), entries.len(), s) {
-        SizeAnswer::Suggested(suggest_for(s, growing))
+        Ok(suggest_for(s, growing))
     } else {
-        SizeAnswer::Refused(Error::BadState)
+        Err(Error::BadState)
     }
 }
 
@@ -68,7 +67,7 @@ pub fn suggested_size(
     entries: &[u32],
     s: State,
     growing: bool,
-) -> SizeAnswer
+) -> Result<u32, Error>
     ensures { result ≡ calls.suggested_size s first.now second.now entries.now growing }
 {
     if s.second_is_current {

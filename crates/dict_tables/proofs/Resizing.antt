@@ -8,11 +8,11 @@ use lib.ListN.{length}
 use lib.Dec.{leb, eqb}
 use Rattle.model.specs.declared.State.{State}
 use Rattle.model.specs.declared.Error.{Error}
-use Rattle.model.specs.declared.ResizeAnswer.{ResizeAnswer}
 use Rattle.model.specs.Limits.{legal_size}
 use Rattle.model.specs.Calls.{After, cleared, acceptable, resized}
 use Rattle.dict_tables.specs.declared.resize.Begin.{Begin}
 use Rattle.dict_tables.specs.Begin.{begin_answer}
+use Rattle.std.specs.Prelude.{Result}
 
 -- each way out is a case of the definition
 module _ (s : State) (current other entries : List ℕ) (size : ℕ) where
@@ -37,6 +37,6 @@ module _ (s : State) (current other entries : List ℕ) (size : ℕ) where
     begin_begun other' t o = rw (f, o, ← l, t)
 
 -- the answer with the state, once it is known what happened to the buffers
-pub answered : (s : State) (size : ℕ) (r p : Begin) (a : ResizeAnswer) (x y z : List ℕ) (meant : After ResizeAnswer)
+pub answered : (s : State) (size : ℕ) (r p : Begin) (a : Result State Error) (x y z : List ℕ) (meant : After (Result State Error))
     → After.after (begin_answer s size r) x y z ≡ meant → r ≡ p → a ≡ begin_answer s size p → After.after a x y z ≡ meant
 answered s size r p a x y z meant d h k = rw (k, ← h) d

@@ -6,7 +6,7 @@ ghost use Rattle.model.specs.Calls.After.{after};
 use crate::clear::clear;
 use memory::entry::set_entry;
 use memory::state::is_legal_size;
-use model::{Error, InitAnswer, LARGEST_CAPACITY, State};
+use model::{LARGEST_CAPACITY, Error, State, Unstarted};
 
 // Entries 1 to the capacity as the free list, each linked to the next, keys and values 0. From the last one down, so
 // that the link to write is the entry written before.
@@ -57,7 +57,7 @@ pub fn init(
     entries: &mut [u32],
     capacity: u32,
     size: u32,
-) -> InitAnswer
+) -> Result<State, Unstarted>
     ensures { after result first.new second.new entries.new
         ≡ calls.init first.old second.old entries.old capacity size }
 {
@@ -67,11 +67,11 @@ pub fn init(
         if long_enough {
             clear(first, size);
             link_free(entries, capacity);
-            InitAnswer::Ready(empty_state(size, 1, capacity))
+            Ok(empty_state(size, 1, capacity))
         } else {
-            InitAnswer::Refused(Error::BadState, no_state())
+            Err(Unstarted { error: Error::BadState, state: no_state() })
         }
     } else {
-        InitAnswer::Refused(Error::BadSize, no_state())
+        Err(Unstarted { error: Error::BadSize, state: no_state() })
     }
 }

@@ -1,14 +1,13 @@
 // Begin a rehash into a table of another size (SPECIFICATION, "Resize").
-ghost use Rattle.std.specs.Prelude.{◌≡◌};
+ghost use Rattle.std.specs.Prelude.{◌≡◌, Err};
 ghost use Rattle.model.specs.declared.Error.TheVariants as why;
-ghost use Rattle.model.specs.declared.ResizeAnswer.TheVariants as answer;
 ghost use Rattle.model.specs.Calls as calls;
 ghost use Rattle.model.specs.Calls.After.{after};
 ghost use Rattle.dict_tables.specs.Begin.{begin_answer};
 
 use crate::clear::clear;
 use memory::state::{is_legal_size, is_sound};
-use model::{Error, ResizeAnswer, State};
+use model::{Error, State};
 
 // Whether a rehash began, in the other buffer.
 #[derive(Clone, Copy)]
@@ -20,7 +19,7 @@ enum Begin {
 // On the current and the other bucket buffer: the tests in the order of the answers.
 fn begin_in(current: &[u32], other: &mut [u32], entries: &[u32], s: State, size: u32) -> Begin
     ensures { after (begin_answer s size result) current.now other.new entries.now
-        ≡ calls.checked s entries.now (λ c o. after (answer.Refused why.BadState) c o entries.now)
+        ≡ calls.checked s entries.now (λ c o. after (Err why.BadState) c o entries.now)
         (λ c o. calls.resized s c o entries.now size s.rehashing) current.now other.old }
 {
     if is_sound(current.len(), other.len(), entries.len(), s) {
@@ -64,20 +63,20 @@ pub fn resize(
     entries: &[u32],
     s: State,
     size: u32,
-) -> ResizeAnswer
+) -> Result<State, Error>
     ensures { after result first.new second.new entries.now
         ≡ calls.resize s first.old second.old entries.now size }
 {
     let begun = begin_oriented(first, second, entries, s, size);
     match begun {
-        Begin::Refused(e) => ResizeAnswer::Refused(e),
+        Begin::Refused(e) => Err(e),
         Begin::Begun => {
             let mut n = s;
             n.new_size = size;
             n.new_used = 0;
             n.rehashing = true;
             n.rehash_index = 0;
-            ResizeAnswer::Resized(n)
+            Ok(n)
         }
     }
 }

@@ -11,8 +11,6 @@ use Rattle.model.specs.declared.State.{State}
 use Rattle.model.specs.declared.Table.{Table}
 use Rattle.model.specs.declared.Error.{Error}
 use Rattle.model.specs.declared.Lookup.{Lookup}
-use Rattle.model.specs.declared.AddAnswer.{AddAnswer}
-use Rattle.model.specs.declared.StepAnswer.{StepAnswer}
 use Rattle.model.specs.Keys.{bucket_of}
 use Rattle.model.specs.Memory.{link_of, set_entry, size_of, buckets_of, keys_held, sound_state}
 use Rattle.model.specs.Calls.{After, sound, oriented, back, writing, changed, state_of, old_new, retabled, pushed, target, takeable, add_alone, advanced, finished, settled, step_done, step_taken, stepped, rehash_step, step_due, is_added, add_after_step}
@@ -35,6 +33,7 @@ use Rattle.during_rehash.specs.declared.moving.Taken.{Taken}
 use Rattle.during_rehash.specs.Moving.{first_of, second_of, add_moving, moved_state, taken_answer, taken_room, Comes, Plan, Room, Takes}
 use Rattle.during_rehash.proofs.Taking.{taken}
 use Rattle.during_rehash.proofs.Answering.{add_answer, alone_answer, told_damaged, told_held, absent_full, absent_bad, none_free, bad_link, good_link, pushed_lent, alone_pushes}
+use Rattle.std.specs.Prelude.{Result, Ok, Err}
 
 -- ---- the current and the other buffer, and the lent ones
 
@@ -90,14 +89,14 @@ module _ (s : State) (current other entries : List ℕ) where
     unfolding rehash_step
     lent_step d =
         ap (back s.second_is_current) (due_stepped s d current other entries)
-        ∙ lent_writing (StepAnswer.Refused Error.BadState) (λ c o. stepped s c o entries s.rehashing)
+        ∙ lent_writing (Err Error.BadState) (λ c o. stepped s c o entries s.rehashing)
 
     lent_entries : step_due s ≡ true
         → entries_after (rehash_step s first second entries) ≡ entries_after (step_taken s current other entries)
     unfolding entries_after back
     lent_entries d = ap entries_after (sym (lent_step d)) ∙ pick s.second_is_current (step_taken s current other entries)
       where
-        pick : (f : Bool) (a : After StepAnswer) → entries_after (back f a) ≡ entries_after a
+        pick : (f : Bool) (a : After (Result (ℕ × State) Error)) → entries_after (back f a) ≡ entries_after a
         pick false a = refl
         pick true (After.after a x y z) = refl
 
@@ -114,17 +113,17 @@ module _ (s : State) (current other entries : List ℕ) (key value : ℕ) where
       → v ≡ presence_then key s.second_is_current (step_taken s current other entries) → (error : Error)
       → (v ≡ Presence.Damaged → error ≡ Error.Damaged)
       → ((t : State) (z : List ℕ) (l : Lookup) → Follows s t → z ≡ entries_after (step_taken s current other entries) → v ≡ presence l
-      → add_answer t z l ≡ AddAnswer.Refused error)
+      → add_answer t z l ≡ Err error)
       → Comes s current other entries key value (Taken.Refused error) current other entries
   unfolding taken_answer taken_room add_moving add_after_step is_added presence_then
   refuses_with h e v k error damaged each =
       record {
         same =
-            lent_back s.second_is_current (AddAnswer.Refused error) current other entries
+            lent_back s.second_is_current (Err error) current other entries
             ∙ ap (back s.second_is_current)
-            (first_refused AddAnswer.Refused is_added (λ t x y z. add_alone t x y z key value) s (first s current other entries)
-            (second s current other entries) entries e key v (AddAnswer.Refused error) (lent s current other entries h)
-            (k ∙ ap (presence_after key) (lent_step s current other entries h e)) (λ d. ap AddAnswer.Refused (damaged d)) refl
+            (first_refused Err is_added (λ t x y z. add_alone t x y z key value) s (first s current other entries)
+            (second s current other entries) entries e key v (Err error) (lent s current other entries h)
+            (k ∙ ap (presence_after key) (lent_step s current other entries h e)) (λ d. ap Err (damaged d)) refl
             (λ t x y z p o q w.
             alone_answer t x y z key value p ∙ each t z (lookup_lent t x y z key) o (q ∙ lent_entries s current other entries h e) w));
         room = tt;
@@ -146,7 +145,7 @@ module _ (s : State) (current other entries : List ℕ) (key value : ℕ) where
     -- for what the step keeps, or for the link that it leaves
     refuses : (error : Error)
         → ((t : State) → Follows s t
-        → add_answer t (entries_after (step_taken s current other entries)) Lookup.Absent ≡ AddAnswer.Refused error)
+        → add_answer t (entries_after (step_taken s current other entries)) Lookup.Absent ≡ Err error)
         → Comes s current other entries key value (Taken.Refused error) current other entries
     refuses error each =
         refuses_with k.sound k.due Presence.Absent k.absent error
@@ -189,21 +188,21 @@ settled_targets s count next = by (eqb (advanced s count next).old_used 0)
 
 module _ (t : State) (c o z : List ℕ) (key value : ℕ) where
   -- with the first free entry at the head of the key's bucket there, in a table of that size
-  abbrev with_entry : ℕ → After AddAnswer
+  abbrev with_entry : ℕ → After (Result State Error)
   with_entry size =
-      After.after (AddAnswer.Added (one_more t (target t.rehashing) (link_of z t.free_head))) c
+      After.after (Ok (one_more t (target t.rehashing) (link_of z t.free_head))) c
       (set o (bucket_of key size) t.free_head)
       (set_entry z t.free_head (get_or o (bucket_of key size) 0) key value)
 
   -- what its table's push leaves, by the flag then
-  lent_push : Bool → List ℕ → List ℕ → After AddAnswer
+  lent_push : Bool → List ℕ → List ℕ → After (Result State Error)
   lent_push g x y = back g (oriented g (λ c o. pushed t c o z key value (target t.rehashing)) x y)
 
   pushed_on : (f : Bool) → t.rehashing ≡ true
       → with_entry t.new_size ≡ back f (lent_push f (first_of f c o) (second_of f c o))
   unfolding lent_push oriented back changed buckets_of target size_of
   pushed_on false r = taken t c o z key value Table.New (ap target r)
-  pushed_on true r = ap (λ (m : After AddAnswer). back true (back true m)) (taken t c o z key value Table.New (ap target r))
+  pushed_on true r = ap (λ (m : After (Result State Error)). back true (back true m)) (taken t c o z key value Table.New (ap target r))
 
   pushed_over : (f : Bool) → t.rehashing ≡ false
       → with_entry t.old_size ≡ back f (lent_push (not f) (first_of f c o) (second_of f c o))
@@ -225,7 +224,7 @@ module _ (t : State) (c o z : List ℕ) (key value : ℕ) where
 
   -- as the code has it
   pushed_with : (f : Bool) (size n link : ℕ) → Targets f size t → n ≡ t.free_head → link ≡ link_of z t.free_head
-      → After.after (AddAnswer.Added (one_more t (target t.rehashing) link)) c (set o (bucket_of key size) n)
+      → After.after (Ok (one_more t (target t.rehashing) link)) c (set o (bucket_of key size) n)
       (set_entry z n (get_or o (bucket_of key size) 0) key value)
       ≡ back f (pushed_lent t (first_of f c o) (second_of f c o) z key value)
   pushed_with f size n link h ne le = rw (ne, le) (pushed_other f size h)
@@ -305,7 +304,7 @@ module _ (s : State) (current other entries : List ℕ) (key value link : ℕ) (
     abbrev t : State
     t = settled (advanced s count next)
 
-    answered : step_answer s r ≡ StepAnswer.Stepped count t
+    answered : step_answer s r ≡ Ok (count, t)
     unfolding step_answer step_done
     answered = rw d
 
@@ -336,7 +335,7 @@ module _ (s : State) (current other entries : List ℕ) (key value link : ℕ) (
     unfolding taken_answer taken_room add_moving moved_state add_after_step is_added
     add_taken fits b w be we =
         let f = s.second_is_current in
-        let a = AddAnswer.Added (moved_state s count next link) in
+        let a = Ok (moved_state s count next link) in
         let here : After.after a c b w ≡ back f (pushed_lent t x y z key value) =
         rw (be, we)
         (pushed_with t c o z key value f s.new_size s.free_head link (settled_targets s count next) (sym world.follows.free) link_then) in
@@ -345,7 +344,7 @@ module _ (s : State) (current other entries : List ℕ) (key value link : ℕ) (
           same =
               lent_back f a c b w
               ∙ ap (back f)
-              (first_done AddAnswer.Refused is_added (λ t x y z. add_alone t x y z key value) s (first s current other entries)
+              (first_done Err is_added (λ t x y z. add_alone t x y z key value) s (first s current other entries)
               (second s current other entries) entries plan.due count t x y z a (first_of f c b) (second_of f c b) w world.step
               (there ∙ alone) refl);
           room = (moved_old s r count next d fits, moved_new s r count next d fits);

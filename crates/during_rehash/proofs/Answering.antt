@@ -12,7 +12,6 @@ use Rattle.model.specs.declared.State.{State}
 use Rattle.model.specs.declared.Table.{Table}
 use Rattle.model.specs.declared.Error.{Error}
 use Rattle.model.specs.declared.Lookup.{Lookup}
-use Rattle.model.specs.declared.AddAnswer.{AddAnswer}
 use Rattle.model.specs.Memory.{link_of, keys_held}
 use Rattle.model.specs.Calls.{After, oriented, back, changed, lookup, pushed, takeable, target, added, add_alone}
 use Rattle.memory.specs.Lent.{sound_lent}
@@ -22,16 +21,17 @@ use Rattle.after_step.specs.declared.presence.Presence.{Presence}
 use Rattle.after_step.specs.Presence.{presence}
 use Rattle.after_step.proofs.StepFirst.{answer_of, answer_by, is_damaged, is_held}
 use Rattle.during_rehash.specs.Counts.{one_more}
+use Rattle.std.specs.Prelude.{Result, Ok, Err}
 
 -- What an add alone answers, by what the lookup finds.
 
-pub add_answer : State → List ℕ → Lookup → AddAnswer
-add_answer s entries Lookup.Damaged = AddAnswer.Refused Error.Damaged
-add_answer s entries (Lookup.At t before n) = AddAnswer.Refused Error.Present
+pub add_answer : State → List ℕ → Lookup → Result State Error
+add_answer s entries Lookup.Damaged = Err Error.Damaged
+add_answer s entries (Lookup.At t before n) = Err Error.Present
 add_answer s entries Lookup.Absent =
-    cond (eqb (keys_held s) s.capacity) (AddAnswer.Refused Error.Full)
-    (cond (takeable s entries) (AddAnswer.Added (one_more s (target s.rehashing) (link_of entries s.free_head)))
-    (AddAnswer.Refused Error.Damaged))
+    cond (eqb (keys_held s) s.capacity) (Err Error.Full)
+    (cond (takeable s entries) (Ok (one_more s (target s.rehashing) (link_of entries s.free_head)))
+    (Err Error.Damaged))
 
 answer_cond : {A : Type 0} (f : Bool) (x y : After A) → answer_of (cond f x y) ≡ cond f (answer_of x) (answer_of y)
 answer_cond true x y = refl
@@ -53,30 +53,30 @@ module _ (s : State) (x y z : List ℕ) (key value : ℕ) where
       → answer_of (add_alone s x y z key value) ≡ add_answer s z (lookup_lent s x y z key)
   unfolding add_alone
   alone_answer h =
-      answer_by s x y z key (AddAnswer.Refused Error.BadState) (λ c o l. added s c o z key value l) (add_answer s z) answered h
+      answer_by s x y z key (Err Error.BadState) (λ c o l. added s c o z key value l) (add_answer s z) answered h
 
 -- what was told of the key says as much
 
 pub told_damaged : (s : State) (z : List ℕ) (l : Lookup) → Presence.Damaged ≡ presence l
-    → add_answer s z l ≡ AddAnswer.Refused Error.Damaged
+    → add_answer s z l ≡ Err Error.Damaged
 unfolding add_answer
 told_damaged s z l e = ap (add_answer s z) (is_damaged l e)
 
 pub told_held : (s : State) (z : List ℕ) (l : Lookup) → Presence.Held ≡ presence l
-    → add_answer s z l ≡ AddAnswer.Refused Error.Present
+    → add_answer s z l ≡ Err Error.Present
 unfolding add_answer
 told_held s z l e = ap (add_answer s z) (is_held l e).3
 
 -- The key is absent.
 
 module _ (s : State) (z : List ℕ) where
-  pub absent_full : keys_held s ≡ s.capacity → add_answer s z Lookup.Absent ≡ AddAnswer.Refused Error.Full
+  pub absent_full : keys_held s ≡ s.capacity → add_answer s z Lookup.Absent ≡ Err Error.Full
   unfolding add_answer
   absent_full e = rw (eq-eqb (keys_held s) s.capacity e)
 
   -- there is no first free entry, or its link is out of range
   pub absent_bad : (keys_held s ≡ s.capacity → ⊥) → takeable s z ≡ false
-      → add_answer s z Lookup.Absent ≡ AddAnswer.Refused Error.Damaged
+      → add_answer s z Lookup.Absent ≡ Err Error.Damaged
   unfolding add_answer
   absent_bad room e = rw (ne_eqb (keys_held s) s.capacity room, e)
 
@@ -99,7 +99,7 @@ module _ (s : State) (z : List ℕ) where
       rw (ne_eqb s.free_head 0 some, le-leb (link_of z s.free_head) s.capacity l)
 
 -- The first free entry in the table that keys are added to, on the lent buffers.
-unfoldable pub pushed_lent : State → List ℕ → List ℕ → List ℕ → ℕ → ℕ → After AddAnswer
+unfoldable pub pushed_lent : State → List ℕ → List ℕ → List ℕ → ℕ → ℕ → After (Result State Error)
 pushed_lent s x y z key value =
     back s.second_is_current
     (oriented s.second_is_current (λ c o. pushed s c o z key value (target s.rehashing)) x y)
@@ -115,7 +115,7 @@ module _ (s : State) (x y z : List ℕ) (key value : ℕ) (h : sound_lent (lengt
   pub alone_pushes : pushed_lent s x y z key value ≡ add_alone s x y z key value
   unfolding add_alone pushed_lent lookup_lent oriented back
   alone_pushes =
-      writing_sound s x y z true (sym h) (AddAnswer.Refused Error.BadState) (λ c o. added s c o z key value (lookup s c o z key))
+      writing_sound s x y z true (sym h) (Err Error.BadState) (λ c o. added s c o z key value (lookup s c o z key))
       (pushed_lent s x y z key value) refl (pick s.second_is_current l)
     where
       pick : (f : Bool) → oriented f (λ c o. lookup s c o z key) x y ≡ Lookup.Absent

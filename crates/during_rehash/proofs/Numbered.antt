@@ -9,7 +9,6 @@ use native.Mathlib.Omega.{arith}
 use lib.ListN.{length}
 use Rattle.model.specs.declared.State.{State}
 use Rattle.model.specs.declared.Error.{Error}
-use Rattle.model.specs.declared.AddAnswer.{AddAnswer}
 use Rattle.model.specs.Calls.{After, back, lookup, added, add_alone, is_added, add_after_step}
 use Rattle.model.proofs.Soundness.{Sound}
 use Rattle.memory.specs.Lent.{sound_lent}
@@ -23,6 +22,7 @@ use Rattle.during_rehash.specs.Moving.{add_moving, taken_answer, taken_room, Com
 use Rattle.during_rehash.specs.Push.{push_answer, taken_of}
 use Rattle.during_rehash.specs.During.{moving}
 use Rattle.during_rehash.proofs.AddingAfter.{twice_back, first, second, lent_writing}
+use Rattle.std.specs.Prelude.{Err}
 
 -- Safe iterators hold up the step.
 
@@ -36,9 +36,9 @@ module _ (s : State) (current other entries : List ℕ) (key value : ℕ) where
       let m = added s current other entries key value (lookup s current other entries key) in
       sym (twice_back f m)
       ∙ ap (back f)
-      (first_alone AddAnswer.Refused is_added (λ t x y z. add_alone t x y z key value) s (first s current other entries)
+      (first_alone Err is_added (λ t x y z. add_alone t x y z key value) s (first s current other entries)
       (second s current other entries) entries (back f m) (none_due_paused s i)
-      (lent_writing s current other entries h (AddAnswer.Refused Error.BadState)
+      (lent_writing s current other entries h (Err Error.BadState)
       (λ c o. added s c o entries key value (lookup s c o entries key))))
 
   -- what it answers in the words of an add during a rehash

@@ -8,7 +8,6 @@ use native.Mathlib.Omega.{arith}
 use lib.ListN.{length}
 use Rattle.model.specs.declared.State.{State}
 use Rattle.model.specs.declared.Error.{Error}
-use Rattle.model.specs.declared.StepAnswer.{StepAnswer}
 use Rattle.model.specs.Calls.{After, step_done, moved_chain, step_taken, step_due}
 use Rattle.model.proofs.Soundness.{Sound}
 use Rattle.dict_rehash.specs.declared.rehash.Progress.{Progress}
@@ -23,9 +22,10 @@ use Rattle.during_rehash.specs.declared.moving.Taken.{Taken}
 use Rattle.during_rehash.specs.declared.moving.Purpose.{Purpose}
 use Rattle.during_rehash.specs.Moving.{RefusedFor, Stopped, Prepared, PreparedIn, Meets, Held}
 use Rattle.during_rehash.proofs.AddingAfter.{add_damaged}
+use Rattle.std.specs.Prelude.{Result}
 
 module _ (s : State) (current other entries : List ℕ) (key : ℕ) where
-  abbrev step : After StepAnswer
+  abbrev step : After (Result (ℕ × State) Error)
   step = step_taken s current other entries
 
   stopped : (v : Presence) → v ≡ presence_then key s.second_is_current step → (error : Error) → RefusedFor v error

@@ -7,7 +7,6 @@ use mathlib.Core.List.{List}
 use Rattle.model.specs.declared.State.{State}
 use Rattle.model.specs.declared.Table.{Table}
 use Rattle.model.specs.declared.Lookup.{Lookup}
-use Rattle.model.specs.declared.AddAnswer.{AddAnswer}
 use Rattle.model.specs.Memory.{size_of, buckets_of, keys_held}
 use Rattle.model.specs.Calls.{After, changed, both, lookup, takeable, target, added}
 use Rattle.search.specs.declared.found.Found.{Found}
@@ -17,13 +16,15 @@ use Rattle.search.proofs.Lookups.{lookup_rehashing}
 use Rattle.during_rehash.specs.declared.push.Push.{Push}
 use Rattle.during_rehash.specs.Push.{Left, push_free, push_found, push_answer}
 use Rattle.during_rehash.proofs.Taking.{taken}
+use Rattle.std.specs.Prelude.{Result}
+use Rattle.model.specs.declared.Error.{Error}
 
-unfoldable pub after_left : State → List ℕ → List ℕ → Table → Left → After AddAnswer
+unfoldable pub after_left : State → List ℕ → List ℕ → Table → Left → After (Result State Error)
 after_left s current other t (Left.left r b e) = changed t (push_answer s r) current other b e
 
 module _ (s : State) (current other entries : List ℕ) (key value : ℕ) (t : Table) (e : target s.rehashing ≡ t) where
   -- a refusal changes nothing
-  kept : (u : Table) (a : AddAnswer)
+  kept : (u : Table) (a : Result State Error)
       → changed u a current other (buckets_of current other u) entries ≡ After.after a current other entries
   unfolding changed buckets_of
   kept Table.Old a = refl

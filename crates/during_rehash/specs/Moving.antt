@@ -1,10 +1,8 @@
 -- Add and delete during a rehash, as the functions below the public calls promise them: on the current and the other bucket
 -- buffer. And what is known where a step and the call behind it are answered.
-use Rattle.std.specs.Prelude.{ℕ, ◌+◌, ◌≤◌, ◌<◌, ◌≡◌, Bool, true, cond, List, length, eqb}
+use Rattle.std.specs.Prelude.{ℕ, ◌+◌, ◌≤◌, ◌<◌, ◌≡◌, Bool, true, cond, List, length, eqb, Result, Ok, Err}
 use Rattle.model.specs.declared.State.{State}
 use Rattle.model.specs.declared.Error.{Error}
-use Rattle.model.specs.declared.AddAnswer.{AddAnswer}
-use Rattle.model.specs.declared.StepAnswer.{StepAnswer}
 use Rattle.model.specs.Memory.{link_of}
 use Rattle.model.specs.Calls.{After, oriented, back, target, advanced, settled, moved_chain, step_taken, step_due, add_after_step}
 use Rattle.model.proofs.Soundness.{Sound}
@@ -27,7 +25,7 @@ first_of second current other = oriented second (λ x y. x) current other
 abbrev pub second_of : Bool → List ℕ → List ℕ → List ℕ
 second_of second current other = oriented second (λ x y. y) current other
 
-unfoldable pub add_moving : State → List ℕ → List ℕ → List ℕ → ℕ → ℕ → After AddAnswer
+unfoldable pub add_moving : State → List ℕ → List ℕ → List ℕ → ℕ → ℕ → After (Result State Error)
 add_moving s current other entries key value =
     back s.second_is_current
     (add_after_step s (first_of s.second_is_current current other) (second_of s.second_is_current current other) entries key value)
@@ -39,10 +37,10 @@ moved_state s count next link =
     one_more t (target t.rehashing) link
 
 -- the answer, from what happened to the buffers
-unfoldable pub taken_answer : State → Taken → AddAnswer
-taken_answer s (Taken.Refused e) = AddAnswer.Refused e
-taken_answer s (Taken.Pushed free) = AddAnswer.Added (one_more s (target s.rehashing) free)
-taken_answer s (Taken.Stepped count next free) = AddAnswer.Added (moved_state s count next free)
+unfoldable pub taken_answer : State → Taken → Result State Error
+taken_answer s (Taken.Refused e) = Err e
+taken_answer s (Taken.Pushed free) = Ok (one_more s (target s.rehashing) free)
+taken_answer s (Taken.Stepped count next free) = Ok (moved_state s count next free)
 
 -- the counts that change stay in range
 unfoldable pub taken_room : State → Taken → Type 0
@@ -70,12 +68,12 @@ pub record Stopped (v : Presence) (first second entries : List ℕ) (error : Err
   pub entries_same : z ≡ entries
 
 -- .. or the key is held then, and the step is taken
-pub record Ready (s : State) (v : Presence) (a : After StepAnswer) (count next : ℕ) (x y z : List ℕ) : Type 0 where
+pub record Ready (s : State) (v : Presence) (a : After (Result (ℕ × State) Error)) (count next : ℕ) (x y z : List ℕ) : Type 0 where
   pub told : Presence.Held ≡ v
   pub step : After.after (step_answer s (Progress.Moved count next)) x y z ≡ a
   pub room : step_room s (Progress.Moved count next)
 
-unfoldable pub Prepared : State → Presence → After StepAnswer → (first second entries : List ℕ) → Taken → (x y z : List ℕ) → Type 0
+unfoldable pub Prepared : State → Presence → After (Result (ℕ × State) Error) → (first second entries : List ℕ) → Taken → (x y z : List ℕ) → Type 0
 Prepared s v a first second entries (Taken.Refused error) x y z = Stopped v first second entries error x y z
 Prepared s v a first second entries (Taken.Pushed free) x y z = ⊥
 Prepared s v a first second entries (Taken.Stepped count next free) x y z = Ready s v a count next x y z

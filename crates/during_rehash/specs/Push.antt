@@ -1,9 +1,8 @@
 -- What the functions below add hand up where no step comes first, and what they promise, in numbers: those that push know
 -- one table and no state. Add makes its answer of it.
-use Rattle.std.specs.Prelude.{ℕ, ◌&&◌, not, cond, List, get_or, set, leb, eqb}
+use Rattle.std.specs.Prelude.{ℕ, ◌&&◌, not, cond, List, get_or, set, leb, eqb, Result, Ok, Err}
 use Rattle.model.specs.declared.State.{State}
 use Rattle.model.specs.declared.Error.{Error}
-use Rattle.model.specs.declared.AddAnswer.{AddAnswer}
 use Rattle.model.specs.Keys.{bucket_of}
 use Rattle.model.specs.Memory.{link_of, set_entry}
 use Rattle.model.specs.Calls.{target}
@@ -32,9 +31,9 @@ push_found buckets entries absent Found.Damaged = Left.left (Push.Refused Error.
 push_found buckets entries absent Found.Absent = absent
 push_found buckets entries absent (Found.At n) = Left.left (Push.Refused Error.Present) buckets entries
 
-unfoldable pub push_answer : State → Push → AddAnswer
-push_answer s (Push.Refused e) = AddAnswer.Refused e
-push_answer s (Push.Done free) = AddAnswer.Added (one_more s (target s.rehashing) free)
+unfoldable pub push_answer : State → Push → Result State Error
+push_answer s (Push.Refused e) = Err e
+push_answer s (Push.Done free) = Ok (one_more s (target s.rehashing) free)
 
 -- the same in the words of an add during a rehash
 unfoldable pub taken_of : Push → Taken

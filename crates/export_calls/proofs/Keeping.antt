@@ -4,11 +4,6 @@ use Prim.Native.Nat.{ℕ}
 use mathlib.Core.Path.{◌≡◌, refl}
 use mathlib.Core.List.{List, []}
 use Rattle.model.specs.declared.State.{State}
-use Rattle.model.specs.declared.FindAnswer.{FindAnswer}
-use Rattle.model.specs.declared.SizeAnswer.{SizeAnswer}
-use Rattle.model.specs.declared.BeginAnswer.{BeginAnswer}
-use Rattle.model.specs.declared.EndAnswer.{EndAnswer}
-use Rattle.model.specs.declared.ScanAnswer.{ScanAnswer}
 use Rattle.model.specs.Answers.{Reply, reply, find_reply, size_reply, begin_reply, end_reply, scan_reply}
 use Rattle.model.specs.Walk.{AfterScan}
 use Rattle.model.specs.Walk as walk
@@ -18,6 +13,9 @@ use Rattle.model.specs.Sequences.{World, Outcome, kept, kept_scan, given, perfor
 use Rattle.export_calls.specs.declared.calls.Read.{Read}
 use Rattle.export_calls.specs.declared.calls.Listing.{Listing}
 use Rattle.export_calls.specs.Kinds.{read_call, list_call}
+use Rattle.std.specs.Prelude.{Result, Ok, Err}
+use Rattle.model.specs.declared.Error.{Error}
+use Rattle.model.specs.declared.ScanError.{ScanError}
 
 pub record Keeps (w : World) (o : Outcome) : Type 0 where
   pub state : o.reply.state ≡ w.state
@@ -30,31 +28,31 @@ module _ (w : World) where
   unfolding kept
   kept_keeps r lent e = record { state = e; first = refl; second = refl; entries = refl }
 
-  find_state : (a : FindAnswer) → (find_reply w.state a).state ≡ w.state
+  find_state : (a : Result ℕ Error) → (find_reply w.state a).state ≡ w.state
   unfolding find_reply reply
-  find_state (FindAnswer.Found value) = refl
-  find_state (FindAnswer.Refused e) = refl
+  find_state (Ok value) = refl
+  find_state (Err e) = refl
 
-  size_state : (a : SizeAnswer) → (size_reply w.state a).state ≡ w.state
+  size_state : (a : Result ℕ Error) → (size_reply w.state a).state ≡ w.state
   unfolding size_reply reply
-  size_state (SizeAnswer.Suggested size) = refl
-  size_state (SizeAnswer.Refused e) = refl
+  size_state (Ok size) = refl
+  size_state (Err e) = refl
 
-  begin_state : (a : BeginAnswer) → (begin_reply w.state a).state ≡ w.state
+  begin_state : (a : Result ℕ Error) → (begin_reply w.state a).state ≡ w.state
   unfolding begin_reply reply
-  begin_state (BeginAnswer.Begun fingerprint) = refl
-  begin_state (BeginAnswer.Refused e) = refl
+  begin_state (Ok fingerprint) = refl
+  begin_state (Err e) = refl
 
-  end_state : (a : EndAnswer) → (end_reply w.state a).state ≡ w.state
+  end_state : (a : Result (Unit {0}) Error) → (end_reply w.state a).state ≡ w.state
   unfolding end_reply reply
-  end_state EndAnswer.Ended = refl
-  end_state (EndAnswer.Refused e) = refl
+  end_state (Ok tt) = refl
+  end_state (Err e) = refl
 
-  scan_state : (a : ScanAnswer) → (scan_reply w.state a).state ≡ w.state
+  scan_state : (a : Result (ℕ × ℕ) ScanError) → (scan_reply w.state a).state ≡ w.state
   unfolding scan_reply reply
-  scan_state (ScanAnswer.Scanned cursor count) = refl
-  scan_state (ScanAnswer.Short count) = refl
-  scan_state (ScanAnswer.Refused e) = refl
+  scan_state (Ok (cursor, count)) = refl
+  scan_state (Err (ScanError.Short count)) = refl
+  scan_state (Err (ScanError.Refused e)) = refl
 
   scan_keeps : (d : AfterScan) → Keeps w (kept_scan w d)
   unfolding kept_scan

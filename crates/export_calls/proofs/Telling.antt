@@ -6,8 +6,6 @@ use mathlib.Core.Bool.{Bool, true, false, cond}
 use mathlib.Core.List.{List, [], ◌∷◌}
 use mir.Val.{bool_byte}
 use Rattle.model.specs.declared.State.{State}
-use Rattle.model.specs.declared.StepAnswer.{StepAnswer}
-use Rattle.model.specs.declared.ScanAnswer.{ScanAnswer}
 use Rattle.model.specs.Answers.{Reply, reply, step_reply, scan_reply}
 use Rattle.model.specs.Calls.{After}
 use Rattle.model.specs.Walk.{AfterScan}
@@ -17,6 +15,8 @@ use Rattle.export_calls.specs.declared.calls.Read.{Read}
 use Rattle.export_calls.specs.declared.calls.Write.{Write}
 use Rattle.export_calls.specs.declared.calls.Listing.{Listing}
 use Rattle.export_calls.specs.Kinds.{answer_of, InNumbers, Told, told, read_call, write_call, list_call}
+use Rattle.std.specs.Prelude.{Result, Ok}
+use Rattle.model.specs.declared.ScanError.{ScanError}
 
 -- an answer that is known, with its numbers
 pub known : {A : Type 0} {a b : A} (f : A → Reply State) (r x : Answer) → a ≡ b → r ≡ x → x ≡ answer_of (f b) → InNumbers r f a
@@ -29,7 +29,7 @@ cast_flag false = refl
 
 -- a step's second value says whether the rehash goes on
 pub step_value : (s : State) (moved : ℕ) (t : State)
-    → answer_of (reply 0 (moved ∷ bool_byte t.rehashing ∷ []) t) ≡ answer_of (step_reply s (StepAnswer.Stepped moved t))
+    → answer_of (reply 0 (moved ∷ bool_byte t.rehashing ∷ []) t) ≡ answer_of (step_reply s (Ok (moved, t)))
 unfolding step_reply
 step_value s moved t = ap (λ n. answer_of (reply 0 (moved ∷ n ∷ []) t)) (cast_flag t.rehashing)
 
@@ -49,7 +49,7 @@ module _ (r : Answer) (first second entries : List ℕ) where
   unfolding told left
   left_tells f d h t = rw t.numbers (ap (λ d. told (left f d)) h)
 
-  pub scan_tells : {a : ScanAnswer} (s : State) (list : List ℕ) (d : AfterScan) → AfterScan.after a list ≡ d
+  pub scan_tells : {a : Result (ℕ × ℕ) ScanError} (s : State) (list : List ℕ) (d : AfterScan) → AfterScan.after a list ≡ d
       → InNumbers r (scan_reply s) a → Told.tells r first second entries list ≡ told (kept_scan (world s first second entries) d)
   unfolding told kept_scan kept world
   scan_tells s list d h t = rw t.numbers (ap (λ d. told (kept_scan (world s first second entries) d)) h)

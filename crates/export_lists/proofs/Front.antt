@@ -14,7 +14,6 @@ use borrow.Author.Tests.{leb-true, leb-false, le-leb, lt-leb}
 use Rattle.model.specs.declared.State.{State}
 use Rattle.model.specs.declared.Table.{Table}
 use Rattle.model.specs.declared.Error.{Error}
-use Rattle.model.specs.declared.ScanAnswer.{ScanAnswer}
 use Rattle.model.specs.Memory.{keys_held, used_of, Place, budget_at, chain_at, listed}
 use Rattle.model.specs.Calls.{sound, oriented, checked, reading}
 use Rattle.model.specs.Walk.{AfterScan, at_most, pairs, scanned, tables_of}
@@ -27,13 +26,15 @@ use Rattle.model.proofs.AtMost.{at_most_some}
 use Rattle.model.proofs.Soundness.{Sound, sound_facts}
 use Rattle.export_calls.specs.declared.calls.Listing.{Listing}
 use Rattle.export_calls.specs.Kinds.{list_call}
+use Rattle.std.specs.Prelude.{Result, Ok, Err}
+use Rattle.model.specs.declared.ScanError.{ScanError}
 
 -- what is left of a front, and the rest of the list behind it
 unfoldable followed : List ℕ → AfterScan → AfterScan
 followed rest (AfterScan.after answer front) = AfterScan.after answer (front ++ rest)
 
 module _ (m : ℕ) (list : List ℕ) where
-  whole : (answer : ScanAnswer) → followed (drop m list) (AfterScan.after answer (take m list)) ≡ AfterScan.after answer list
+  whole : (answer : Result (ℕ × ℕ) ScanError) → followed (drop m list) (AfterScan.after answer (take m list)) ≡ AfterScan.after answer list
   unfolding followed
   whole answer = ap (AfterScan.after answer) (take-append-drop m list)
 
@@ -47,20 +48,20 @@ module _ (m : ℕ) (list : List ℕ) where
     scanned_front : (entries : List ℕ) (next : ℕ) (o : Option (List ℕ)) → length (listed o) ≤ most
         → followed (drop m list) (scanned entries (take m list) next o) ≡ scanned entries list next o
     unfolding scanned listed followed
-    scanned_front entries next none few = whole (ScanAnswer.Refused Error.Damaged)
+    scanned_front entries next none few = whole (Err (ScanError.Refused Error.Damaged))
     scanned_front entries next (some ns) few = by (leb (length ns * 2) (length list)) refl
       where
         by : (t : Bool) → leb (length ns * 2) (length list) ≡ t
             → followed (drop m list) (scanned entries (take m list) next (some ns))
-            ≡ cond t (AfterScan.after (ScanAnswer.Scanned next (length ns)) (pairs entries ns ++ drop (length ns * 2) list))
-            (AfterScan.after (ScanAnswer.Short (length ns)) list)
+            ≡ cond t (AfterScan.after (Ok (next, (length ns))) (pairs entries ns ++ drop (length ns * 2) list))
+            (AfterScan.after (Err (ScanError.Short (length ns))) list)
         by true h =
             let fits = leb-true (length ns * 2) (length list) h in
             rw (le-leb (length ns * 2) (length (take m list)) (omega (arith, length-take m list)), append_assoc, behind (length ns) few fits)
         by false h =
             let short = leb-false (length ns * 2) (length list) h in
             rw (lt-leb (length ns * 2) (length (take m list)) (omega (arith, length-take m list)))
-            (whole (ScanAnswer.Short (length ns)))
+            (whole (Err (ScanError.Short (length ns))))
 
 -- What is made of a call's answer, in a state that is sound.
 reading_alike : {A B : Type 0} (f : A → B) (s : State) (first second entries : List ℕ) (refusal : A) (refusal' : B)
@@ -131,8 +132,8 @@ module _ (room m : ℕ) (w : World) (list : List ℕ) (few : length w.entries / 
       (scanned_front m list w.state.capacity (fits _ _ h) w.entries _ _ (chains_fit w.state current other w.entries h _)))
     where
       by : (t : Bool) (a b : AfterScan) → followed (drop m list) a ≡ b
-          → followed (drop m list) (cond t (AfterScan.after (ScanAnswer.Scanned 0 0) (take m list)) a)
-          ≡ cond t (AfterScan.after (ScanAnswer.Scanned 0 0) list) b
+          → followed (drop m list) (cond t (AfterScan.after (Ok (0, 0)) (take m list)) a)
+          ≡ cond t (AfterScan.after (Ok (0, 0)) list) b
       by true a b e = whole m list _
       by false a b e = e
 

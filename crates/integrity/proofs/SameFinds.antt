@@ -18,7 +18,6 @@ use Rattle.model.specs.declared.State.{State}
 use Rattle.model.specs.declared.Table.{Table}
 use Rattle.model.specs.declared.Lookup.{Lookup}
 use Rattle.model.specs.declared.Error.{Error}
-use Rattle.model.specs.declared.FindAnswer.{FindAnswer}
 use Rattle.model.specs.Keys.{bucket_of}
 use Rattle.model.specs.Memory.{link_of, key_of, value_of, size_of, used_of, buckets_of, in_bucket, Place, Live, key_place, head_at, budget_at, belongs, chain_at}
 use Rattle.model.specs.Calls.{sound, state_of, first_with, searched, both, lookup_in, lookup_while, lookup, held, found}
@@ -33,6 +32,7 @@ use Rattle.integrity.proofs.Verified.{old_key_live, new_key_live}
 use Rattle.integrity.proofs.Repaired.{repaired_undamaged, repaired_entries_lem, repaired_key, repaired_value}
 use Rattle.integrity.proofs.Unchanged.{few}
 use Rattle.integrity.proofs.NothingLost.{met_earlier, of_old, first_kept}
+use Rattle.std.specs.Prelude.{Result, Ok, Err}
 
 -- What a lookup finds, as a number.
 
@@ -65,9 +65,9 @@ both_finds (Lookup.At t before n) Lookup.Absent (suc x) y h k = h
 both_finds (Lookup.At t before n) (Lookup.At t' before' n') (suc x) y h k = h
 
 -- and so what a find answers
-unfoldable answer : List ℕ → ℕ → FindAnswer
-answer entries zero = FindAnswer.Refused Error.Absent
-answer entries (suc n) = FindAnswer.Found (value_of entries (suc n))
+unfoldable answer : List ℕ → ℕ → Result ℕ Error
+answer entries zero = Err Error.Absent
+answer entries (suc n) = Ok (value_of entries (suc n))
 
 found_finds : (entries : List ℕ) (a : Lookup) (n : ℕ) → Finds a n → found entries a ≡ answer entries n
 unfolding found held answer Finds
@@ -75,7 +75,7 @@ found_finds entries Lookup.Damaged n h = absurd h
 found_finds entries Lookup.Absent zero h = refl
 found_finds entries Lookup.Absent (suc n) h = absurd (omega arith)
 found_finds entries (Lookup.At t before m) zero h = absurd (omega arith)
-found_finds entries (Lookup.At t before m) (suc n) h = ap (λ (k : ℕ). FindAnswer.Found (value_of entries k)) h.0
+found_finds entries (Lookup.At t before m) (suc n) h = ap (λ (k : ℕ). Ok (value_of entries k)) h.0
 
 -- in a key's bucket, whose chain is sound
 table_finds : (s : State) (current other entries : List ℕ) (key : ℕ) (t : Table) (ns : List ℕ)
@@ -358,7 +358,7 @@ module _ (s : State) (current other entries : List ℕ) (ok : sound s current ot
     same_answer (suc n) e =
         let z : 0 < suc n = omega arith in
         let (t, b, l, i) = kept_place s current other entries (suc n) z (first_kept s current other entries key (suc n) z e) in
-        ap FindAnswer.Found (repaired_value s current other entries ok t b (suc n) i)
+        ap Ok (repaired_value s current other entries ok t b (suc n) i)
 
   -- every find answers what it did
   pub same_find : ((t : Table) (b : ℕ) → b < size_of s t → (ns : List ℕ) × (chain_at s current other entries (Place.bucket t b) ≡ some ns))

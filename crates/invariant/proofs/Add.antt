@@ -8,7 +8,6 @@ use mathlib.Core.List.{List, [], ◌∷◌}
 use native.Mathlib.Omega.{arith}
 use Rattle.cursor.specs.Member.{In}
 use Rattle.model.specs.declared.State.{State}
-use Rattle.model.specs.declared.AddAnswer.{AddAnswer}
 use Rattle.model.specs.declared.Table.{Table}
 use Rattle.model.specs.Memory.{Place, Live, used_of, buckets_of, keys_held, key_place, key_of, value_of}
 use Rattle.model.specs.Calls.{After, push, pushed, target, changed, with_count, old_new, state_of, recounted}
@@ -20,6 +19,7 @@ use Rattle.invariant.proofs.Cells.{Memory, Cell, memory, buckets_in, read, write
 use Rattle.invariant.proofs.Relink.{last_cell, Rewired, Relinked, relink}
 use Rattle.invariant.proofs.RelinkWrites.{rewired, rekeyed, inside_after, rewired_keeps, rekeyed_key, rekeyed_value, rekeyed_key_other, rekeyed_value_other, rekeyed_cells, link_inside, shape_rewired}
 use Rattle.invariant.proofs.StoreAfter.{HeldIn, recounted_same, StoreAfter, held_before, held_kept}
+use Rattle.std.specs.Prelude.{Ok}
 
 -- the memory once the first free entry, with that key and value, is at the head of a bucket
 added_at : Memory → Place → ℕ → ℕ → Memory
@@ -47,7 +47,7 @@ more_held s Table.New = omega arith
 added_is : (s : State) (current other entries : List ℕ) (key value : ℕ) (t : Table)
     → pushed s current other entries key value t
     ≡ After.after
-    (AddAnswer.Added (recounted s (added_at (memory s current other entries) (key_place s key t) key value).free (more s t)))
+    (Ok (recounted s (added_at (memory s current other entries) (key_place s key t) key value).free (more s t)))
     (added_at (memory s current other entries) (key_place s key t) key value).current
     (added_at (memory s current other entries) (key_place s key t) key value).other
     (added_at (memory s current other entries) (key_place s key t) key value).entries
@@ -159,7 +159,7 @@ module _ {s : State} {current other entries : List ℕ} (shape : Shape s current
         }
 
     -- the outcome of an add that is neither refused nor full
-    pub added_store : StoreAfter s AddAnswer.Added (pushed s current other entries key value t) (keys_held s + 1)
+    pub added_store : StoreAfter s Ok (pushed s current other entries key value t) (keys_held s + 1)
         s.rehash_index (λ r k v. ((r ≡ key_place s key t) × (k ≡ key) × (v ≡ value)) ⊎ HeldIn entries (shape.at r) k v)
     unfolding recounted state_of keys_held
     added_store =

@@ -14,17 +14,13 @@ use Rattle.model.specs.declared.Table.{Table}
 use Rattle.model.specs.declared.Error.{Error}
 use Rattle.model.specs.declared.Lookup.{Lookup}
 use Rattle.model.specs.declared.Ahead.{Ahead}
-use Rattle.model.specs.declared.FindAnswer.{FindAnswer}
-use Rattle.model.specs.declared.UpdateAnswer.{UpdateAnswer}
-use Rattle.model.specs.declared.AddAnswer.{AddAnswer}
-use Rattle.model.specs.declared.DeleteAnswer.{DeleteAnswer}
-use Rattle.model.specs.declared.StepAnswer.{StepAnswer}
 use Rattle.model.specs.Memory.{Place, Live, keys_held, size_of, key_of, value_of, set_value}
 use Rattle.model.specs.Calls.{After, lookup, held, found, updated, takeable, target, pushed, added, removed, deleted, step_done, moved_chain, moved_from, ahead_of, step_taken, paused, stepped}
 use Rattle.invariant.proofs.Shape.{IsBucket, Shape}
 use Rattle.invariant.proofs.ToUndamaged.{chain_at_lem}
 use Rattle.invariant.proofs.FirstEntries.{free_taken}
 use Rattle.invariant.proofs.Lookups.{FoundAt, NotHeld, found_at, lookup_held, lookup_none}
+use Rattle.std.specs.Prelude.{Ok, Err}
 
 module _ {s : State} {current other entries : List ℕ} (h : Shape s current other entries) where
   module _ (key : ℕ) where
@@ -34,18 +30,18 @@ module _ {s : State} {current other entries : List ℕ} (h : Shape s current oth
     -- An entry of a live bucket has the key: the lookup finds that one. Find reads its value, update writes it, add is refused,
     -- delete takes the entry out.
     module _ (n : ℕ) (p : Place) (l : Live s p) (b : IsBucket p) (i : In n (h.at p)) (k : key_of entries n ≡ key) where
-      pub find_held : found entries looked ≡ FindAnswer.Found (value_of entries n)
+      pub find_held : found entries looked ≡ Ok (value_of entries n)
       unfolding found held
       find_held = let (t, before, e) = lookup_held h key n p l b i k in ap (found entries) e
 
       pub update_held : (value : ℕ)
-          → updated current other entries value looked ≡ After.after UpdateAnswer.Updated current other (set_value entries n value)
+          → updated current other entries value looked ≡ After.after (Ok tt) current other (set_value entries n value)
       unfolding updated held
       update_held value =
           let (t, before, e) = lookup_held h key n p l b i k in ap (updated current other entries value) e
 
       pub add_held : (value : ℕ)
-          → added s current other entries key value looked ≡ After.after (AddAnswer.Refused Error.Present) current other entries
+          → added s current other entries key value looked ≡ After.after (Err Error.Present) current other entries
       unfolding added
       add_held value =
           let (t, before, e) = lookup_held h key n p l b i k in ap (added s current other entries key value) e
@@ -59,39 +55,39 @@ module _ {s : State} {current other entries : List ℕ} (h : Shape s current oth
 
     -- No entry of a live bucket has the key: find, update and delete are refused.
     module _ (none_held : NotHeld h key) where
-      pub find_absent : found entries looked ≡ FindAnswer.Refused Error.Absent
+      pub find_absent : found entries looked ≡ Err Error.Absent
       unfolding found held
       find_absent = ap (found entries) (lookup_none h key none_held)
 
       pub update_absent : (value : ℕ)
-          → updated current other entries value looked ≡ After.after (UpdateAnswer.Refused Error.Absent) current other entries
+          → updated current other entries value looked ≡ After.after (Err Error.Absent) current other entries
       unfolding updated held
       update_absent value = ap (updated current other entries value) (lookup_none h key none_held)
 
       pub delete_absent :
-          deleted s current other entries key looked ≡ After.after (DeleteAnswer.Refused Error.Absent) current other entries
+          deleted s current other entries key looked ≡ After.after (Err Error.Absent) current other entries
       unfolding deleted held
       delete_absent = ap (deleted s current other entries key) (lookup_none h key none_held)
 
       -- a new key, by whether the store is full
       add_new : (value : ℕ) (full : Bool) → eqb (s.old_used + s.new_used) s.capacity ≡ full
           → added s current other entries key value looked
-          ≡ cond full (After.after (AddAnswer.Refused Error.Full) current other entries)
+          ≡ cond full (After.after (Err Error.Full) current other entries)
           (cond (takeable s entries) (pushed s current other entries key value (target s.rehashing))
-          (After.after (AddAnswer.Refused Error.Damaged) current other entries))
+          (After.after (Err Error.Damaged) current other entries))
       unfolding added keys_held
       add_new value full e =
           ap (added s current other entries key value) (lookup_none h key none_held)
           ∙ ap
           (λ (t : Bool).
-          cond t (After.after (AddAnswer.Refused Error.Full) current other entries)
+          cond t (After.after (Err Error.Full) current other entries)
           (cond (takeable s entries) (pushed s current other entries key value (target s.rehashing))
-          (After.after (AddAnswer.Refused Error.Damaged) current other entries)))
+          (After.after (Err Error.Damaged) current other entries)))
           e
 
       -- a full store refuses it
       pub add_full : (value : ℕ) → s.old_used + s.new_used ≡ s.capacity
-          → added s current other entries key value looked ≡ After.after (AddAnswer.Refused Error.Full) current other entries
+          → added s current other entries key value looked ≡ After.after (Err Error.Full) current other entries
       add_full value f = add_new value true (eq-eqb (s.old_used + s.new_used) s.capacity f)
 
       -- any other takes the first free entry for it
@@ -102,7 +98,7 @@ module _ {s : State} {current other entries : List ℕ} (h : Shape s current oth
           ∙ ap
           (λ (t : Bool).
           cond t (pushed s current other entries key value (target s.rehashing))
-          (After.after (AddAnswer.Refused Error.Damaged) current other entries))
+          (After.after (Err Error.Damaged) current other entries))
           (free_taken h f).2
 
   -- A step goes by whether a rehash is under way, whether safe iterators hold it up, and whether the old table holds keys.
@@ -110,24 +106,24 @@ module _ {s : State} {current other entries : List ℕ} (h : Shape s current oth
   -- with no rehash it is refused
   pub step_none : s.rehashing ≡ false
       → stepped s current other entries s.rehashing
-      ≡ After.after (StepAnswer.Refused Error.NotRehashing) current other entries
+      ≡ After.after (Err Error.NotRehashing) current other entries
   unfolding stepped
   step_none f = ap (stepped s current other entries) f
 
   step_rehashing : (held_up : Bool) → s.rehashing ≡ true → paused s ≡ held_up
       → stepped s current other entries s.rehashing
-      ≡ cond held_up (After.after (StepAnswer.Refused Error.Paused) current other entries) (step_taken s current other entries)
+      ≡ cond held_up (After.after (Err Error.Paused) current other entries) (step_taken s current other entries)
   unfolding stepped
   step_rehashing held_up t e =
       ap (stepped s current other entries) t
       ∙ ap
       (λ (f : Bool).
-      cond f (After.after (StepAnswer.Refused Error.Paused) current other entries) (step_taken s current other entries))
+      cond f (After.after (Err Error.Paused) current other entries) (step_taken s current other entries))
       e
 
   -- with a safe iterator it is refused
   pub step_paused : s.rehashing ≡ true → paused s ≡ true
-      → stepped s current other entries s.rehashing ≡ After.after (StepAnswer.Refused Error.Paused) current other entries
+      → stepped s current other entries s.rehashing ≡ After.after (Err Error.Paused) current other entries
   step_paused t e = step_rehashing true t e
 
   -- with none it is taken

@@ -8,7 +8,6 @@ use native.Mathlib.Omega.{arith}
 use lib.ListN.{length, length-append}
 use Rattle.cursor.specs.Member.{In}
 use Rattle.model.specs.declared.State.{State}
-use Rattle.model.specs.declared.DeleteAnswer.{DeleteAnswer}
 use Rattle.model.specs.declared.Table.{Table}
 use Rattle.model.specs.Memory.{Place, Live, size_of, used_of, buckets_of, keys_held, key_place, key_of, value_of, set_link, set_entry, last_or}
 use Rattle.model.specs.Calls.{After, removed, changed, unlink_bucket, unlink_entry, with_count, old_new, state_of, recounted}
@@ -21,6 +20,7 @@ use Rattle.invariant.proofs.Cells.{Memory, Cell, memory, buckets_in, read, write
 use Rattle.invariant.proofs.Relink.{last_cell, Rewired, Relinked, relink}
 use Rattle.invariant.proofs.RelinkWrites.{rewired, rekeyed, rewired_keeps, rekeyed_key_other, rekeyed_value_other, rekeyed_cells, shape_rewired}
 use Rattle.invariant.proofs.StoreAfter.{HeldIn, recounted_same, StoreAfter, held_before, held_kept}
+use Rattle.std.specs.Prelude.{Ok}
 
 -- the cell that leads to the entry behind `before`, in the chain of place p
 cell_before : Place → ℕ → Cell
@@ -52,7 +52,7 @@ less s t = with_count s t (used_of s t - 1)
 removed_is : (s : State) (current other entries : List ℕ) (key : ℕ) (t : Table) (before n : ℕ)
     → removed s current other entries key t before n
     ≡ After.after
-    (DeleteAnswer.Deleted
+    (Ok
     (recounted s (freed_from (memory s current other entries) (cell_before (key_place s key t) before) n).free (less s t)))
     (freed_from (memory s current other entries) (cell_before (key_place s key t) before) n).current
     (freed_from (memory s current other entries) (cell_before (key_place s key t) before) n).other
@@ -147,7 +147,7 @@ module _ {s : State} {current other entries : List ℕ} (shape : Shape s current
         }
 
     -- the outcome of a delete that found its key, in the old or the new table
-    pub deleted_store : StoreAfter s DeleteAnswer.Deleted
+    pub deleted_store : StoreAfter s Ok
         (removed s current other entries key t before n) (keys_held s - 1)
         s.rehash_index (λ r k v. HeldIn entries (shape.at r) k v × (k ≡ key → ⊥))
     unfolding recounted state_of keys_held

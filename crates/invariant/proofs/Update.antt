@@ -12,12 +12,12 @@ use Rattle.cursor.specs.Member.{In}
 use Rattle.model.specs.Memory.{Place, head_at, keys_held, set_value, sound_state, Live, key_of, value_of}
 use Rattle.model.proofs.Fields.{length_set_value, value_set_same, value_set_other, link_set_value, key_set_value}
 use Rattle.model.specs.declared.State.{State}
-use Rattle.model.specs.declared.UpdateAnswer.{UpdateAnswer}
 use Rattle.model.specs.Calls.{After}
 use Rattle.model.proofs.Linked.{linked_kept}
 use Rattle.invariant.proofs.Shape.{Home, IsBucket, Shape, facts}
 use Rattle.invariant.proofs.LinkedChains.{shape_range}
 use Rattle.invariant.proofs.StoreAfter.{HeldIn, held_as_lem, StoreAfter}
+use Rattle.std.specs.Prelude.{Ok}
 
 module _ {s : State} {current other entries : List ℕ} (h : Shape s current other entries) (n value : ℕ) where
   -- the shape after the value of an entry is changed
@@ -70,8 +70,8 @@ module _ {s : State} {current other entries : List ℕ} (shape : Shape s current
   that_one t l b m i k = shape.keys_distinct m n t p l live b bucket i there (k ∙ sym its_key)
 
   -- the outcome of an update that found its key; the state stays
-  pub updated_store : (l : StoreAfter s (λ t. UpdateAnswer.Updated)
-      (After.after UpdateAnswer.Updated current other (set_value entries n value)) (keys_held s) s.rehash_index
+  pub updated_store : (l : StoreAfter s (λ t. (Ok tt))
+      (After.after (Ok tt) current other (set_value entries n value)) (keys_held s) s.rehash_index
       (λ t k v. Changed key value (HeldIn entries (shape.at t)) k v)) × (l.state ≡ s)
   updated_store = (
     record {

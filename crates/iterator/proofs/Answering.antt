@@ -10,14 +10,12 @@ use lib.Dec.{eqb}
 use borrow.Author.Tests.{eq-eqb, ne_eqb, lt-ltb, le-ltb}
 use Rattle.model.specs.declared.State.{State}
 use Rattle.model.specs.declared.Error.{Error}
-use Rattle.model.specs.declared.BeginAnswer.{BeginAnswer}
-use Rattle.model.specs.declared.EndAnswer.{EndAnswer}
-use Rattle.model.specs.declared.StateAnswer.{StateAnswer}
 use Rattle.model.specs.Limits.{most_safe_iterators}
 use Rattle.model.specs.Calls.{oriented, reading, noted}
 use Rattle.model.specs.Iterators.{fingerprint_of, begin_iterator, end_iterator, one_more, begin_safe, one_fewer, end_safe}
 use Rattle.memory.specs.Lent.{sound_lent}
 use Rattle.memory.proofs.Orientation.{reading_refused, reading_sound}
+use Rattle.std.specs.Prelude.{Ok, Err}
 
 module _ (s : State) (first second entries : List ℕ) (t : Bool)
     (e : t ≡ sound_lent (length first) (length second) (length entries) s) where
@@ -33,35 +31,35 @@ module _ (s : State) (first second entries : List ℕ) (t : Bool)
 
   -- An iterator's begin and end.
 
-  pub begin_refused : t ≡ false → BeginAnswer.Refused Error.BadState ≡ begin_iterator s first second entries
+  pub begin_refused : t ≡ false → Err Error.BadState ≡ begin_iterator s first second entries
   unfolding begin_iterator
   begin_refused h = reading_refused s first second entries t e _ _ h
 
   pub begun : t ≡ true → (fingerprint : ℕ) → fingerprint ≡ fingerprint_of s
-      → BeginAnswer.Begun fingerprint ≡ begin_iterator s first second entries
+      → Ok fingerprint ≡ begin_iterator s first second entries
   unfolding begin_iterator
-  begun h fingerprint f = ap BeginAnswer.Begun f ∙ answered _ (BeginAnswer.Begun (fingerprint_of s)) h
+  begun h fingerprint f = ap Ok f ∙ answered _ (Ok (fingerprint_of s)) h
 
   module _ (begun : ℕ) where
-    pub end_refused : t ≡ false → EndAnswer.Refused Error.BadState ≡ end_iterator s first second entries begun
+    pub end_refused : t ≡ false → Err Error.BadState ≡ end_iterator s first second entries begun
     unfolding end_iterator
     end_refused h = reading_refused s first second entries t e _ _ h
 
     module _ (h : t ≡ true) (now : ℕ) (f : now ≡ fingerprint_of s) where
-      end_sound : cond (eqb begun now) EndAnswer.Ended (EndAnswer.Refused Error.Changed)
+      end_sound : cond (eqb begun now) (Ok tt) (Err Error.Changed)
           ≡ end_iterator s first second entries begun
       unfolding end_iterator
-      end_sound = rw f (answered _ (cond (eqb begun (fingerprint_of s)) EndAnswer.Ended (EndAnswer.Refused Error.Changed)) h)
+      end_sound = rw f (answered _ (cond (eqb begun (fingerprint_of s)) (Ok tt) (Err Error.Changed)) h)
 
-      pub ended : begun ≡ now → EndAnswer.Ended ≡ end_iterator s first second entries begun
+      pub ended : begun ≡ now → (Ok tt) ≡ end_iterator s first second entries begun
       ended same = rw (eq-eqb begun now same) at end_sound
 
-      pub changed : (begun ≡ now → ⊥) → EndAnswer.Refused Error.Changed ≡ end_iterator s first second entries begun
+      pub changed : (begun ≡ now → ⊥) → Err Error.Changed ≡ end_iterator s first second entries begun
       changed differ = rw (ne_eqb begun now differ) at end_sound
 
   -- A safe iterator's begin.
 
-  pub begin_safe_refused : t ≡ false → StateAnswer.Refused Error.BadState ≡ begin_safe s first second entries
+  pub begin_safe_refused : t ≡ false → Err Error.BadState ≡ begin_safe s first second entries
   unfolding begin_safe
   begin_safe_refused h = reading_refused s first second entries t e _ _ h
 
@@ -72,18 +70,18 @@ module _ (s : State) (first second entries : List ℕ) (t : Bool)
 
     pub one_begun : (counted : State) → s.safe_iterators < most_safe_iterators
         → counted ≡ noted s s.resize_allowed (s.safe_iterators + 1)
-        → StateAnswer.Set counted ≡ begin_safe s first second entries
+        → Ok counted ≡ begin_safe s first second entries
     unfolding one_more
-    one_begun counted l c = ap StateAnswer.Set c ∙ (rw (lt-ltb s.safe_iterators most_safe_iterators l) at one_more_lem)
+    one_begun counted l c = ap Ok c ∙ (rw (lt-ltb s.safe_iterators most_safe_iterators l) at one_more_lem)
 
     pub too_many : most_safe_iterators ≤ s.safe_iterators
-        → StateAnswer.Refused Error.TooManyIterators ≡ begin_safe s first second entries
+        → Err Error.TooManyIterators ≡ begin_safe s first second entries
     unfolding one_more
     too_many l = rw (le-ltb s.safe_iterators most_safe_iterators l) at one_more_lem
 
   -- .. and its end.
 
-  pub end_safe_refused : t ≡ false → StateAnswer.Refused Error.BadState ≡ end_safe s first second entries
+  pub end_safe_refused : t ≡ false → Err Error.BadState ≡ end_safe s first second entries
   unfolding end_safe
   end_safe_refused h = reading_refused s first second entries t e _ _ h
 
@@ -94,10 +92,10 @@ module _ (s : State) (first second entries : List ℕ) (t : Bool)
 
     pub one_ended : (counted : State) → 0 < s.safe_iterators
         → counted ≡ noted s s.resize_allowed (s.safe_iterators - 1)
-        → StateAnswer.Set counted ≡ end_safe s first second entries
+        → Ok counted ≡ end_safe s first second entries
     unfolding one_fewer
-    one_ended counted l c = ap StateAnswer.Set c ∙ one_fewer_lem (suc (s.safe_iterators - 1)) (omega arith)
+    one_ended counted l c = ap Ok c ∙ one_fewer_lem (suc (s.safe_iterators - 1)) (omega arith)
 
-    pub none_begun : s.safe_iterators ≤ 0 → StateAnswer.Refused Error.NoSafeIterator ≡ end_safe s first second entries
+    pub none_begun : s.safe_iterators ≤ 0 → Err Error.NoSafeIterator ≡ end_safe s first second entries
     unfolding one_fewer
     none_begun l = one_fewer_lem 0 (omega arith)

@@ -12,7 +12,6 @@ use borrow.Author.Tests.{lt-ltb, le-ltb}
 use Rattle.model.specs.declared.State.{State}
 use Rattle.model.specs.declared.Table.{Table}
 use Rattle.model.specs.declared.Error.{Error}
-use Rattle.model.specs.declared.ScanAnswer.{ScanAnswer}
 use Rattle.model.specs.Memory.{size_of, used_of, buckets_of, Place, head_at, budget_at, belongs, chain_at, chain, in_bucket}
 use Rattle.model.specs.Walk.{Tables, tables_by, tables_of, AfterScan, scanned}
 use Rattle.model.specs.Iterators.{bucket_at, end_place, first_from, first_place, filled, handed, iterate}
@@ -21,6 +20,8 @@ use Rattle.memory.specs.Lent.{sound_lent}
 use Rattle.memory.proofs.Orientation.{read_first, read_second, reading_refused, reading_sound}
 use Rattle.iterator.specs.Tables.{filled_in, first_filled, below, handed_last}
 use Rattle.iterator.proofs.Searching.{or_else, first_shifted, first_tables}
+use Rattle.std.specs.Prelude.{Ok, Err}
+use Rattle.model.specs.declared.ScanError.{ScanError}
 
 -- what the search's number says
 found : (size b : ℕ) (o : Option ℕ) → b < size → below size b ≡ o → o ≡ some b
@@ -42,7 +43,7 @@ module _ (entries list : List ℕ) (capacity used size : ℕ) (buckets : List �
   last_found a l h = rw (found size b _ l e) h
 
   pub last_end : size ≤ b
-      → AfterScan.after (ScanAnswer.Scanned (base + size) 0) list
+      → AfterScan.after (Ok ((base + size), 0)) list
       ≡ handed_last entries list capacity used size buckets base (first_filled buckets from size)
   unfolding handed_last
   last_end l = rw (not_found size b _ l e)
@@ -152,7 +153,7 @@ module _ (s : State) (current other entries list : List ℕ) (place : ℕ) (a : 
 
 module _ (s : State) (first second entries list : List ℕ) (place : ℕ) where
   pub iterate_bad_state : (t : Bool) → t ≡ sound_lent (length first) (length second) (length entries) s → t ≡ false
-      → AfterScan.after (ScanAnswer.Refused Error.BadState) list ≡ iterate s first second entries list place
+      → AfterScan.after (Err (ScanError.Refused Error.BadState)) list ≡ iterate s first second entries list place
   unfolding iterate
   iterate_bad_state t e h = reading_refused s first second entries t e _ _ h
 

@@ -1,9 +1,8 @@
 -- What the functions below the calls ask of a table, look for in it and hand out of it, over numbers.
-use Rattle.std.specs.Prelude.{ℕ, ◌+◌, ◌≤◌, Bool, not, cond, List, length, get_or, ltb, eqb}
+use Rattle.std.specs.Prelude.{ℕ, ◌+◌, ◌≤◌, Bool, not, cond, List, length, get_or, ltb, eqb, Ok}
 use Rattle.std.proofs.Math.Option.{Option, none, some}
 use Rattle.std.specs.Int.{w32}
 use Rattle.std.proofs.Common.{Fits}
-use Rattle.model.specs.declared.ScanAnswer.{ScanAnswer}
 use Rattle.model.specs.Walk.{Tables, AfterScan, scanned}
 use Rattle.model.specs.Iterators.{first_place}
 use Rattle.memory.specs.Length.{bucket_chain}
@@ -23,7 +22,7 @@ below size b = cond (ltb b size) (some b) none
 
 -- what is handed out of the last live table, whose places begin at `base`: a whole bucket, or nothing and the end
 unfoldable pub handed_last : List ℕ → List ℕ → ℕ → ℕ → ℕ → List ℕ → ℕ → Option ℕ → AfterScan
-handed_last entries list capacity used size buckets base none = AfterScan.after (ScanAnswer.Scanned (base + size) 0) list
+handed_last entries list capacity used size buckets base none = AfterScan.after (Ok ((base + size), 0)) list
 handed_last entries list capacity used size buckets base (some b) =
     scanned entries list (base + b + 1) (bucket_chain size entries capacity used buckets b)
 

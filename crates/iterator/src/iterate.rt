@@ -10,7 +10,7 @@ ghost use Rattle.memory.specs.Lent.{sound_lent};
 ghost use Rattle.iterator.specs.Tables.{LastTable, first_filled, below, handed_last};
 
 use memory::state::is_sound_lent;
-use model::{Error, ScanAnswer, State};
+use model::{Error, ScanError, State};
 use scan_group::hand_out::hand_out;
 
 // The first filled bucket of a table, from one on; a number that is not below the size where there is none.
@@ -45,7 +45,7 @@ fn iterate_last(
     size: u32,
     base: u32,
     from: u32,
-) -> ScanAnswer
+) -> Result<(u32, u32), ScanError>
     requires { LastTable buckets.now entries.now capacity used size base }
     ensures { after result list.new
         ≡ handed_last entries.now list.old capacity used size buckets.now base
@@ -65,7 +65,7 @@ fn iterate_last(
             base + b + 1,
         )
     } else {
-        ScanAnswer::Scanned(base + size, 0)
+        Ok((base + size, 0))
     }
 }
 
@@ -77,7 +77,7 @@ fn iterate_rehashing(
     list: &mut [u32],
     s: State,
     place: u32,
-) -> ScanAnswer
+) -> Result<(u32, u32), ScanError>
     requires sound { Sound s (length current.now) (length other.now) (length entries.now) }
     requires rehashing { s.rehashing ≡ true }
     ensures { after result list.new
@@ -113,7 +113,7 @@ fn iterate_both(
     list: &mut [u32],
     s: State,
     place: u32,
-) -> ScanAnswer
+) -> Result<(u32, u32), ScanError>
     requires sound { sound_lent (length first.now) (length second.now) (length entries.now) s ≡ true }
     requires rehashing { s.rehashing ≡ true }
     ensures { after result list.new
@@ -134,7 +134,7 @@ fn iterate_only(
     list: &mut [u32],
     s: State,
     place: u32,
-) -> ScanAnswer
+) -> Result<(u32, u32), ScanError>
     requires sound { sound_lent (length first.now) (length second.now) (length entries.now) s ≡ true }
     requires resting { s.rehashing ≡ false }
     ensures { after result list.new
@@ -159,7 +159,7 @@ pub fn iterate(
     list: &mut [u32],
     s: State,
     place: u32,
-) -> ScanAnswer
+) -> Result<(u32, u32), ScanError>
     ensures { after result list.new
         ≡ iterators.iterate s first.now second.now entries.now list.old place }
 {
@@ -170,6 +170,6 @@ pub fn iterate(
             iterate_only(first, second, entries, list, s, place)
         }
     } else {
-        ScanAnswer::Refused(Error::BadState)
+        Err(ScanError::Refused(Error::BadState))
     }
 }

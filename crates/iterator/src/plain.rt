@@ -4,7 +4,7 @@ ghost use Rattle.model.specs.Iterators as iterators;
 
 use fingerprint::fingerprint;
 use memory::state::is_sound_lent;
-use model::{BeginAnswer, EndAnswer, Error, State};
+use model::{Error, State};
 
 // Of a bucket buffer: the second, or else the first.
 fn buffer_number(second: bool) -> u64
@@ -29,13 +29,13 @@ fn fingerprint_of(s: State) -> u64
     ])
 }
 
-pub fn begin_iterator(first: &[u32], second: &[u32], entries: &[u32], s: State) -> BeginAnswer
+pub fn begin_iterator(first: &[u32], second: &[u32], entries: &[u32], s: State) -> Result<u64, Error>
     ensures { result ≡ iterators.begin_iterator s first.now second.now entries.now }
 {
     if is_sound_lent(first.len(), second.len(), entries.len(), s) {
-        BeginAnswer::Begun(fingerprint_of(s))
+        Ok(fingerprint_of(s))
     } else {
-        BeginAnswer::Refused(Error::BadState)
+        Err(Error::BadState)
     }
 }
 
@@ -46,16 +46,16 @@ pub fn end_iterator(
     entries: &[u32],
     s: State,
     fingerprint: u64,
-) -> EndAnswer
+) -> Result<(), Error>
     ensures { result ≡ iterators.end_iterator s first.now second.now entries.now fingerprint }
 {
     if is_sound_lent(first.len(), second.len(), entries.len(), s) {
         if fingerprint == fingerprint_of(s) {
-            EndAnswer::Ended
+            Ok(())
         } else {
-            EndAnswer::Refused(Error::Changed)
+            Err(Error::Changed)
         }
     } else {
-        EndAnswer::Refused(Error::BadState)
+        Err(Error::BadState)
     }
 }

@@ -4,7 +4,7 @@ ghost use Rattle.model.specs.Calls.{noted};
 ghost use Rattle.model.specs.Iterators as iterators;
 
 use memory::state::is_sound_lent;
-use model::{Error, MOST_SAFE_ITERATORS, State, StateAnswer};
+use model::{MOST_SAFE_ITERATORS, Error, State};
 
 // The state with so many safe iterators.
 fn with_iterators(s: State, iterators: u32) -> State
@@ -15,30 +15,30 @@ fn with_iterators(s: State, iterators: u32) -> State
     n
 }
 
-pub fn begin_safe(first: &[u32], second: &[u32], entries: &[u32], s: State) -> StateAnswer
+pub fn begin_safe(first: &[u32], second: &[u32], entries: &[u32], s: State) -> Result<State, Error>
     ensures { result ≡ iterators.begin_safe s first.now second.now entries.now }
 {
     if is_sound_lent(first.len(), second.len(), entries.len(), s) {
         if s.safe_iterators < MOST_SAFE_ITERATORS {
-            StateAnswer::Set(with_iterators(s, s.safe_iterators + 1))
+            Ok(with_iterators(s, s.safe_iterators + 1))
         } else {
-            StateAnswer::Refused(Error::TooManyIterators)
+            Err(Error::TooManyIterators)
         }
     } else {
-        StateAnswer::Refused(Error::BadState)
+        Err(Error::BadState)
     }
 }
 
-pub fn end_safe(first: &[u32], second: &[u32], entries: &[u32], s: State) -> StateAnswer
+pub fn end_safe(first: &[u32], second: &[u32], entries: &[u32], s: State) -> Result<State, Error>
     ensures { result ≡ iterators.end_safe s first.now second.now entries.now }
 {
     if is_sound_lent(first.len(), second.len(), entries.len(), s) {
         if 0 < s.safe_iterators {
-            StateAnswer::Set(with_iterators(s, s.safe_iterators - 1))
+            Ok(with_iterators(s, s.safe_iterators - 1))
         } else {
-            StateAnswer::Refused(Error::NoSafeIterator)
+            Err(Error::NoSafeIterator)
         }
     } else {
-        StateAnswer::Refused(Error::BadState)
+        Err(Error::BadState)
     }
 }

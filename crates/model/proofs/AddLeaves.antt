@@ -13,21 +13,20 @@ use Rattle.model.specs.declared.State.{State}
 use Rattle.model.specs.declared.Table.{Table}
 use Rattle.model.specs.declared.Error.{Error}
 use Rattle.model.specs.declared.Lookup.{Lookup}
-use Rattle.model.specs.declared.AddAnswer.{AddAnswer}
-use Rattle.model.specs.declared.StepAnswer.{StepAnswer}
 use Rattle.model.specs.Limits.{legal_size}
 use Rattle.model.specs.Memory.{size_of, used_of, keys_held}
 use Rattle.model.specs.Calls.{After, sound, oriented, checked, back, writing, changed, state_of, old_new, recounted, lookup, with_count, pushed, target, takeable, added, add_alone, rehash_step, unless_refused, call_after, step_due, step_first, is_added, add_after_step}
 use Rattle.model.proofs.Soundness.{Sound, sound_facts, Counted}
+use Rattle.std.specs.Prelude.{Result, Ok, Err}
 
 pub record Growable (s : State) : Type 0 where
   pub counted : Counted s
   pub old_legal : legal_size s.old_size ≡ true
 
 -- the state of an answer that is no refusal
-unfoldable pub AddLeaves : After AddAnswer → Type 0
-AddLeaves (After.after (AddAnswer.Refused e) x y z) = Unit {0}
-AddLeaves (After.after (AddAnswer.Added t) x y z) = Growable t
+unfoldable pub AddLeaves : After (Result State Error) → Type 0
+AddLeaves (After.after (Err e) x y z) = Unit {0}
+AddLeaves (After.after (Ok t) x y z) = Growable t
 
 module _ (s : State) (current other entries : List ℕ) (key value : ℕ)
     (h : Sound s (length current) (length other) (length entries)) where
@@ -56,8 +55,8 @@ module _ (s : State) (current other entries : List ℕ) (key value : ℕ)
   added_leaves (Lookup.At t before n) = tt
   added_leaves Lookup.Absent = by (eqb (keys_held s) s.capacity) refl (takeable s entries)
     where
-      refusing : Error → After AddAnswer
-      refusing e = After.after (AddAnswer.Refused e) current other entries
+      refusing : Error → After (Result State Error)
+      refusing e = After.after (Err e) current other entries
 
       by : (full : Bool) → eqb (keys_held s) s.capacity ≡ full → (free : Bool)
           → AddLeaves
@@ -67,21 +66,21 @@ module _ (s : State) (current other entries : List ℕ) (key value : ℕ)
       by false e true = pushed_leaves e (target s.rehashing)
       by false e false = tt
 
-back_leaves : (f : Bool) (a : After AddAnswer) → AddLeaves a → AddLeaves (back f a)
+back_leaves : (f : Bool) (a : After (Result State Error)) → AddLeaves a → AddLeaves (back f a)
 unfolding AddLeaves back
 back_leaves false a h = h
-back_leaves true (After.after (AddAnswer.Refused e) x y z) h = tt
-back_leaves true (After.after (AddAnswer.Added t) x y z) h = h
+back_leaves true (After.after (Err e) x y z) h = tt
+back_leaves true (After.after (Ok t) x y z) h = h
 
 module _ (key value : ℕ) where
   alone_leaves : (s : State) (first second entries : List ℕ) → AddLeaves (add_alone s first second entries key value)
   unfolding AddLeaves add_alone writing oriented checked
   alone_leaves s first second entries = by s.second_is_current
     where
-      refusing : List ℕ → List ℕ → After AddAnswer
-      refusing x y = After.after (AddAnswer.Refused Error.BadState) x y entries
+      refusing : List ℕ → List ℕ → After (Result State Error)
+      refusing x y = After.after (Err Error.BadState) x y entries
 
-      call : List ℕ → List ℕ → After AddAnswer
+      call : List ℕ → List ℕ → After (Result State Error)
       call x y = added s x y entries key value (lookup s x y entries key)
 
       tested : (current other : List ℕ) (t : Bool) → sound s current other entries ≡ t
@@ -97,20 +96,20 @@ module _ (key value : ℕ) where
   unfolding AddLeaves add_after_step step_first call_after unless_refused is_added
   add_leaves s first second entries = by (step_due s)
     where
-      kept : (a : After AddAnswer) → AddLeaves a → AddLeaves (unless_refused is_added first second entries a)
-      kept (After.after (AddAnswer.Refused e) x y z) h = tt
-      kept (After.after (AddAnswer.Added t) x y z) h = h
+      kept : (a : After (Result State Error)) → AddLeaves a → AddLeaves (unless_refused is_added first second entries a)
+      kept (After.after (Err e) x y z) h = tt
+      kept (After.after (Ok t) x y z) h = h
 
-      call : State → List ℕ → List ℕ → List ℕ → After AddAnswer
+      call : State → List ℕ → List ℕ → List ℕ → After (Result State Error)
       call t x y z = add_alone t x y z key value
 
-      stepped : (a : After StepAnswer) → AddLeaves (call_after AddAnswer.Refused is_added call first second entries a)
-      stepped (After.after (StepAnswer.Refused e) x y z) = tt
-      stepped (After.after (StepAnswer.Stepped count t) x y z) = kept (add_alone t x y z key value) (alone_leaves t x y z)
+      stepped : (a : After (Result (ℕ × State) Error)) → AddLeaves (call_after Err is_added call first second entries a)
+      stepped (After.after (Err e) x y z) = tt
+      stepped (After.after (Ok (count, t)) x y z) = kept (add_alone t x y z key value) (alone_leaves t x y z)
 
       by : (f : Bool)
           → AddLeaves
-          (cond f (call_after AddAnswer.Refused is_added call first second entries (rehash_step s first second entries))
+          (cond f (call_after Err is_added call first second entries (rehash_step s first second entries))
           (call s first second entries))
       by true = stepped (rehash_step s first second entries)
       by false = alone_leaves s first second entries

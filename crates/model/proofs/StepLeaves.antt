@@ -14,7 +14,6 @@ use Rattle.model.specs.declared.State.{State}
 use Rattle.model.specs.declared.Table.{Table}
 use Rattle.model.specs.declared.Error.{Error}
 use Rattle.model.specs.declared.Ahead.{Ahead}
-use Rattle.model.specs.declared.StepAnswer.{StepAnswer}
 use Rattle.model.specs.Limits.{empty_visits}
 use Rattle.model.specs.Memory.{size_of, used_of, keys_held, Place, budget_at, chain_at}
 use Rattle.model.specs.Calls.{After, sound, oriented, checked, back, writing, state_of, old_new, retabled, Chains, ahead, moved, advanced, finished, settled, step_done, moved_chain, moved_from, ahead_of, step_taken, paused, stepped, rehash_step}
@@ -22,6 +21,7 @@ use Rattle.model.proofs.Moved.{moved_length}
 use Rattle.model.proofs.Linked.{read_sound}
 use Rattle.model.proofs.Soundness.{Sound, sound_facts, sound_test}
 use Rattle.model.proofs.StepAhead.{Comes, ahead_comes}
+use Rattle.std.specs.Prelude.{Result, Ok, Err}
 
 -- ---- the state after a step
 
@@ -102,10 +102,10 @@ module _ (s : State) (current other entries : ℕ) (h : Sound s current other en
 
 -- ---- on the current and the other buffer
 
-unfoldable pub StepLeaves : State → List ℕ → List ℕ → List ℕ → After StepAnswer → Type 0
-StepLeaves s current other entries (After.after (StepAnswer.Refused error) c o z) =
+unfoldable pub StepLeaves : State → List ℕ → List ℕ → List ℕ → After (Result (ℕ × State) Error) → Type 0
+StepLeaves s current other entries (After.after (Err error) c o z) =
     (error ≡ Error.Damaged) × (c ≡ current) × (o ≡ other) × (z ≡ entries)
-StepLeaves s current other entries (After.after (StepAnswer.Stepped count t) c o z) =
+StepLeaves s current other entries (After.after (Ok (count, t)) c o z) =
     (length c ≡ length current)
     × (length o ≡ length other)
     × (length z ≡ length entries)
@@ -114,7 +114,7 @@ StepLeaves s current other entries (After.after (StepAnswer.Stepped count t) c o
 
 module _ (s : State) (current other entries : List ℕ) (h : Sound s (length current) (length other) (length entries))
     (e : s.rehashing ≡ true) (unpaused : paused s ≡ false) where
-  abbrev Leaves : After StepAnswer → Type 0
+  abbrev Leaves : After (Result (ℕ × State) Error) → Type 0
   Leaves a = StepLeaves s current other entries a
 
   done_leaves : (count next : ℕ) → count ≤ s.old_used → next ≤ s.old_size → (c o z : List ℕ)
@@ -158,7 +158,7 @@ module _ (s : State) (current other entries : List ℕ) (h : Sound s (length cur
   unfolding stepped step_taken
   step_leaves =
       subst (λ (f : Bool). Leaves (stepped s current other entries f)) (sym e)
-      (subst (λ (f : Bool). Leaves (cond f (After.after (StepAnswer.Refused Error.Paused) current other entries) (step_taken s current other entries)))
+      (subst (λ (f : Bool). Leaves (cond f (After.after (Err Error.Paused) current other entries) (step_taken s current other entries)))
       (sym unpaused) (by (eqb s.old_used 0)))
     where
       by : (t : Bool)
@@ -168,10 +168,10 @@ module _ (s : State) (current other entries : List ℕ) (h : Sound s (length cur
 
 -- ---- on the lent buffers
 
-unfoldable pub RehashLeaves : State → List ℕ → List ℕ → List ℕ → After StepAnswer → Type 0
-RehashLeaves s first second entries (After.after (StepAnswer.Refused error) x y z) =
+unfoldable pub RehashLeaves : State → List ℕ → List ℕ → List ℕ → After (Result (ℕ × State) Error) → Type 0
+RehashLeaves s first second entries (After.after (Err error) x y z) =
     (error ≡ Error.Damaged) × (x ≡ first) × (y ≡ second) × (z ≡ entries)
-RehashLeaves s first second entries (After.after (StepAnswer.Stepped count t) x y z) =
+RehashLeaves s first second entries (After.after (Ok (count, t)) x y z) =
     (length x ≡ length first)
     × (length y ≡ length second)
     × (length z ≡ length entries)
@@ -195,28 +195,28 @@ module _ (s : State) (first second entries : List ℕ) (e : s.rehashing ≡ true
   onward_sound true p t c o z (Onward.over g h) =
       subst (λ (f : Bool). oriented f (λ current other. sound t current other z) o c ≡ true) (sym (g ∙ ap not p)) (sound_test t o c z h)
 
-  turned_leaves : (f : Bool) → s.second_is_current ≡ f → (a : After StepAnswer)
+  turned_leaves : (f : Bool) → s.second_is_current ≡ f → (a : After (Result (ℕ × State) Error))
       → StepLeaves s (oriented f (λ x y. x) first second) (oriented f (λ x y. y) first second) entries a
       → RehashLeaves s first second entries (back f a)
   unfolding oriented back StepLeaves RehashLeaves
-  turned_leaves false p (After.after (StepAnswer.Refused error) c o z) k = k
-  turned_leaves true p (After.after (StepAnswer.Refused error) c o z) k = (k.0, k.2, k.1, k.3)
-  turned_leaves false p (After.after (StepAnswer.Stepped count t) c o z) k =
+  turned_leaves false p (After.after (Err error) c o z) k = k
+  turned_leaves true p (After.after (Err error) c o z) k = (k.0, k.2, k.1, k.3)
+  turned_leaves false p (After.after (Ok (count, t)) c o z) k =
       (k.0, k.1, k.2, k.3, onward_sound false p t c o z k.4)
-  turned_leaves true p (After.after (StepAnswer.Stepped count t) c o z) k =
+  turned_leaves true p (After.after (Ok (count, t)) c o z) k =
       (k.1, k.0, k.2, k.3, onward_sound true p t c o z k.4)
 
   -- once the state is found sound
   passed : (current other : List ℕ) → sound s current other entries ≡ true
       → StepLeaves s current other entries
-      (checked s entries (λ c o. After.after (StepAnswer.Refused Error.BadState) c o entries)
+      (checked s entries (λ c o. After.after (Err Error.BadState) c o entries)
       (λ c o. stepped s c o entries s.rehashing) current other)
   unfolding checked
   passed current other h =
       subst
       (λ (t : Bool).
       StepLeaves s current other entries
-      (cond t (stepped s current other entries s.rehashing) (After.after (StepAnswer.Refused Error.BadState) current other entries)))
+      (cond t (stepped s current other entries s.rehashing) (After.after (Err Error.BadState) current other entries)))
       (sym h) (step_leaves s current other entries (sound_facts s current other entries h) e unpaused)
 
   pub rehash_leaves : oriented s.second_is_current (λ current other. sound s current other entries) first second ≡ true
@@ -228,7 +228,7 @@ module _ (s : State) (first second entries : List ℕ) (e : s.rehashing ≡ true
           → RehashLeaves s first second entries
           (back f
           (oriented f
-          (checked s entries (λ current other. After.after (StepAnswer.Refused Error.BadState) current other entries)
+          (checked s entries (λ current other. After.after (Err Error.BadState) current other entries)
           (λ current other. stepped s current other entries s.rehashing))
           first second))
       by false p h = turned_leaves false p _ (passed first second h)

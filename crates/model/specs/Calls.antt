@@ -1,23 +1,15 @@
 -- SPECIFICATION, "The calls": what each answers and leaves, for any state and any memory.
-use Rattle.std.specs.Prelude.{ℕ, zero, suc, ◌+◌, ◌*◌, ◌-◌, ◌^◌, max, Bool, true, false, ◌&&◌, ◌||◌, not, cond, List, [], ◌∷◌, ◌++◌, length, get_or, set, take, drop, replicate, leb, ltb, eqb}
+use Rattle.std.specs.Prelude.{ℕ, zero, suc, ◌+◌, ◌*◌, ◌-◌, ◌^◌, max, Bool, true, false, ◌&&◌, ◌||◌, not, cond, List, [], ◌∷◌, ◌++◌, length, get_or, set, take, drop, replicate, leb, ltb, eqb, Result, Ok, Err}
 use Rattle.std.proofs.Math.Option.{Option, none, some}
 use Rattle.model.specs.declared.State.{State}
 use Rattle.model.specs.declared.Table.{Table}
 use Rattle.model.specs.declared.Error.{Error}
 use Rattle.model.specs.declared.Lookup.{Lookup}
 use Rattle.model.specs.declared.Ahead.{Ahead}
-use Rattle.model.specs.declared.InitAnswer.{InitAnswer}
-use Rattle.model.specs.declared.FindAnswer.{FindAnswer}
-use Rattle.model.specs.declared.UpdateAnswer.{UpdateAnswer}
-use Rattle.model.specs.declared.AddAnswer.{AddAnswer}
-use Rattle.model.specs.declared.DeleteAnswer.{DeleteAnswer}
-use Rattle.model.specs.declared.ResizeAnswer.{ResizeAnswer}
-use Rattle.model.specs.declared.StepAnswer.{StepAnswer}
-use Rattle.model.specs.declared.SizeAnswer.{SizeAnswer}
-use Rattle.model.specs.declared.StateAnswer.{StateAnswer}
 use Rattle.model.specs.Keys.{bucket_of}
 use Rattle.model.specs.Limits.{largest_exponent, legal_capacity, legal_size, empty_visits, least_suggestion, force_ratio}
 use Rattle.model.specs.Memory.{link_of, key_of, value_of, set_link, set_key, set_value, set_entry, size_of, used_of, buckets_of, keys_held, sound_state, Place, key_place, chain_at}
+use Rattle.model.specs.declared.Unstarted.{Unstarted}
 
 -- What a call answers, and the three lent buffers after it: the first bucket buffer, the second, the entry buffer. For a
 -- definition on the current and the other bucket buffer: the current, the other, the entry buffer.
@@ -122,14 +114,14 @@ no_state = state_of false (old_new 0 0) (old_new 0 0) false 0 0 0 false 0
 unfoldable pub long_enough : ℕ → ℕ → ℕ → ℕ → Bool
 long_enough capacity size first entries = leb size first && leb (capacity * 3) entries
 
-unfoldable pub init : List ℕ → List ℕ → List ℕ → ℕ → ℕ → After InitAnswer
+unfoldable pub init : List ℕ → List ℕ → List ℕ → ℕ → ℕ → After (Result State Unstarted)
 init first second entries capacity size =
     cond (legal_capacity capacity && legal_size size)
     (cond (long_enough capacity size (length first) (length entries))
-    (After.after (InitAnswer.Ready (empty_state size 1 capacity)) (cleared size first) second
+    (After.after (Ok (empty_state size 1 capacity)) (cleared size first) second
     (free_entries 1 capacity ++ drop (capacity * 3) entries))
-    (After.after (InitAnswer.Refused Error.BadState no_state) first second entries))
-    (After.after (InitAnswer.Refused Error.BadSize no_state) first second entries)
+    (After.after (Err (record { error = Error.BadState; state = no_state })) first second entries))
+    (After.after (Err (record { error = Error.BadSize; state = no_state })) first second entries)
 
 -- Find, and what change, add and delete read
 
@@ -168,24 +160,24 @@ held refused call Lookup.Damaged = refused Error.Damaged
 held refused call Lookup.Absent = refused Error.Absent
 held refused call (Lookup.At t before n) = call t before n
 
-unfoldable pub found : List ℕ → Lookup → FindAnswer
-found entries l = held FindAnswer.Refused (λ t before n. FindAnswer.Found (value_of entries n)) l
+unfoldable pub found : List ℕ → Lookup → Result ℕ Error
+found entries l = held Err (λ t before n. Ok (value_of entries n)) l
 
-unfoldable pub find : State → List ℕ → List ℕ → List ℕ → ℕ → FindAnswer
+unfoldable pub find : State → List ℕ → List ℕ → List ℕ → ℕ → Result ℕ Error
 find s first second entries key =
-    reading s first second entries (FindAnswer.Refused Error.BadState)
+    reading s first second entries (Err Error.BadState)
     (λ current other. found entries (lookup s current other entries key))
 
 -- Change
 
-unfoldable pub updated : List ℕ → List ℕ → List ℕ → ℕ → Lookup → After UpdateAnswer
+unfoldable pub updated : List ℕ → List ℕ → List ℕ → ℕ → Lookup → After (Result (Unit {0}) Error)
 updated current other entries value l =
-    held (λ e. After.after (UpdateAnswer.Refused e) current other entries)
-    (λ t before n. After.after UpdateAnswer.Updated current other (set_value entries n value)) l
+    held (λ e. After.after (Err e) current other entries)
+    (λ t before n. After.after (Ok tt) current other (set_value entries n value)) l
 
-unfoldable pub update : State → List ℕ → List ℕ → List ℕ → ℕ → ℕ → After UpdateAnswer
+unfoldable pub update : State → List ℕ → List ℕ → List ℕ → ℕ → ℕ → After (Result (Unit {0}) Error)
 update s first second entries key value =
-    writing s first second entries (UpdateAnswer.Refused Error.BadState)
+    writing s first second entries (Err Error.BadState)
     (λ current other. updated current other entries value (lookup s current other entries key))
 
 -- Add
@@ -205,11 +197,11 @@ with_count s Table.Old count = old_new count s.new_used
 with_count s Table.New count = old_new s.old_used count
 
 -- the first free entry, with the key and the value, at the head of the key's bucket in a table
-unfoldable pub pushed : State → List ℕ → List ℕ → List ℕ → ℕ → ℕ → Table → After AddAnswer
+unfoldable pub pushed : State → List ℕ → List ℕ → List ℕ → ℕ → ℕ → Table → After (Result State Error)
 pushed s current other entries key value t =
     let n = s.free_head in
     let m = push (bucket_of key (size_of s t)) n (record { buckets = buckets_of current other t; entries = entries }) in
-    changed t (AddAnswer.Added (recounted s (link_of entries n) (with_count s t (used_of s t + 1)))) current other
+    changed t (Ok (recounted s (link_of entries n) (with_count s t (used_of s t + 1)))) current other
     m.buckets (set_value (set_key m.entries n key) n value)
 
 -- the table that keys are added to
@@ -221,22 +213,22 @@ target true = Table.New
 unfoldable pub takeable : State → List ℕ → Bool
 takeable s entries = not (eqb s.free_head 0) && leb (link_of entries s.free_head) s.capacity
 
-unfoldable pub added : State → List ℕ → List ℕ → List ℕ → ℕ → ℕ → Lookup → After AddAnswer
+unfoldable pub added : State → List ℕ → List ℕ → List ℕ → ℕ → ℕ → Lookup → After (Result State Error)
 added s current other entries key value Lookup.Damaged =
-    After.after (AddAnswer.Refused Error.Damaged) current other entries
+    After.after (Err Error.Damaged) current other entries
 added s current other entries key value (Lookup.At t before n) =
-    After.after (AddAnswer.Refused Error.Present) current other entries
+    After.after (Err Error.Present) current other entries
 added s current other entries key value Lookup.Absent =
     cond (eqb (keys_held s) s.capacity)
-    (After.after (AddAnswer.Refused Error.Full) current other entries)
+    (After.after (Err Error.Full) current other entries)
     (cond (takeable s entries)
     (pushed s current other entries key value (target s.rehashing))
-    (After.after (AddAnswer.Refused Error.Damaged) current other entries))
+    (After.after (Err Error.Damaged) current other entries))
 
 -- add alone, with no step
-unfoldable pub add_alone : State → List ℕ → List ℕ → List ℕ → ℕ → ℕ → After AddAnswer
+unfoldable pub add_alone : State → List ℕ → List ℕ → List ℕ → ℕ → ℕ → After (Result State Error)
 add_alone s first second entries key value =
-    writing s first second entries (AddAnswer.Refused Error.BadState)
+    writing s first second entries (Err Error.BadState)
     (λ current other. added s current other entries key value (lookup s current other entries key))
 
 -- Delete
@@ -250,20 +242,20 @@ unfoldable pub unlink_entry : List ℕ → ℕ → ℕ → List ℕ
 unlink_entry entries before n = set_link entries before (link_of entries n)
 
 -- the entry at the head of the free list, its key and value zeroed
-unfoldable pub removed : State → List ℕ → List ℕ → List ℕ → ℕ → Table → ℕ → ℕ → After DeleteAnswer
+unfoldable pub removed : State → List ℕ → List ℕ → List ℕ → ℕ → Table → ℕ → ℕ → After (Result State Error)
 removed s current other entries key t before n =
-    changed t (DeleteAnswer.Deleted (recounted s n (with_count s t (used_of s t - 1)))) current other
+    changed t (Ok (recounted s n (with_count s t (used_of s t - 1)))) current other
     (unlink_bucket (buckets_of current other t) entries (bucket_of key (size_of s t)) before n)
     (set_entry (unlink_entry entries before n) n s.free_head 0 0)
 
-unfoldable pub deleted : State → List ℕ → List ℕ → List ℕ → ℕ → Lookup → After DeleteAnswer
+unfoldable pub deleted : State → List ℕ → List ℕ → List ℕ → ℕ → Lookup → After (Result State Error)
 deleted s current other entries key l =
-    held (λ e. After.after (DeleteAnswer.Refused e) current other entries) (removed s current other entries key) l
+    held (λ e. After.after (Err e) current other entries) (removed s current other entries key) l
 
 -- delete alone, with no step
-unfoldable pub delete_alone : State → List ℕ → List ℕ → List ℕ → ℕ → After DeleteAnswer
+unfoldable pub delete_alone : State → List ℕ → List ℕ → List ℕ → ℕ → After (Result State Error)
 delete_alone s first second entries key =
-    writing s first second entries (DeleteAnswer.Refused Error.BadState)
+    writing s first second entries (Err Error.BadState)
     (λ current other. deleted s current other entries key (lookup s current other entries key))
 
 -- Resize
@@ -276,16 +268,16 @@ unfoldable pub resizing : State → ℕ → State
 resizing s size =
     retabled s s.second_is_current (old_new s.old_size size) (old_new s.old_used 0) true 0
 
-unfoldable pub resized : State → List ℕ → List ℕ → List ℕ → ℕ → Bool → After ResizeAnswer
-resized s current other entries size true = After.after (ResizeAnswer.Refused Error.Rehashing) current other entries
+unfoldable pub resized : State → List ℕ → List ℕ → List ℕ → ℕ → Bool → After (Result State Error)
+resized s current other entries size true = After.after (Err Error.Rehashing) current other entries
 resized s current other entries size false =
     cond (acceptable s.old_size (length other) size)
-    (After.after (ResizeAnswer.Resized (resizing s size)) current (cleared size other) entries)
-    (After.after (ResizeAnswer.Refused Error.BadSize) current other entries)
+    (After.after (Ok (resizing s size)) current (cleared size other) entries)
+    (After.after (Err Error.BadSize) current other entries)
 
-unfoldable pub resize : State → List ℕ → List ℕ → List ℕ → ℕ → After ResizeAnswer
+unfoldable pub resize : State → List ℕ → List ℕ → List ℕ → ℕ → After (Result State Error)
 resize s first second entries size =
-    writing s first second entries (ResizeAnswer.Refused Error.BadState)
+    writing s first second entries (Err Error.BadState)
     (λ current other. resized s current other entries size s.rehashing)
 
 -- Step
@@ -317,17 +309,17 @@ unfoldable pub settled : State → State
 settled s = cond (eqb s.old_used 0) (finished s) s
 
 -- what it answers then
-unfoldable pub step_done : State → ℕ → ℕ → StepAnswer
-step_done s count next = StepAnswer.Stepped count (settled (advanced s count next))
+unfoldable pub step_done : State → ℕ → ℕ → Result (ℕ × State) Error
+step_done s count next = Ok (count, (settled (advanced s count next)))
 
-unfoldable pub moved_chain : State → List ℕ → List ℕ → List ℕ → ℕ → Option (List ℕ) → After StepAnswer
-moved_chain s current other entries b none = After.after (StepAnswer.Refused Error.Damaged) current other entries
+unfoldable pub moved_chain : State → List ℕ → List ℕ → List ℕ → ℕ → Option (List ℕ) → After (Result (ℕ × State) Error)
+moved_chain s current other entries b none = After.after (Err Error.Damaged) current other entries
 moved_chain s current other entries b (some ns) =
     let m = moved s.new_size ns (record { buckets = other; entries = entries }) in
     After.after (step_done s (length ns) (suc b)) (set current b 0) m.buckets m.entries
 
-unfoldable pub moved_from : State → List ℕ → List ℕ → List ℕ → Ahead → After StepAnswer
-moved_from s current other entries Ahead.End = After.after (StepAnswer.Refused Error.Damaged) current other entries
+unfoldable pub moved_from : State → List ℕ → List ℕ → List ℕ → Ahead → After (Result (ℕ × State) Error)
+moved_from s current other entries Ahead.End = After.after (Err Error.Damaged) current other entries
 moved_from s current other entries (Ahead.Empty b) = After.after (step_done s 0 b) current other entries
 moved_from s current other entries (Ahead.Filled b) =
     moved_chain s current other entries b (chain_at s current other entries (Place.bucket Table.Old b))
@@ -336,7 +328,7 @@ unfoldable pub ahead_of : State → List ℕ → Ahead
 ahead_of s current = ahead current s.rehash_index (s.old_size - s.rehash_index) empty_visits
 
 -- during a rehash, with no safe iterator
-unfoldable pub step_taken : State → List ℕ → List ℕ → List ℕ → After StepAnswer
+unfoldable pub step_taken : State → List ℕ → List ℕ → List ℕ → After (Result (ℕ × State) Error)
 step_taken s current other entries =
     cond (eqb s.old_used 0)
     (After.after (step_done s 0 s.rehash_index) current other entries)
@@ -346,16 +338,16 @@ step_taken s current other entries =
 unfoldable pub paused : State → Bool
 paused s = ltb 0 s.safe_iterators
 
-unfoldable pub stepped : State → List ℕ → List ℕ → List ℕ → Bool → After StepAnswer
-stepped s current other entries false = After.after (StepAnswer.Refused Error.NotRehashing) current other entries
+unfoldable pub stepped : State → List ℕ → List ℕ → List ℕ → Bool → After (Result (ℕ × State) Error)
+stepped s current other entries false = After.after (Err Error.NotRehashing) current other entries
 stepped s current other entries true =
     cond (paused s)
-    (After.after (StepAnswer.Refused Error.Paused) current other entries)
+    (After.after (Err Error.Paused) current other entries)
     (step_taken s current other entries)
 
-unfoldable pub rehash_step : State → List ℕ → List ℕ → List ℕ → After StepAnswer
+unfoldable pub rehash_step : State → List ℕ → List ℕ → List ℕ → After (Result (ℕ × State) Error)
 rehash_step s first second entries =
-    writing s first second entries (StepAnswer.Refused Error.BadState)
+    writing s first second entries (Err Error.BadState)
     (λ current other. stepped s current other entries s.rehashing)
 
 -- The step that comes first: add and delete during a rehash that is not held up
@@ -367,10 +359,10 @@ unless_refused done first second entries (After.after answer x y z) =
 
 -- a call on what a step leaves. If the step or the call refuses, that is the answer, and all is as before both.
 unfoldable pub call_after : {A : Type 0} → (Error → A) → (A → Bool) → (State → List ℕ → List ℕ → List ℕ → After A)
-    → List ℕ → List ℕ → List ℕ → After StepAnswer → After A
-call_after refused done call first second entries (After.after (StepAnswer.Refused e) x y z) =
+    → List ℕ → List ℕ → List ℕ → After (Result (ℕ × State) Error) → After A
+call_after refused done call first second entries (After.after (Err e) x y z) =
     After.after (refused e) first second entries
-call_after refused done call first second entries (After.after (StepAnswer.Stepped count t) x y z) =
+call_after refused done call first second entries (After.after (Ok (count, t)) x y z) =
     unless_refused done first second entries (call t x y z)
 
 unfoldable pub step_due : State → Bool
@@ -383,22 +375,22 @@ step_first refused done call s first second entries =
     (call_after refused done call first second entries (rehash_step s first second entries))
     (call s first second entries)
 
-unfoldable pub is_added : AddAnswer → Bool
-is_added (AddAnswer.Added t) = true
-is_added (AddAnswer.Refused e) = false
+unfoldable pub is_added : Result State Error → Bool
+is_added (Ok t) = true
+is_added (Err e) = false
 
 -- add with its step, before any growth
-unfoldable pub add_after_step : State → List ℕ → List ℕ → List ℕ → ℕ → ℕ → After AddAnswer
+unfoldable pub add_after_step : State → List ℕ → List ℕ → List ℕ → ℕ → ℕ → After (Result State Error)
 add_after_step s first second entries key value =
-    step_first AddAnswer.Refused is_added (λ t x y z. add_alone t x y z key value) s first second entries
+    step_first Err is_added (λ t x y z. add_alone t x y z key value) s first second entries
 
-unfoldable pub is_deleted : DeleteAnswer → Bool
-is_deleted (DeleteAnswer.Deleted t) = true
-is_deleted (DeleteAnswer.Refused e) = false
+unfoldable pub is_deleted : Result State Error → Bool
+is_deleted (Ok t) = true
+is_deleted (Err e) = false
 
-unfoldable pub delete : State → List ℕ → List ℕ → List ℕ → ℕ → After DeleteAnswer
+unfoldable pub delete : State → List ℕ → List ℕ → List ℕ → ℕ → After (Result State Error)
 delete s first second entries key =
-    step_first DeleteAnswer.Refused is_deleted (λ t x y z. delete_alone t x y z key) s first second entries
+    step_first Err is_deleted (λ t x y z. delete_alone t x y z key) s first second entries
 
 -- Suggested size
 
@@ -415,10 +407,10 @@ unfoldable pub suggested : Bool → ℕ → ℕ
 suggested true keys = size_for (keys * 2)
 suggested false keys = size_for keys
 
-unfoldable pub suggested_size : State → List ℕ → List ℕ → List ℕ → Bool → SizeAnswer
+unfoldable pub suggested_size : State → List ℕ → List ℕ → List ℕ → Bool → Result ℕ Error
 suggested_size s first second entries growing =
-    reading s first second entries (SizeAnswer.Refused Error.BadState)
-    (λ current other. SizeAnswer.Suggested (suggested growing (keys_held s)))
+    reading s first second entries (Err Error.BadState)
+    (λ current other. Ok (suggested growing (keys_held s)))
 
 -- Growth: the resize that may follow an add
 
@@ -432,30 +424,30 @@ unfoldable pub growth_due : Bool → ℕ → ℕ → Bool
 growth_due allowed size keys = crowded allowed size keys && ltb size (suggested true keys)
 
 -- an add is answered, whatever the resize behind it answers
-unfoldable pub grown_by : State → After ResizeAnswer → After AddAnswer
-grown_by s (After.after (ResizeAnswer.Resized t) first second entries) = After.after (AddAnswer.Added t) first second entries
-grown_by s (After.after (ResizeAnswer.Refused e) first second entries) = After.after (AddAnswer.Added s) first second entries
+unfoldable pub grown_by : State → After (Result State Error) → After (Result State Error)
+grown_by s (After.after (Ok t) first second entries) = After.after (Ok t) first second entries
+grown_by s (After.after (Err e) first second entries) = After.after (Ok s) first second entries
 
 -- on what an answered add left: with one table
-unfoldable pub grown : State → List ℕ → List ℕ → List ℕ → After AddAnswer
+unfoldable pub grown : State → List ℕ → List ℕ → List ℕ → After (Result State Error)
 grown s first second entries =
     cond (not s.rehashing && growth_due s.resize_allowed s.old_size (keys_held s))
     (grown_by s (resize s first second entries (suggested true (keys_held s))))
-    (After.after (AddAnswer.Added s) first second entries)
+    (After.after (Ok s) first second entries)
 
-unfoldable pub then_grown : After AddAnswer → After AddAnswer
-then_grown (After.after (AddAnswer.Refused e) first second entries) = After.after (AddAnswer.Refused e) first second entries
-then_grown (After.after (AddAnswer.Added s) first second entries) = grown s first second entries
+unfoldable pub then_grown : After (Result State Error) → After (Result State Error)
+then_grown (After.after (Err e) first second entries) = After.after (Err e) first second entries
+then_grown (After.after (Ok s) first second entries) = grown s first second entries
 
-unfoldable pub add : State → List ℕ → List ℕ → List ℕ → ℕ → ℕ → After AddAnswer
+unfoldable pub add : State → List ℕ → List ℕ → List ℕ → ℕ → ℕ → After (Result State Error)
 add s first second entries key value = then_grown (add_after_step s first second entries key value)
 
 -- Permission to grow
 
-unfoldable pub allow_resize : State → List ℕ → List ℕ → List ℕ → Bool → StateAnswer
+unfoldable pub allow_resize : State → List ℕ → List ℕ → List ℕ → Bool → Result State Error
 allow_resize s first second entries allowed =
-    reading s first second entries (StateAnswer.Refused Error.BadState)
-    (λ current other. StateAnswer.Set (noted s allowed s.safe_iterators))
+    reading s first second entries (Err Error.BadState)
+    (λ current other. Ok (noted s allowed s.safe_iterators))
 
 -- Look
 

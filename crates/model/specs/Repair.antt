@@ -1,5 +1,5 @@
 -- SPECIFICATION, "Check and mend": the mend. What it leaves of any memory, for a state that is sound.
-use Rattle.std.specs.Prelude.{ℕ, zero, suc, Bool, true, false, ◌&&◌, not, cond, List, [], ◌∷◌, ◌++◌, length, get_or, set, leb, eqb}
+use Rattle.std.specs.Prelude.{ℕ, zero, suc, Bool, true, false, ◌&&◌, not, cond, List, [], ◌∷◌, ◌++◌, length, get_or, set, leb, eqb, Result, Ok, Err}
 use Rattle.std.proofs.Math.Option.{Option, none, some}
 use Rattle.cursor.specs.Member.{among, keep}
 use Rattle.model.specs.declared.State.{State}
@@ -8,7 +8,6 @@ use Rattle.model.specs.declared.Error.{Error}
 use Rattle.model.specs.Memory.{link_of, key_of, set_link, set_entry, size_of, buckets_of, in_bucket, sum}
 use Rattle.model.specs.Calls.{After, state_of, writing}
 use Rattle.model.specs.Iterators.{first_from}
-use Rattle.model.specs.declared.RepairAnswer.{RepairAnswer}
 
 -- The entries met: through the old table's buckets upwards, then the new one's, each chain from its head until 0, a number out
 -- of range, an entry met before, or a key out of its bucket. The links are those of the memory given.
@@ -124,13 +123,13 @@ repaired_state s current other entries =
     s.rehashing (repaired_index (kept_at s current other entries Table.Old) s.rehash_index)
     (first_or0 (freed_list s current other entries)) s.capacity s.resize_allowed s.safe_iterators
 
-unfoldable pub repaired : State → List ℕ → List ℕ → List ℕ → After RepairAnswer
+unfoldable pub repaired : State → List ℕ → List ℕ → List ℕ → After (Result State Error)
 repaired s current other entries =
-    After.after (RepairAnswer.Repaired (repaired_state s current other entries))
+    After.after (Ok (repaired_state s current other entries))
     (repaired_buckets s current other entries Table.Old) (repaired_buckets s current other entries Table.New)
     (repaired_entries s current other entries)
 
-unfoldable pub repair : State → List ℕ → List ℕ → List ℕ → After RepairAnswer
+unfoldable pub repair : State → List ℕ → List ℕ → List ℕ → After (Result State Error)
 repair s first second entries =
-    writing s first second entries (RepairAnswer.Refused Error.BadState)
+    writing s first second entries (Err Error.BadState)
     (λ current other. repaired s current other entries)

@@ -1,7 +1,7 @@
 -- SPECIFICATION, "Check and mend": the check. Whether a store whose state is sound is undamaged, as the code finds it out: no
 -- entry is marked, but every entry looks up its own key. That it says yes exactly of an undamaged store is proved
 -- (`verified_tells`, integrity).
-use Rattle.std.specs.Prelude.{ℕ, zero, suc, ◌+◌, ◌-◌, Bool, true, false, ◌&&◌, not, cond, List, [], ◌∷◌, length, get_or, eqb}
+use Rattle.std.specs.Prelude.{ℕ, zero, suc, ◌+◌, ◌-◌, Bool, true, false, ◌&&◌, not, cond, List, [], ◌∷◌, length, get_or, eqb, Result, Ok, Err}
 use Rattle.std.proofs.Math.Option.{Option, none, some}
 use Rattle.model.specs.declared.State.{State}
 use Rattle.model.specs.declared.Table.{Table}
@@ -9,7 +9,6 @@ use Rattle.model.specs.declared.Error.{Error}
 use Rattle.model.specs.declared.Lookup.{Lookup}
 use Rattle.model.specs.Memory.{key_of, size_of, used_of, keys_held, Place, chain_at, entries_at, sum, last_or}
 use Rattle.model.specs.Calls.{lookup, reading}
-use Rattle.model.specs.declared.VerifyAnswer.{VerifyAnswer}
 
 unfoldable pub is_sound : Option (List ℕ) → Bool
 is_sound none = false
@@ -64,7 +63,7 @@ verified s current other entries =
     && free_verified (finds_itself s current other entries) (s.capacity - keys_held s) (chain_at s current other entries Place.free)
     && eqb (counted (finds_itself s current other entries) s.capacity) (keys_held s)
 
-unfoldable pub verify : State → List ℕ → List ℕ → List ℕ → VerifyAnswer
+unfoldable pub verify : State → List ℕ → List ℕ → List ℕ → Result Bool Error
 verify s first second entries =
-    reading s first second entries (VerifyAnswer.Refused Error.BadState)
-    (λ current other. VerifyAnswer.Verified (verified s current other entries))
+    reading s first second entries (Err Error.BadState)
+    (λ current other. Ok (verified s current other entries))

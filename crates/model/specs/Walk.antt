@@ -1,13 +1,13 @@
 -- SPECIFICATION, "The walk": what one walk call answers and hands out. The next cursor and the group are those of cursor.
-use Rattle.std.specs.Prelude.{ℕ, ◌*◌, min, Bool, true, false, cond, List, [], ◌∷◌, ◌++◌, map, length, drop, leb, ltb, eqb}
+use Rattle.std.specs.Prelude.{ℕ, ◌*◌, min, Bool, true, false, cond, List, [], ◌∷◌, ◌++◌, map, length, drop, leb, ltb, eqb, Result, Ok, Err}
 use Rattle.std.proofs.Math.Option.{Option, none, some}
 use Rattle.cursor.specs.Group.{Group, one_table, two_tables}
 use Rattle.model.specs.declared.State.{State}
 use Rattle.model.specs.declared.Table.{Table}
 use Rattle.model.specs.declared.Error.{Error}
-use Rattle.model.specs.declared.ScanAnswer.{ScanAnswer}
 use Rattle.model.specs.Memory.{key_of, value_of, keys_held, Place, chain_at}
 use Rattle.model.specs.Calls.{reading}
+use Rattle.model.specs.declared.ScanError.{ScanError}
 
 -- The live tables, by their sizes.
 
@@ -62,7 +62,7 @@ at_most most (some ns) = cond (leb (length ns) most) (some ns) none
 
 -- What a walk call answers, and the lent list after it. The three buffers stay.
 pub data AfterScan : Type 0 where
-  after : ScanAnswer → List ℕ → AfterScan
+  after : Result (ℕ × ℕ) ScanError → List ℕ → AfterScan
 
 -- keys and values as pairs
 unfoldable pub pairs : List ℕ → List ℕ → List ℕ
@@ -71,18 +71,18 @@ pairs entries (n ∷ ns) = key_of entries n ∷ value_of entries n ∷ pairs ent
 
 -- the pairs at the front of the lent list, if it has two numbers for each
 unfoldable pub scanned : List ℕ → List ℕ → ℕ → Option (List ℕ) → AfterScan
-scanned entries lent next none = AfterScan.after (ScanAnswer.Refused Error.Damaged) lent
+scanned entries lent next none = AfterScan.after (Err (ScanError.Refused Error.Damaged)) lent
 scanned entries lent next (some ns) =
     cond (leb (length ns * 2) (length lent))
-    (AfterScan.after (ScanAnswer.Scanned next (length ns)) (pairs entries ns ++ drop (length ns * 2) lent))
-    (AfterScan.after (ScanAnswer.Short (length ns)) lent)
+    (AfterScan.after (Ok (next, (length ns))) (pairs entries ns ++ drop (length ns * 2) lent))
+    (AfterScan.after (Err (ScanError.Short (length ns))) lent)
 
 -- with no keys held no chain is read; those of a group together may have as many entries as keys are held
 unfoldable pub scan : State → List ℕ → List ℕ → List ℕ → List ℕ → ℕ → AfterScan
 scan s first second entries lent cursor =
-    reading s first second entries (AfterScan.after (ScanAnswer.Refused Error.BadState) lent)
+    reading s first second entries (AfterScan.after (Err (ScanError.Refused Error.BadState)) lent)
     (λ current other.
     cond (eqb (keys_held s) 0)
-    (AfterScan.after (ScanAnswer.Scanned 0 0) lent)
+    (AfterScan.after (Ok (0, 0)) lent)
     (scanned entries lent (group (tables_of s) cursor).answered
     (at_most (keys_held s) (chains_at s current other entries (group_places (tables_of s) cursor)))))

@@ -1,4 +1,5 @@
-// The types of the store: the state that its caller holds, and what each call answers. What the calls mean is in specs/.
+// The types of the store: the state that its caller holds, and why a call refuses. A call answers a `Result`: the state that it
+// leaves, or what it was asked for. What the calls mean is in specs/.
 #![tactic(auto)]
 
 // The most entries that a store can have.
@@ -43,8 +44,7 @@ pub struct State {
     pub safe_iterators: u32,
 }
 
-// Why a call refused (SPECIFICATION, "Answers"). A walk call, or one that iterates, that is short of room says so in its own
-// answer.
+// Why a call refused (SPECIFICATION, "Answers"). A walk call, or one that iterates, may also be short of room: `ScanError`.
 #[derive(Clone, Copy)]
 pub enum Error {
     BadState,
@@ -98,94 +98,16 @@ pub enum Ahead {
     End,
 }
 
-// A refused start hands back a state of zeros.
+// Why a start refused, and the state of zeros that it hands back.
 #[derive(Clone, Copy)]
-pub enum InitAnswer {
-    Ready(State),
-    Refused(Error, State),
+pub struct Unstarted {
+    pub error: Error,
+    pub state: State,
 }
 
+// Why a walk call, or one that iterates, handed nothing out: its list is short of room for so many keys, or it refused.
 #[derive(Clone, Copy)]
-pub enum FindAnswer {
-    Found(u32),
-    Refused(Error),
-}
-
-#[derive(Clone, Copy)]
-pub enum UpdateAnswer {
-    Updated,
-    Refused(Error),
-}
-
-#[derive(Clone, Copy)]
-pub enum AddAnswer {
-    Added(State),
-    Refused(Error),
-}
-
-#[derive(Clone, Copy)]
-pub enum DeleteAnswer {
-    Deleted(State),
-    Refused(Error),
-}
-
-#[derive(Clone, Copy)]
-pub enum ResizeAnswer {
-    Resized(State),
-    Refused(Error),
-}
-
-// The permission, and a safe iterator's begin and end: the state with that field set.
-#[derive(Clone, Copy)]
-pub enum StateAnswer {
-    Set(State),
-    Refused(Error),
-}
-
-// An iterator's begin answers the fingerprint that its end asks for.
-#[derive(Clone, Copy)]
-pub enum BeginAnswer {
-    Begun(u64),
-    Refused(Error),
-}
-
-#[derive(Clone, Copy)]
-pub enum EndAnswer {
-    Ended,
-    Refused(Error),
-}
-
-// A step answers how many entries it moved; the state says whether the rehash goes on.
-#[derive(Clone, Copy)]
-pub enum StepAnswer {
-    Stepped(u32, State),
-    Refused(Error),
-}
-
-#[derive(Clone, Copy)]
-pub enum SizeAnswer {
-    Suggested(u32),
-    Refused(Error),
-}
-
-// A walk call answers the next cursor and how many keys it handed out; a short one, how many it would have. So does a call
-// that iterates, with the next place.
-#[derive(Clone, Copy)]
-pub enum ScanAnswer {
-    Scanned(u32, u32),
+pub enum ScanError {
     Short(u32),
-    Refused(Error),
-}
-
-// Whether the store is undamaged.
-#[derive(Clone, Copy)]
-pub enum VerifyAnswer {
-    Verified(bool),
-    Refused(Error),
-}
-
-#[derive(Clone, Copy)]
-pub enum RepairAnswer {
-    Repaired(State),
     Refused(Error),
 }

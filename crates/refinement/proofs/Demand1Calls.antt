@@ -15,14 +15,6 @@ use Rattle.model.specs.declared.Table.{Table}
 use Rattle.model.specs.declared.Error.{Error}
 use Rattle.model.specs.declared.Lookup.{Lookup}
 use Rattle.model.specs.declared.Ahead.{Ahead}
-use Rattle.model.specs.declared.EndAnswer.{EndAnswer}
-use Rattle.model.specs.declared.InitAnswer.{InitAnswer}
-use Rattle.model.specs.declared.UpdateAnswer.{UpdateAnswer}
-use Rattle.model.specs.declared.AddAnswer.{AddAnswer}
-use Rattle.model.specs.declared.DeleteAnswer.{DeleteAnswer}
-use Rattle.model.specs.declared.ResizeAnswer.{ResizeAnswer}
-use Rattle.model.specs.declared.StepAnswer.{StepAnswer}
-use Rattle.model.specs.declared.StateAnswer.{StateAnswer}
 use Rattle.model.specs.Answers.{Reply, reply, error_number, init_reply, find_reply, update_reply, add_reply, delete_reply, resize_reply, step_reply, size_reply, state_reply, begin_reply, end_reply, table_reply}
 use Rattle.model.specs.Limits.{largest_exponent, legal_capacity, legal_size, empty_visits, most_safe_iterators}
 use Rattle.model.specs.Memory.{link_of, buckets_of, keys_held, Place, chain_at}
@@ -47,6 +39,7 @@ use Rattle.refinement.proofs.HiddenSteps.{alone}
 use Rattle.refinement.proofs.Demand1Chains.{AtPlace, place_read, place_sound}
 use Rattle.refinement.proofs.Demand1Tests.{Passes, passes_same, passes_not, passes_or, passes_le, passes_lt, passes_ne}
 use Rattle.refinement.proofs.Demand1Reads.{Says, lookup_says, StepMeets, step_meets, same_first}
+use Rattle.std.specs.Prelude.{Result, Err}
 
 -- ---- an outcome that goes by the table
 
@@ -198,7 +191,7 @@ module _ (w : World) where
   passes_free f = passes_same (λ h. (f, h)) (λ h. h.1) (passes_or (passes_ne _ _) (passes_le _ _))
 
   -- add of a key that is not there
-  added_good : {c : Call} (key value : ℕ) → Refusing c (add_reply w.state) AddAnswer.Refused
+  added_good : {c : Call} (key value : ℕ) → Refusing c (add_reply w.state) Err
       → Good w c (row 5 (Full w) ∷ row 2 (FreeListDamaged w) ∷ [])
       (put w (add_reply w.state) (here added key value Lookup.Absent))
   unfolding row added add_reply reply error_number pushed push Full
@@ -219,19 +212,19 @@ module _ (w : World) where
       held_good key (λ l. kept w (find_reply w.state (found w.entries l)) []) (refl, refl) (refl, refl)
       (λ t before n. Good.answered refl refl))
   alone_good key (KeyCall.update value) =
-      written _ (update_reply w.state) UpdateAnswer.Refused (λ e. (refl, refl)) _
+      written _ (update_reply w.state) Err (λ e. (refl, refl)) _
       (λ refuse.
       held_good key (λ l. put w (update_reply w.state) (updated (current w) (other w) w.entries value l))
       (refuse Error.Damaged) (refuse Error.Absent)
       (λ t before n.
       done (update_reply w.state) _ _ _ _ refl refl refl (length_set_value w.entries n value)))
   alone_good key (KeyCall.add value) =
-      written _ (add_reply w.state) AddAnswer.Refused (λ e. (refl, refl)) _
+      written _ (add_reply w.state) Err (λ e. (refl, refl)) _
       (λ refuse.
       looked key (λ l. put w (add_reply w.state) (here added key value l)) (refuse Error.Damaged)
       (λ n. Good.past n (added_good key value refuse)) (λ h t before n. Good.refused h (refuse Error.Present)))
   alone_good key KeyCall.delete =
-      written _ (delete_reply w.state) DeleteAnswer.Refused (λ e. (refl, refl)) _
+      written _ (delete_reply w.state) Err (λ e. (refl, refl)) _
       (λ refuse.
       held_good key (λ l. put w (delete_reply w.state) (here deleted key l)) (refuse Error.Damaged) (refuse Error.Absent)
       (λ t before n.
@@ -249,10 +242,10 @@ module _ (w : World) where
   pub resized_good : (size : ℕ) → Good w (Call.resize size) (rows w (Call.resize size)) (perform w (Call.resize size))
   unfolding perform rows row given calls.resize resized LeavesAll Leaves resize_reply reply error_number kept
   resized_good size =
-      written (Call.resize size) (resize_reply w.state) ResizeAnswer.Refused (λ e. (refl, refl)) _
+      written (Call.resize size) (resize_reply w.state) Err (λ e. (refl, refl)) _
       (λ refuse. by refuse w.state.rehashing)
     where
-      by : Refusing (Call.resize size) (resize_reply w.state) ResizeAnswer.Refused → (t : Bool)
+      by : Refusing (Call.resize size) (resize_reply w.state) Err → (t : Bool)
           → Good w (Call.resize size)
           (row 7 (t ≡ true)
           ∷ row 6 ((¬ (legal_size size ≡ true)) ⊎ (size ≡ w.state.old_size) ⊎ (length (other w) < size))
@@ -283,7 +276,7 @@ module _ (w : World) where
   step_passing b is below all (pos, inl (reach, end)) = omega arith
   step_passing b is below all (pos, inr (a, g, h)) = g.filled (all a g.from_next (omega (arith, g.in_reach)))
 
-  module _ (refuse : Refusing Call.rehash_step (step_reply w.state) StepAnswer.Refused) where
+  module _ (refuse : Refusing Call.rehash_step (step_reply w.state) Err) where
     moved_good : 0 < w.state.old_used → (b : ℕ) → FirstFilled w b → (o : Option (List ℕ))
         → AtPlace w (Place.bucket Table.Old b) o
         → Good w Call.rehash_step (row 2 (StepDamaged w) ∷ []) (put w (step_reply w.state) (here moved_chain b o))
@@ -324,7 +317,7 @@ module _ (w : World) where
   pub step_good : Good w Call.rehash_step (rows w Call.rehash_step) (perform w Call.rehash_step)
   unfolding perform rows given calls.rehash_step LeavesAll Leaves step_reply reply kept
   step_good =
-      written Call.rehash_step (step_reply w.state) StepAnswer.Refused (λ e. (refl, refl)) _
+      written Call.rehash_step (step_reply w.state) Err (λ e. (refl, refl)) _
       (λ refuse. stepped_good refuse w.state.rehashing)
 
   -- ---- init, and the calls that only read
@@ -334,7 +327,7 @@ module _ (w : World) where
   unfolding perform rows row calls.init init_reply reply error_number LeavesAll Leaves left kept carry lengths_of world long_enough
   init_good capacity size =
       let refuse : (e : Error) → Refuses w (Call.init capacity size) (error_number e)
-      (left init_reply (After.after (InitAnswer.Refused e no_state) w.first w.second w.entries)) =
+      (left init_reply (After.after (Err (record { error = e; state = no_state })) w.first w.second w.entries)) =
       λ e. (refl, refl)
       in
       gated (left init_reply) (passes_not (tells_and (tells_true (legal_capacity capacity)) (tells_true (legal_size size))))
@@ -369,7 +362,7 @@ module _ (w : World) where
       read (λ a. kept w (end_reply w.state a) []) _ _ (refl, refl)
       (λ h.
       let refuse : (e : Error) → Refuses w (Call.read (ReadCall.end_iterator fingerprint)) (error_number e)
-      (kept w (end_reply w.state (EndAnswer.Refused e)) []) =
+      (kept w (end_reply w.state (Err e)) []) =
       λ e. (refl, refl)
       in
       gated (λ a. kept w (end_reply w.state a) []) (passes_not (tells_eq fingerprint _)) (λ e. Good.answered refl refl)
@@ -377,7 +370,7 @@ module _ (w : World) where
 
   -- ---- the calls that set a field of the state
 
-  abbrev set_out : StateAnswer → Outcome
+  abbrev set_out : Result State Error → Outcome
   set_out a = kept w (state_reply w.state a) []
 
   fewer_good : (iterators : ℕ)
@@ -393,7 +386,7 @@ module _ (w : World) where
       read set_out _ _ (refl, refl)
       (λ h.
       let refuse : (e : Error) → Refuses w (Call.note StateCall.begin_safe) (error_number e)
-      (set_out (StateAnswer.Refused e)) =
+      (set_out (Err e)) =
       λ e. (refl, refl)
       in
       gated set_out (passes_lt _ most_safe_iterators) (λ e. Good.answered refl refl) (refuse Error.TooManyIterators))

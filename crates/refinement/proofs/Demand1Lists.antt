@@ -10,7 +10,6 @@ use native.Mathlib.Omega.{arith}
 use lib.Dec.{leb}
 use lib.ListN.{length}
 use Rattle.model.specs.declared.Error.{Error}
-use Rattle.model.specs.declared.ScanAnswer.{ScanAnswer}
 use Rattle.model.specs.Answers.{reply, error_number, scan_reply}
 use Rattle.model.specs.Memory.{keys_held, chain_at}
 use Rattle.model.specs.Walk.{AfterScan, tables_of, group, chains_at, at_most, scanned}
@@ -26,16 +25,18 @@ use Rattle.refinement.proofs.Demand1Tests.{Passes, passes_same, passes_le}
 use Rattle.refinement.proofs.Demand1Chains.{AtPlace, place_read, place_chain, place_sound, same_count}
 use Rattle.refinement.proofs.Demand1Reads.{Entries, places_say, same_keys, PassMeets, pass_meets, same_from}
 use Rattle.refinement.proofs.Demand1Calls.{Refuses, Good, gated, here, read}
+use Rattle.std.specs.Prelude.{Result, Ok, Err}
+use Rattle.model.specs.declared.ScanError.{ScanError}
 
 module _ (w : World) where
   -- ---- what both answer, by the entries to be handed out
 
   module _ (c : Call) (due : ℕ → Type 0) (lent : List ℕ) (all : (o : Outcome) → LeavesList w o due lent → LeavesAll w c o) where
-    abbrev answer : ScanAnswer → Outcome
+    abbrev answer : Result (ℕ × ℕ) ScanError → Outcome
     answer a = kept_scan w (AfterScan.after a lent)
 
     -- refused with no count
-    list_refuses : (e : Error) → ¬ (error_number e ≡ 9) → Refuses w c (error_number e) (answer (ScanAnswer.Refused e))
+    list_refuses : (e : Error) → ¬ (error_number e ≡ 9) → Refuses w c (error_number e) (answer (Err (ScanError.Refused e)))
     unfolding LeavesList Leaves kept_scan kept scan_reply reply
     list_refuses e f = (refl, all _ (0, record { short = λ n. absurd (f n); else = λ n. refl }, refl))
 
@@ -75,7 +76,7 @@ module _ (w : World) where
       where
         damaged : GroupDamaged w cursor
             → Good w walks (row 2 (GroupDamaged w cursor) ∷ row 9 (Short w cursor lent) ∷ [])
-            (kept_scan w (AfterScan.after (ScanAnswer.Refused Error.Damaged) lent))
+            (kept_scan w (AfterScan.after (Err (ScanError.Refused Error.Damaged)) lent))
         damaged d = Good.refused d (list_refuses walks _ lent walk_leaves Error.Damaged (λ e. omega arith))
 
         -- sound chains: no more entries than keys held
@@ -96,7 +97,7 @@ module _ (w : World) where
         by : (o : Option (List ℕ)) → Entries w (places w cursor) o → (next : ℕ) {t : Bool} → Tells (keys_held w.state ≡ 0) t
             → Good w walks (row 2 (GroupDamaged w cursor) ∷ row 9 (Short w cursor lent) ∷ [])
             (kept_scan w
-            (cond t (AfterScan.after (ScanAnswer.Scanned 0 0) lent) (scanned w.entries lent next (at_most (keys_held w.state) o))))
+            (cond t (AfterScan.after (Ok (0, 0)) lent) (scanned w.entries lent next (at_most (keys_held w.state) o))))
         by o h next (Tells.holds e) =
             Good.past (λ (d : GroupDamaged w cursor). omega (arith, d.0))
             (Good.past (λ (d : Short w cursor lent). omega (arith, d.0)) (Good.answered refl refl))

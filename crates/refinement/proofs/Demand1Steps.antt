@@ -7,7 +7,6 @@ use mathlib.Core.Bool.{Bool, true, false, ◌&&◌}
 use mathlib.Core.List.{List, [], ◌∷◌}
 use mathlib.Core.Logic.{inl, inr}
 use native.Mathlib.Omega.{arith}
-use Rattle.model.specs.declared.StepAnswer.{StepAnswer}
 use Rattle.model.specs.Answers.{reply, step_reply}
 use Rattle.model.specs.Calls.{After, paused, step_due}
 use Rattle.model.specs.Calls as calls
@@ -22,6 +21,9 @@ use Rattle.refinement.proofs.Orientation.{sound_at, oriented_read}
 use Rattle.refinement.proofs.HiddenSteps.{alone, before_growth, Rides, some_number, on_rides, on_alone}
 use Rattle.refinement.proofs.Demand1Calls.{Refuses, Good, decides, alone_good, step_good}
 use Rattle.refinement.proofs.Growth.{Follows, grown_lengths, follows}
+use Rattle.std.specs.Prelude.{Result, Ok, Err}
+use Rattle.model.specs.declared.Error.{Error}
+use Rattle.model.specs.declared.State.{State}
 
 -- rows of refusals: their numbers are not 0
 unfoldable pub Numbered : List Row → Type 0
@@ -62,13 +64,13 @@ module _ (w : World) where
       by (given w calls.rehash_step)
       (rehash_leaves w.state w.first w.second w.entries rehashing unpaused (oriented_read w (λ current other. calls.sound w.state current other w.entries) ∙ h))
     where
-      by : (a : After StepAnswer) → RehashLeaves w.state w.first w.second w.entries a
+      by : (a : After (Result (ℕ × State) Error)) → RehashLeaves w.state w.first w.second w.entries a
           → (left (step_reply w.state) a).reply.number ≡ 0
           → (¬ BadState (carry w (left (step_reply w.state) a)))
           × (lengths_of (carry w (left (step_reply w.state) a)) ≡ lengths_of w)
-      by (After.after (StepAnswer.Refused error) x y z) l n =
+      by (After.after (Err error) x y z) l n =
           let (m, is) = some_number error in absurd (omega arith)
-      by (After.after (StepAnswer.Stepped count t) x y z) l n = (
+      by (After.after (Ok (count, t)) x y z) l n = (
         λ b. b (sym (oriented_read (world t x y z) (λ current other. calls.sound t current other z)) ∙ l.4),
         λ k. record { first = l.0 k; second = l.1 k; entries = l.2 k },
       )

@@ -12,7 +12,6 @@ use lib.ListN.{length, drop}
 use lib.Dec.{leb, eqb, eqb-suc-zero}
 use borrow.Author.Tests.{le-leb}
 use Rattle.cursor.specs.Member.{Distinct}
-use Rattle.model.specs.declared.ScanAnswer.{ScanAnswer}
 use Rattle.model.specs.Memory.{Place, size_of, keys_held, key_of, listed}
 use Rattle.model.specs.Answers.{reply, scan_reply}
 use Rattle.model.specs.Walk.{tables_of, group, group_places, chains_at, at_most, AfterScan, pairs, scanned, scan}
@@ -27,6 +26,8 @@ use Rattle.refinement.proofs.Orientation.{reads_sound}
 use Rattle.refinement.proofs.LiveTables.{Buckets, tables_legal, tables_sizes}
 use Rattle.refinement.proofs.GroupPlaces.{group_laws}
 use Rattle.refinement.proofs.BucketEntries.{entries_of, read_some, entries_fit, keys_once}
+use Rattle.std.specs.Prelude.{Ok, Err}
+use Rattle.model.specs.declared.ScanError.{ScanError}
 
 -- ---- a call that hands out some entries, or is short of places for them
 
@@ -48,8 +49,8 @@ module _ (w : World) (lent : List ℕ) (next : ℕ) (ns : List ℕ) where
       by : (t : Bool)
           → kept_scan w
           (cond t
-          (AfterScan.after (ScanAnswer.Scanned next (length ns)) (pairs w.entries ns ++ drop (length ns * 2) lent))
-          (AfterScan.after (ScanAnswer.Short (length ns)) lent))
+          (AfterScan.after (Ok (next, (length ns))) (pairs w.entries ns ++ drop (length ns * 2) lent))
+          (AfterScan.after (Err (ScanError.Short (length ns))) lent))
           ≡ cond t (handing w lent next ns) is_short
       by true = refl
       by false = refl
@@ -66,7 +67,7 @@ module _ (w : World) (lent : List ℕ) (next : ℕ) (ns : List ℕ) where
 
 -- with none it is answered, whatever the list
 pub hands_none : (entries lent : List ℕ) (next : ℕ)
-    → AfterScan.after (ScanAnswer.Scanned next 0) lent ≡ scanned entries lent next (some [])
+    → AfterScan.after (Ok (next, 0)) lent ≡ scanned entries lent next (some [])
 unfolding scanned pairs
 hands_none entries lent next = rw (le-leb 0 (length lent) (omega arith))
 
@@ -74,7 +75,7 @@ hands_none entries lent next = rw (le-leb 0 (length lent) (omega arith))
 
 -- with no keys held there is nothing to hand out, so that the call hands out the group's entries all the same
 held_or_none : (entries lent : List ℕ) (next keys : ℕ) (ns : List ℕ) → length ns ≤ keys
-    → cond (eqb keys 0) (AfterScan.after (ScanAnswer.Scanned 0 0) lent) (scanned entries lent next (some ns))
+    → cond (eqb keys 0) (AfterScan.after (Ok (0, 0)) lent) (scanned entries lent next (some ns))
     ≡ scanned entries lent (next_cursor keys next) (some ns)
 unfolding next_cursor
 held_or_none entries lent next zero [] h = hands_none entries lent 0

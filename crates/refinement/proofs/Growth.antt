@@ -5,8 +5,6 @@ use mathlib.Core.Path.{◌≡◌, refl, sym, ap}
 use mathlib.Core.Bool.{Bool, true, false, ◌&&◌, not, cond}
 use mathlib.Core.List.{List, []}
 use Rattle.model.specs.declared.State.{State}
-use Rattle.model.specs.declared.AddAnswer.{AddAnswer}
-use Rattle.model.specs.declared.ResizeAnswer.{ResizeAnswer}
 use Rattle.model.specs.Answers.{reply, add_reply, resize_reply}
 use Rattle.model.specs.Memory.{keys_held}
 use Rattle.model.specs.Calls.{After, suggested, growth_due, grown_by, grown, then_grown}
@@ -16,6 +14,8 @@ use Rattle.refinement.specs.Worlds.{may_grow}
 use Rattle.refinement.specs.Demand3.{lengths_of}
 use Rattle.refinement.proofs.HiddenSteps.{before_growth, some_number}
 use Rattle.refinement.proofs.Demand1Calls.{good_lengths, resized_good}
+use Rattle.std.specs.Prelude.{Result, Ok, Err}
+use Rattle.model.specs.declared.Error.{Error}
 
 -- growth is due in a world, and what it leaves
 
@@ -46,7 +46,7 @@ pub data Follows (w : World) (c : KeyCall) (before after : Outcome) : Type 0 whe
       → after.reply.values ≡ before.reply.values → carry w after ≡ grown_world (carry w before) → Follows w c before after
 
 module _ (w : World) where
-  abbrev added : After AddAnswer → Outcome
+  abbrev added : After (Result State Error) → Outcome
   added a = left (add_reply w.state) a
 
   -- answered, and that world left
@@ -56,11 +56,11 @@ module _ (w : World) where
     world : carry w o ≡ v
 
   -- by what the resize answered
-  resize_leaves : (t : State) (x y z : List ℕ) (a : After ResizeAnswer)
+  resize_leaves : (t : State) (x y z : List ℕ) (a : After (Result State Error))
       → Leaves (added (grown_by t a)) (carry (world t x y z) (left (resize_reply t) a))
   unfolding grown_by left add_reply resize_reply reply carry carried_state world
-  resize_leaves t x y z (After.after (ResizeAnswer.Resized u) x' y' z') = record { number = refl; values = refl; world = refl }
-  resize_leaves t x y z (After.after (ResizeAnswer.Refused e) x' y' z') =
+  resize_leaves t x y z (After.after (Ok u) x' y' z') = record { number = refl; values = refl; world = refl }
+  resize_leaves t x y z (After.after (Err e) x' y' z') =
       let (n, is) = some_number e in
       record {
         number = refl;
@@ -77,15 +77,15 @@ module _ (w : World) where
       size = suggested true (keys_held t)
 
       by : (due : Bool)
-          → Leaves (added (cond due (grown_by t (calls.resize t x y z size)) (After.after (AddAnswer.Added t) x y z)))
+          → Leaves (added (cond due (grown_by t (calls.resize t x y z size)) (After.after (Ok t) x y z)))
           (cond due (carry (world t x y z) (left (resize_reply t) (calls.resize t x y z size))) (world t x y z))
       by true = resize_leaves t x y z (calls.resize t x y z size)
       by false = record { number = refl; values = refl; world = refl }
 
-  add_follows : (value : ℕ) (a : After AddAnswer) → Follows w (KeyCall.add value) (added a) (added (then_grown a))
+  add_follows : (value : ℕ) (a : After (Result State Error)) → Follows w (KeyCall.add value) (added a) (added (then_grown a))
   unfolding then_grown left add_reply reply carry carried_state world may_grow
-  add_follows value (After.after (AddAnswer.Refused e) x y z) = let (n, is) = some_number e in Follows.refused n is refl
-  add_follows value (After.after (AddAnswer.Added t) x y z) =
+  add_follows value (After.after (Err e) x y z) = let (n, is) = some_number e in Follows.refused n is refl
+  add_follows value (After.after (Ok t) x y z) =
       let l = grown_leaves t x y z in Follows.answered refl refl l.number l.values l.world
 
   pub follows : (key : ℕ) (c : KeyCall) → Follows w c (before_growth w key c) (perform w (Call.on key c))

@@ -7,15 +7,13 @@ use mathlib.Core.List.{List, []}
 use native.Mathlib.Omega.{arith}
 use Rattle.model.specs.declared.State.{State}
 use Rattle.model.specs.declared.Error.{Error}
-use Rattle.model.specs.declared.AddAnswer.{AddAnswer}
-use Rattle.model.specs.declared.DeleteAnswer.{DeleteAnswer}
-use Rattle.model.specs.declared.StepAnswer.{StepAnswer}
 use Rattle.model.specs.Answers.{Reply, reply, error_number, add_reply, delete_reply, step_reply}
 use Rattle.model.specs.Calls.{After, unless_refused, step_due, step_first, is_added, is_deleted}
 use Rattle.model.specs.Calls as calls
 use Rattle.model.specs.Sequences.{World, world, KeyCall, Call, Outcome, kept, left, given, perform, carried_state, carry}
 use Rattle.model.proofs.StepFirst.{resting_first, stepping_first}
 use Rattle.refinement.specs.Worlds.{takes_step}
+use Rattle.std.specs.Prelude.{Result, Ok, Err}
 
 -- a call on a key with no step
 unfoldable pub alone : World → ℕ → KeyCall → Outcome
@@ -68,7 +66,7 @@ module _ {A : Type 0} (refused : Error → A) (done : A → Bool) (replies : Sta
 
   -- once the step is answered
   on_world : (count : ℕ) (t : State) (x y z : List ℕ) (a : After A) → call t x y z ≡ a
-      → Rides w (left (step_reply w.state) (After.after (StepAnswer.Stepped count t) x y z)) then
+      → Rides w (left (step_reply w.state) (After.after (Ok (count, t)) x y z)) then
       (left (replies w.state) (unless_refused done w.first w.second w.entries a))
   unfolding left kept step_reply reply unless_refused carry carried_state world given
   on_world count t x y z (After.after b x' y' z') is = by (kind b)
@@ -87,7 +85,7 @@ module _ {A : Type 0} (refused : Error → A) (done : A → Bool) (replies : Sta
       answers = ap (left (replies t)) is
 
       by : Kind done replies b
-          → Rides w (left (step_reply w.state) (After.after (StepAnswer.Stepped count t) x y z)) then
+          → Rides w (left (step_reply w.state) (After.after (Ok (count, t)) x y z)) then
           (left (replies w.state) (cond (done b) (After.after b x' y' z') (After.after b w.first w.second w.entries)))
       by (Kind.refusal d n r) =
           Rides.call_refused refl n (ap (λ (o : Outcome). o.reply.number) answers ∙ ap (λ (q : Reply State). q.number) (r t))
@@ -98,15 +96,15 @@ module _ {A : Type 0} (refused : Error → A) (done : A → Bool) (replies : Sta
           ∙ ap (λ (q : Reply State). outcome q x' y' z') (r w.state ∙ sym (r t))
           ∙ sym answers)
 
-  rides_by : (a : After StepAnswer)
+  rides_by : (a : After (Result (ℕ × State) Error))
       → Rides w (left (step_reply w.state) a) then
       (left (replies w.state) (calls.call_after refused done call w.first w.second w.entries a))
   unfolding left kept step_reply reply calls.call_after
-  rides_by (After.after (StepAnswer.Refused e) x y z) =
+  rides_by (After.after (Err e) x y z) =
       let (n, is) = some_number e in
       Rides.step_refused n is
       (ap (λ (r : Reply State). kept w r []) (refuses w.state e ∙ ap (λ (m : ℕ). reply m [] w.state) is))
-  rides_by (After.after (StepAnswer.Stepped count t) x y z) = on_world count t x y z (call t x y z) refl
+  rides_by (After.after (Ok (count, t)) x y z) = on_world count t x y z (call t x y z) refl
 
   rides : step_due w.state ≡ true
       → Rides w (perform w Call.rehash_step) then (left (replies w.state) (given w (step_first refused done call)))
@@ -121,23 +119,23 @@ module _ {A : Type 0} (refused : Error → A) (done : A → Bool) (replies : Sta
 
 -- for add and delete
 
-added_kind : (a : AddAnswer) → Kind is_added add_reply a
+added_kind : (a : Result State Error) → Kind is_added add_reply a
 unfolding is_added add_reply reply
-added_kind (AddAnswer.Added t) = Kind.answer refl t (λ s. refl)
-added_kind (AddAnswer.Refused e) =
+added_kind (Ok t) = Kind.answer refl t (λ s. refl)
+added_kind (Err e) =
     let (n, is) = some_number e in Kind.refusal refl n (λ s. ap (λ (m : ℕ). reply m [] s) is)
 
-deleted_kind : (a : DeleteAnswer) → Kind is_deleted delete_reply a
+deleted_kind : (a : Result State Error) → Kind is_deleted delete_reply a
 unfolding is_deleted delete_reply reply
-deleted_kind (DeleteAnswer.Deleted t) = Kind.answer refl t (λ s. refl)
-deleted_kind (DeleteAnswer.Refused e) =
+deleted_kind (Ok t) = Kind.answer refl t (λ s. refl)
+deleted_kind (Err e) =
     let (n, is) = some_number e in Kind.refusal refl n (λ s. ap (λ (m : ℕ). reply m [] s) is)
 
 module _ (w : World) (key : ℕ) where
-  abbrev adds : ℕ → State → List ℕ → List ℕ → List ℕ → After AddAnswer
+  abbrev adds : ℕ → State → List ℕ → List ℕ → List ℕ → After (Result State Error)
   adds value s first second entries = calls.add_alone s first second entries key value
 
-  abbrev deletes : State → List ℕ → List ℕ → List ℕ → After DeleteAnswer
+  abbrev deletes : State → List ℕ → List ℕ → List ℕ → After (Result State Error)
   deletes s first second entries = calls.delete_alone s first second entries key
 
   pub on_rides : (c : KeyCall) → takes_step c ≡ true → step_due w.state ≡ true
@@ -146,9 +144,9 @@ module _ (w : World) (key : ℕ) where
   on_rides KeyCall.find t e = let z : ◌≡◌ {A = ℕ} 0 1 = cc in absurd (omega arith)
   on_rides (KeyCall.update value) t e = let z : ◌≡◌ {A = ℕ} 0 1 = cc in absurd (omega arith)
   on_rides (KeyCall.add value) t e =
-      rides AddAnswer.Refused is_added add_reply (λ s error. refl) added_kind (adds value) w e
+      rides Err is_added add_reply (λ s error. refl) added_kind (adds value) w e
   on_rides KeyCall.delete t e =
-      rides DeleteAnswer.Refused is_deleted delete_reply (λ s error. refl) deleted_kind deletes w e
+      rides Err is_deleted delete_reply (λ s error. refl) deleted_kind deletes w e
 
   -- and else it is the call alone
   pub on_alone : (c : KeyCall) → (takes_step c && step_due w.state) ≡ false → before_growth w key c ≡ alone w key c
@@ -156,7 +154,7 @@ module _ (w : World) (key : ℕ) where
   on_alone KeyCall.find e = refl
   on_alone (KeyCall.update value) e = refl
   on_alone (KeyCall.add value) e =
-      ap (left (add_reply w.state)) (rests AddAnswer.Refused is_added add_reply (λ s error. refl) added_kind (adds value) w e)
+      ap (left (add_reply w.state)) (rests Err is_added add_reply (λ s error. refl) added_kind (adds value) w e)
   on_alone KeyCall.delete e =
       ap (left (delete_reply w.state))
-      (rests DeleteAnswer.Refused is_deleted delete_reply (λ s error. refl) deleted_kind deletes w e)
+      (rests Err is_deleted delete_reply (λ s error. refl) deleted_kind deletes w e)

@@ -16,10 +16,6 @@ use Rattle.cursor.specs.Member.{In, Distinct, keep}
 use Rattle.model.specs.declared.State.{State}
 use Rattle.model.specs.declared.Table.{Table}
 use Rattle.model.specs.declared.Error.{Error}
-use Rattle.model.specs.declared.FindAnswer.{FindAnswer}
-use Rattle.model.specs.declared.UpdateAnswer.{UpdateAnswer}
-use Rattle.model.specs.declared.AddAnswer.{AddAnswer}
-use Rattle.model.specs.declared.DeleteAnswer.{DeleteAnswer}
 use Rattle.model.specs.Answers.{Reply, reply, error_number, find_reply, update_reply, add_reply, delete_reply}
 use Rattle.model.specs.Memory.{Place, Live, size_of, keys_held, key_place, value_of}
 use Rattle.model.specs.Calls.{After, writing, lookup, found, updated, added, deleted, target}
@@ -42,6 +38,7 @@ use Rattle.refinement.proofs.HiddenSteps.{alone}
 use Rattle.refinement.proofs.Refusals.{alone_keeps, find_keeps}
 use Rattle.refinement.proofs.PlainMaps.{pair, value_key, key_value, value_new, value_not_new, distinct_new, value_changed, value_not_changed, keys_changed, length_changed, value_taken, value_not_taken, length_taken, distinct_taken, tells_among}
 use Rattle.refinement.proofs.Agreement.{Agrees, Comes, Says, after_agrees, kept_agrees}
+use Rattle.std.specs.Prelude.{Result, Ok, Err}
 
 not_new : (b c : ℕ) → Place.bucket Table.Old b ≡ Place.bucket Table.New c → ⊥
 not_new b c e = let z : ◌≡◌ {A = ℕ} 0 1 = cc in omega arith
@@ -205,31 +202,31 @@ module _ (w : World) (i : Ideal) (a : Agrees w i) where
     unfolding alone perform given kept calls.find find_reply reply error_number map_answer
     keyed_find = pick (value_for key ps) refl
       where
-        read : FindAnswer → Type 0
+        read : Result ℕ Error → Type 0
         read r = calls.find s w.first w.second w.entries key ≡ r
 
-        stays_by : (r : FindAnswer) (n : ℕ) (vs : List ℕ) → map_does i.plain key KeyCall.find ≡ reply n vs i.plain
+        stays_by : (r : Result ℕ Error) (n : ℕ) (vs : List ℕ) → map_does i.plain key KeyCall.find ≡ reply n vs i.plain
             → (find_reply s r).number ≡ n → (find_reply s r).values ≡ vs → read r
             → Comes w (alone w key KeyCall.find) (key_answer i (map_does i.plain key KeyCall.find))
         stays_by r n vs is number values e =
             stays key KeyCall.find (alone w key KeyCall.find) n vs is (find_keeps w key)
-            (ap (λ (x : FindAnswer). (find_reply s x).number) e ∙ number)
-            (ap (λ (x : FindAnswer). (find_reply s x).values) e ∙ values)
+            (ap (λ (x : Result ℕ Error). (find_reply s x).number) e ∙ number)
+            (ap (λ (x : Result ℕ Error). (find_reply s x).values) e ∙ values)
 
-        body : List ℕ → List ℕ → FindAnswer
+        body : List ℕ → List ℕ → Result ℕ Error
         body current other = found w.entries (lookup s current other w.entries key)
 
         pick : (o : Option ℕ) → value_for key ps ≡ o
             → Comes w (alone w key KeyCall.find) (key_answer i (map_does i.plain key KeyCall.find))
         pick none e =
-            stays_by (FindAnswer.Refused Error.Absent) 3 (0 ∷ []) (does KeyCall.find none e) refl refl
-            (reads_sound w (FindAnswer.Refused Error.BadState) body sound ∙ find_absent a.shape key (not_held e))
+            stays_by (Err Error.Absent) 3 (0 ∷ []) (does KeyCall.find none e) refl refl
+            (reads_sound w (Err Error.BadState) body sound ∙ find_absent a.shape key (not_held e))
         pick (some value) e =
             let h = a.in_store key value e in
-            stays_by (FindAnswer.Found value) 0 (value ∷ []) (does KeyCall.find (some value) e) refl refl
-            (reads_sound w (FindAnswer.Refused Error.BadState) body sound
+            stays_by (Ok value) 0 (value ∷ []) (does KeyCall.find (some value) e) refl refl
+            (reads_sound w (Err Error.BadState) body sound
             ∙ find_held a.shape key h.held.entry h.place h.live h.bucket h.held.there h.held.its_key
-            ∙ ap FindAnswer.Found h.held.its_value)
+            ∙ ap Ok h.held.its_value)
 
     -- Update.
     module _ (value : ℕ) where
@@ -287,23 +284,23 @@ module _ (w : World) (i : Ideal) (a : Agrees w i) where
           c : KeyCall
           c = KeyCall.update value
 
-          call : List ℕ → List ℕ → After UpdateAnswer
+          call : List ℕ → List ℕ → After (Result (Unit {0}) Error)
           call current other = updated current other w.entries value (lookup s current other w.entries key)
 
-          bad : UpdateAnswer
-          bad = UpdateAnswer.Refused Error.BadState
+          bad : Result (Unit {0}) Error
+          bad = Err Error.BadState
 
           pick : (o : Option ℕ) → value_for key ps ≡ o → Comes w (alone w key c) (key_answer i (map_does i.plain key c))
           pick none e =
-              refused key c (update_reply s) bad call refl (UpdateAnswer.Refused Error.Absent) 2 (does c none e) refl refl
+              refused key c (update_reply s) bad call refl (Err Error.Absent) 2 (does c none e) refl refl
               (update_absent a.shape key (not_held e) value)
           pick (some held) e =
               let h = a.in_store key held e in
-              let answer : State → UpdateAnswer = λ t. UpdateAnswer.Updated in
+              let answer : State → Result (Unit {0}) Error = λ t. (Ok tt) in
               let places : Place → ℕ → ℕ → Type 0 = λ t k v. Changed key value (Was t) k v in
               let (l, same) =
               subst
-              (λ (o : After UpdateAnswer).
+              (λ (o : After (Result (Unit {0}) Error)).
               (l : StoreAfter s answer o (keys_held s) s.rehash_index places) × (l.state ≡ s))
               (sym (update_held a.shape key h.held.entry h.place h.live h.bucket h.held.there h.held.its_key value))
               (updated_store a.shape key value h.held.entry h.place h.live h.bucket h.held.there h.held.its_key) in
@@ -367,11 +364,11 @@ module _ (w : World) (i : Ideal) (a : Agrees w i) where
           c : KeyCall
           c = KeyCall.add value
 
-          call : List ℕ → List ℕ → After AddAnswer
+          call : List ℕ → List ℕ → After (Result State Error)
           call current other = added s current other w.entries key value (lookup s current other w.entries key)
 
-          bad : AddAnswer
-          bad = AddAnswer.Refused Error.BadState
+          bad : Result State Error
+          bad = Err Error.BadState
 
           full : (t : Bool) → eqb (length ps) i.plain.capacity ≡ t → value_for key ps ≡ none
               → map_does i.plain key c
@@ -384,7 +381,7 @@ module _ (w : World) (i : Ideal) (a : Agrees w i) where
               → Comes w (alone w key c) (key_answer i (map_does i.plain key c))
           room e true f =
               let reached = eqb-true (length ps) i.plain.capacity f in
-              refused key c (add_reply s) bad call refl (AddAnswer.Refused Error.Full) 4 (full true f e) refl refl
+              refused key c (add_reply s) bad call refl (Err Error.Full) 4 (full true f e) refl refl
               (add_full a.shape key (not_held e) value
               (omega (arith, a.count, a.capacity)))
           room e false f =
@@ -392,17 +389,17 @@ module _ (w : World) (i : Ideal) (a : Agrees w i) where
               let count = a.count in
               let capacity = a.capacity in
               let l =
-              subst (λ (o : After AddAnswer). StoreAfter s AddAnswer.Added o (keys_held s + 1) s.rehash_index Joined)
+              subst (λ (o : After (Result State Error)). StoreAfter s Ok o (keys_held s + 1) s.rehash_index Joined)
               (sym (add_free a.shape key (not_held e) value (λ f. omega arith)))
               (added_store a.shape key value (omega arith) (λ n t l b j k. not_held e t l b n j k) to refl) in
-              answered key c (add_reply s) bad call refl AddAnswer.Added (keys_held s + 1) Joined l (pair key value ∷ ps)
+              answered key c (add_reply s) bad call refl Ok (keys_held s + 1) Joined l (pair key value ∷ ps)
               (full false f e) refl refl refl (add_pairs e)
 
           pick : (o : Option ℕ) → value_for key ps ≡ o → Comes w (alone w key c) (key_answer i (map_does i.plain key c))
           pick none e = room e (eqb (length ps) i.plain.capacity) refl
           pick (some held) e =
               let h = a.in_store key held e in
-              refused key c (add_reply s) bad call refl (AddAnswer.Refused Error.Present) 3 (does c (some held) e) refl refl
+              refused key c (add_reply s) bad call refl (Err Error.Present) 3 (does c (some held) e) refl refl
               (add_held a.shape key h.held.entry h.place h.live h.bucket h.held.there h.held.its_key value)
 
     -- Delete.
@@ -443,27 +440,27 @@ module _ (w : World) (i : Ideal) (a : Agrees w i) where
     unfolding alone given calls.delete_alone delete_reply reply error_number map_answer
     keyed_delete = pick (value_for key ps) refl
       where
-        call : List ℕ → List ℕ → After DeleteAnswer
+        call : List ℕ → List ℕ → After (Result State Error)
         call current other = deleted s current other w.entries key (lookup s current other w.entries key)
 
-        bad : DeleteAnswer
-        bad = DeleteAnswer.Refused Error.BadState
+        bad : Result State Error
+        bad = Err Error.BadState
 
         pick : (o : Option ℕ) → value_for key ps ≡ o
             → Comes w (alone w key KeyCall.delete) (key_answer i (map_does i.plain key KeyCall.delete))
         pick none e =
-            refused key KeyCall.delete (delete_reply s) bad call refl (DeleteAnswer.Refused Error.Absent) 2
+            refused key KeyCall.delete (delete_reply s) bad call refl (Err Error.Absent) 2
             (does KeyCall.delete none e) refl refl (delete_absent a.shape key (not_held e))
         pick (some held) e =
             let h = a.in_store key held e in
             let (t, before, at, is) =
             delete_held a.shape key h.held.entry h.place h.live h.bucket h.held.there h.held.its_key in
             let l =
-            subst (λ (o : After DeleteAnswer). StoreAfter s DeleteAnswer.Deleted o (keys_held s - 1) s.rehash_index Left)
+            subst (λ (o : After (Result State Error)). StoreAfter s Ok o (keys_held s - 1) s.rehash_index Left)
             (sym is)
             (deleted_store a.shape key t h.held.entry before at.us at.vs at.live at.split
             at.before_last at.its_key) in
-            answered key KeyCall.delete (delete_reply s) bad call refl DeleteAnswer.Deleted (keys_held s - 1) Left l
+            answered key KeyCall.delete (delete_reply s) bad call refl Ok (keys_held s - 1) Left l
             (without key ps) (does KeyCall.delete (some held) e) refl refl refl (delete_pairs held e)
 
   pub keyed_steps : (key : ℕ) (c : KeyCall) → Comes w (alone w key c) (key_answer i (map_does i.plain key c))

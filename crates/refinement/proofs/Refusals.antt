@@ -5,11 +5,6 @@ use Prim.Native.Nat.{ℕ, zero, suc}
 use mathlib.Core.Path.{◌≡◌, refl, ap, ◌∙◌}
 use mathlib.Core.List.{List, [], ◌∷◌}
 use Rattle.model.specs.declared.State.{State}
-use Rattle.model.specs.declared.FindAnswer.{FindAnswer}
-use Rattle.model.specs.declared.SizeAnswer.{SizeAnswer}
-use Rattle.model.specs.declared.BeginAnswer.{BeginAnswer}
-use Rattle.model.specs.declared.EndAnswer.{EndAnswer}
-use Rattle.model.specs.declared.ScanAnswer.{ScanAnswer}
 use Rattle.model.specs.Answers.{Reply, reply, find_reply, size_reply, begin_reply, end_reply, table_reply, scan_reply}
 use Rattle.model.specs.Calls as calls
 use Rattle.model.specs.Walk.{AfterScan}
@@ -20,6 +15,9 @@ use Rattle.refinement.specs.Demand1.{Row, LeavesAll}
 use Rattle.refinement.proofs.HiddenSteps.{alone, before_growth}
 use Rattle.refinement.proofs.Demand1Calls.{Good, leaves, leaves_kept, alone_good}
 use Rattle.refinement.proofs.Demand1Steps.{before_good}
+use Rattle.std.specs.Prelude.{Result, Ok, Err}
+use Rattle.model.specs.declared.Error.{Error}
+use Rattle.model.specs.declared.ScanError.{ScanError}
 
 -- the buffers stay, and the state if the call is answered
 kept_carried : (w : World) (r : Reply State) (lent : List ℕ) → (r.number ≡ 0 → r.state ≡ w.state) → carry w (kept w r lent) ≡ w
@@ -55,15 +53,15 @@ module _ (w : World) where
   unfolding perform find_reply reply
   find_keeps key = by (given w calls.find key)
     where
-      by : (a : FindAnswer) → carry w (kept w (find_reply w.state a) []) ≡ w
-      by (FindAnswer.Found value) = kept_carried w _ _ (λ e. refl)
-      by (FindAnswer.Refused error) = kept_carried w _ _ (λ e. refl)
+      by : (a : Result ℕ Error) → carry w (kept w (find_reply w.state a) []) ≡ w
+      by (Ok value) = kept_carried w _ _ (λ e. refl)
+      by (Err error) = kept_carried w _ _ (λ e. refl)
 
   list_keeps : (a : AfterScan) → carry w (kept_scan w a) ≡ w
   unfolding kept_scan scan_reply reply
-  list_keeps (AfterScan.after (ScanAnswer.Scanned next count) list) = kept_carried w _ _ (λ e. refl)
-  list_keeps (AfterScan.after (ScanAnswer.Short count) list) = kept_carried w _ _ (λ e. refl)
-  list_keeps (AfterScan.after (ScanAnswer.Refused error) list) = kept_carried w _ _ (λ e. refl)
+  list_keeps (AfterScan.after (Ok (next, count)) list) = kept_carried w _ _ (λ e. refl)
+  list_keeps (AfterScan.after (Err (ScanError.Short count)) list) = kept_carried w _ _ (λ e. refl)
+  list_keeps (AfterScan.after (Err (ScanError.Refused error)) list) = kept_carried w _ _ (λ e. refl)
 
   pub scan_keeps : (cursor : ℕ) (lent : List ℕ) → carry w (perform w (Call.scan cursor lent)) ≡ w
   unfolding perform
@@ -77,9 +75,9 @@ module _ (w : World) where
   unfolding perform size_reply table_reply begin_reply end_reply reply
   read_keeps (ReadCall.suggested_size growing) = by (given w calls.suggested_size growing)
     where
-      by : (a : SizeAnswer) → carry w (kept w (size_reply w.state a) []) ≡ w
-      by (SizeAnswer.Suggested size) = kept_carried w _ _ (λ e. refl)
-      by (SizeAnswer.Refused error) = kept_carried w _ _ (λ e. refl)
+      by : (a : Result ℕ Error) → carry w (kept w (size_reply w.state a) []) ≡ w
+      by (Ok size) = kept_carried w _ _ (λ e. refl)
+      by (Err error) = kept_carried w _ _ (λ e. refl)
   read_keeps ReadCall.current_table = by (given w calls.current_table)
     where
       by : (a : List ℕ) → carry w (kept w (table_reply w.state a) []) ≡ w
@@ -87,11 +85,11 @@ module _ (w : World) where
       by (head ∷ rest) = kept_carried w _ _ (λ e. refl)
   read_keeps ReadCall.begin_iterator = by (given w iterators.begin_iterator)
     where
-      by : (a : BeginAnswer) → carry w (kept w (begin_reply w.state a) []) ≡ w
-      by (BeginAnswer.Begun fingerprint) = kept_carried w _ _ (λ e. refl)
-      by (BeginAnswer.Refused error) = kept_carried w _ _ (λ e. refl)
+      by : (a : Result ℕ Error) → carry w (kept w (begin_reply w.state a) []) ≡ w
+      by (Ok fingerprint) = kept_carried w _ _ (λ e. refl)
+      by (Err error) = kept_carried w _ _ (λ e. refl)
   read_keeps (ReadCall.end_iterator fingerprint) = by (given w iterators.end_iterator fingerprint)
     where
-      by : (a : EndAnswer) → carry w (kept w (end_reply w.state a) []) ≡ w
-      by EndAnswer.Ended = kept_carried w _ _ (λ e. refl)
-      by (EndAnswer.Refused error) = kept_carried w _ _ (λ e. refl)
+      by : (a : Result (Unit {0}) Error) → carry w (kept w (end_reply w.state a) []) ≡ w
+      by (Ok tt) = kept_carried w _ _ (λ e. refl)
+      by (Err error) = kept_carried w _ _ (λ e. refl)

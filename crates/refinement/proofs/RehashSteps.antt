@@ -16,7 +16,6 @@ use borrow.Author.Tests.{lt-ltb, le-ltb, eq-eqb, eqb-false, ne_eqb, not-true}
 use Rattle.cursor.specs.Member.{In, keep}
 use Rattle.model.specs.declared.State.{State}
 use Rattle.model.specs.declared.Error.{Error}
-use Rattle.model.specs.declared.StepAnswer.{StepAnswer}
 use Rattle.model.specs.declared.Table.{Table}
 use Rattle.model.specs.Answers.{Reply, reply, error_number, step_reply}
 use Rattle.model.specs.Keys.{bucket_of}
@@ -44,6 +43,7 @@ use Rattle.refinement.proofs.Refusals.{refused_keeps}
 use Rattle.refinement.proofs.IdealSteps.{by_test}
 use Rattle.refinement.proofs.Agreement.{HeldAt, AgreesOn, Agrees, Steps, leaves, Says, after_agrees, retabled_agrees, kept_agrees, turned_agrees}
 use Rattle.refinement.proofs.MovedKeys.{lowest_of, lowest_reached, called_for_lem, none_unmoved, none_left, not_lower, lowest_first, moved_count}
+use Rattle.std.specs.Prelude.{Result, Ok, Err}
 
 -- ---- the end of the rehash
 
@@ -230,38 +230,38 @@ module _ (w : World) (i : Ideal) (a : Agrees w i) where
   abbrev s : State
   s = w.state
 
-  abbrev call : List ℕ → List ℕ → After StepAnswer
+  abbrev call : List ℕ → List ℕ → After (Result (ℕ × State) Error)
   call current other = stepped s current other w.entries s.rehashing
 
-  abbrev bad : StepAnswer
-  bad = StepAnswer.Refused Error.BadState
+  abbrev bad : Result (ℕ × State) Error
+  bad = Err Error.BadState
 
   sound : sound_at w ≡ true
   sound = shape_sound a.shape
 
   -- a step answered 0, from what it leaves on the current and the other buffer
   step_answered : (count : ℕ) (t : State) (c o e : List ℕ) (j : Ideal)
-      → call (current w) (other w) ≡ After.after (StepAnswer.Stepped count t) c o e
+      → call (current w) (other w) ≡ After.after (Ok (count, t)) c o e
       → Agrees (world_by s.second_is_current t c o e) j
       → Steps w Call.rehash_step (reply 0 (count ∷ cond t.rehashing 1 0 ∷ []) j)
   unfolding perform given calls.rehash_step step_reply reply
   step_answered count t c o e j is agrees =
-      let replied = left_reply w (step_reply s) bad call sound (StepAnswer.Stepped count t) c o e is in
+      let replied = left_reply w (step_reply s) bad call sound (Ok (count, t)) c o e is in
       record {
         number = ap (λ (r : Reply State). r.number) replied;
         values = λ f. ap (λ (r : Reply State). r.values) replied;
         agrees =
             subst (λ (v : World). Agrees v j)
-            (sym (left_world w (step_reply s) bad call sound (StepAnswer.Stepped count t) c o e is t refl refl))
+            (sym (left_world w (step_reply s) bad call sound (Ok (count, t)) c o e is t refl refl))
             agrees;
       }
 
   refused : (error : Error) (n : ℕ) → error_number error ≡ suc n
-      → call (current w) (other w) ≡ After.after (StepAnswer.Refused error) (current w) (other w) w.entries
+      → call (current w) (other w) ≡ After.after (Err error) (current w) (other w) w.entries
       → Steps w Call.rehash_step (reply (suc n) (0 ∷ 0 ∷ []) i)
   unfolding perform given calls.rehash_step step_reply reply
   refused error n is e =
-      let replied = left_reply w (step_reply s) bad call sound (StepAnswer.Refused error) (current w) (other w) w.entries e in
+      let replied = left_reply w (step_reply s) bad call sound (Err error) (current w) (other w) w.entries e in
       let number = ap (λ (r : Reply State). r.number) replied ∙ is in
       leaves w i a Call.rehash_step (suc n) (0 ∷ 0 ∷ []) (refused_keeps w Call.rehash_step (step_good w) (λ z. omega (arith, number))) number
       (λ f. ap (λ (r : Reply State). r.values) replied)
@@ -286,7 +286,7 @@ module _ (w : World) (i : Ideal) (a : Agrees w i) where
         let j : Bool → Ideal = λ f. ideal i.plain (Tables.one new) (not f) [] 0 i.allowed i.iterators in
         subst (λ (js : List ℕ). Steps w Call.rehash_step (after_step i old new count js next)) (sym (none_unmoved then z))
         (step_answered count (finished t) c o e (j i.turned)
-        (is ∙ ap (λ (b : Bool). After.after (StepAnswer.Stepped count (cond b (finished t) t)) c o e) (eq-eqb t.old_used 0 z))
+        (is ∙ ap (λ (b : Bool). After.after (Ok (count, (cond b (finished t) t))) c o e) (eq-eqb t.old_used 0 z))
         (turned_agrees s.second_is_current (finished t) c o e (j i.turned) refl
         (subst (λ (f : Bool). AgreesOn (finished t) o c e (j f)) then.turned (finished_on then refl z))))
 
@@ -300,7 +300,7 @@ module _ (w : World) (i : Ideal) (a : Agrees w i) where
         by [] g h = absurd (g refl)
         by (k ∷ js) g h =
             step_answered count t c o e _
-            (is ∙ ap (λ (b : Bool). After.after (StepAnswer.Stepped count (cond b (finished t) t)) c o e) (ne_eqb t.old_used 0 f))
+            (is ∙ ap (λ (b : Bool). After.after (Ok (count, (cond b (finished t) t))) c o e) (ne_eqb t.old_used 0 f))
             (kept_agrees s.second_is_current t c o e _ refl h)
 
     settles : Steps w Call.rehash_step (after_step i old new count ks next)
@@ -311,7 +311,7 @@ module _ (w : World) (i : Ideal) (a : Agrees w i) where
 
   module _ (rehashing : s.rehashing ≡ true) (not_paused : paused s ≡ false) where
     -- what a step that nothing holds up leaves
-    taken : (o : After StepAnswer) → calls.step_taken s (current w) (other w) w.entries ≡ o → call (current w) (other w) ≡ o
+    taken : (o : After (Result (ℕ × State) Error)) → calls.step_taken s (current w) (other w) w.entries ≡ o → call (current w) (other w) ≡ o
     taken o e = step_taken_lem a.shape rehashing not_paused ∙ e
 
     -- with no keys in the old table

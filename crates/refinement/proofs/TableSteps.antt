@@ -12,12 +12,6 @@ use borrow.Author.Tests.{ltb-true}
 use Rattle.model.specs.declared.State.{State}
 use Rattle.model.specs.declared.Table.{Table}
 use Rattle.model.specs.declared.Error.{Error}
-use Rattle.model.specs.declared.InitAnswer.{InitAnswer}
-use Rattle.model.specs.declared.ResizeAnswer.{ResizeAnswer}
-use Rattle.model.specs.declared.SizeAnswer.{SizeAnswer}
-use Rattle.model.specs.declared.BeginAnswer.{BeginAnswer}
-use Rattle.model.specs.declared.EndAnswer.{EndAnswer}
-use Rattle.model.specs.declared.StateAnswer.{StateAnswer}
 use Rattle.model.specs.Answers.{Reply, reply, error_number, init_reply, resize_reply, size_reply, state_reply, begin_reply, end_reply, table_reply}
 use Rattle.model.specs.Limits.{largest_exponent, legal_capacity, legal_size, most_safe_iterators}
 use Rattle.model.specs.Memory.{Place, Live, size_of, used_of, keys_held}
@@ -41,6 +35,8 @@ use Rattle.refinement.proofs.Refusals.{refused_keeps, read_keeps}
 use Rattle.refinement.proofs.PlainMaps.{value_key, key_value}
 use Rattle.refinement.proofs.Agreement.{HeldAt, HeldOld, AgreesOn, Agrees, Steps, leaves, retabled_agrees, kept_agrees}
 use Rattle.refinement.proofs.Fingerprints.{print_agrees}
+use Rattle.std.specs.Prelude.{Result, Ok, Err}
+use Rattle.model.specs.declared.Unstarted.{Unstarted}
 
 -- The calls that only read change nothing.
 
@@ -66,8 +62,8 @@ module _ (w : World) (i : Ideal) (a : Agrees w i) where
   suggested_steps growing =
       reads (ReadCall.suggested_size growing) 0 (suggested growing (length i.plain.pairs) ∷ [])
       (ap (size_reply w.state)
-      (reads_sound w (SizeAnswer.Refused Error.BadState)
-      (λ current other. SizeAnswer.Suggested (suggested growing (keys_held w.state))) sound)
+      (reads_sound w (Err Error.BadState)
+      (λ current other. Ok (suggested growing (keys_held w.state))) sound)
       ∙ ap (λ (n : ℕ). reply 0 (suggested growing n ∷ []) w.state) (sym a.count))
 
   -- an iterator's begin and end
@@ -76,7 +72,7 @@ module _ (w : World) (i : Ideal) (a : Agrees w i) where
   begin_steps =
       reads ReadCall.begin_iterator 0 (ideal_print i ∷ [])
       (ap (begin_reply w.state)
-      (reads_sound w (BeginAnswer.Refused Error.BadState) (λ current other. BeginAnswer.Begun (fingerprint_of w.state)) sound)
+      (reads_sound w (Err Error.BadState) (λ current other. Ok (fingerprint_of w.state)) sound)
       ∙ ap (λ (n : ℕ). reply 0 (n ∷ []) w.state) (print_agrees w i a))
 
   end_steps : (fingerprint : ℕ)
@@ -85,12 +81,12 @@ module _ (w : World) (i : Ideal) (a : Agrees w i) where
   end_steps fingerprint =
       reads (ReadCall.end_iterator fingerprint) (cond (eqb fingerprint (ideal_print i)) 0 15) []
       (ap (end_reply w.state)
-      (reads_sound w (EndAnswer.Refused Error.BadState) (λ current other. answer (eqb fingerprint (fingerprint_of w.state))) sound)
+      (reads_sound w (Err Error.BadState) (λ current other. answer (eqb fingerprint (fingerprint_of w.state))) sound)
       ∙ by (eqb fingerprint (fingerprint_of w.state))
       ∙ ap (λ (n : ℕ). reply (cond (eqb fingerprint n) 0 15) [] w.state) (print_agrees w i a))
     where
-      answer : Bool → EndAnswer
-      answer same = cond same EndAnswer.Ended (EndAnswer.Refused Error.Changed)
+      answer : Bool → Result (Unit {0}) Error
+      answer same = cond same (Ok tt) (Err Error.Changed)
 
       by : (same : Bool) → end_reply w.state (answer same) ≡ reply (cond same 0 15) [] w.state
       by true = refl
@@ -134,17 +130,17 @@ module _ (w : World) (capacity size : ℕ) where
   long = long_enough capacity size (length w.first) (length w.entries)
 
   -- what it leaves, by the same
-  abbrev ready : After InitAnswer
+  abbrev ready : After (Result State Unstarted)
   ready =
-      After.after (InitAnswer.Ready (empty_state size 1 capacity)) (cleared size w.first) w.second
+      After.after (Ok (empty_state size 1 capacity)) (cleared size w.first) w.second
       (started_entries capacity w.entries)
 
   abbrev started_by : Bool → Bool → Outcome
   started_by a b =
       left init_reply
       (cond a
-      (cond b ready (After.after (InitAnswer.Refused Error.BadState no_state) w.first w.second w.entries))
-      (After.after (InitAnswer.Refused Error.BadSize no_state) w.first w.second w.entries))
+      (cond b ready (After.after (Err (record { error = Error.BadState; state = no_state })) w.first w.second w.entries))
+      (After.after (Err (record { error = Error.BadSize; state = no_state })) w.first w.second w.entries))
 
   -- its number goes by the limits and the lengths alone, and it has no values
   init_answers : (started.reply.number ≡ start_number (lengths_of w) capacity size) × (started.reply.values ≡ [])
@@ -350,33 +346,33 @@ resize_steps w i a l same size =
     sound_state_lem : sound_at w ≡ true
     sound_state_lem = shape_sound a.shape
 
-    bad : ResizeAnswer
-    bad = ResizeAnswer.Refused Error.BadState
+    bad : Result State Error
+    bad = Err Error.BadState
 
-    call : List ℕ → List ℕ → After ResizeAnswer
+    call : List ℕ → List ℕ → After (Result State Error)
     call current other = resized s current other w.entries size s.rehashing
 
     accept : Bool
     accept = acceptable s.old_size (length (other w)) size
 
-    begins : After ResizeAnswer
-    begins = After.after (ResizeAnswer.Resized (resizing s size)) (current w) (cleared size (other w)) w.entries
+    begins : After (Result State Error)
+    begins = After.after (Ok (resizing s size)) (current w) (cleared size (other w)) w.entries
 
     accepting : (f : Bool) → s.rehashing ≡ false → accept ≡ f
         → call (current w) (other w)
-        ≡ cond f begins (After.after (ResizeAnswer.Refused Error.BadSize) (current w) (other w) w.entries)
+        ≡ cond f begins (After.after (Err Error.BadSize) (current w) (other w) w.entries)
     accepting f r e =
         ap (resized s (current w) (other w) w.entries size) r
         ∙ ap
         (λ (t : Bool).
-        cond t begins (After.after (ResizeAnswer.Refused Error.BadSize) (current w) (other w) w.entries))
+        cond t begins (After.after (Err Error.BadSize) (current w) (other w) w.entries))
         e
 
     refused : (n : Error) (k : ℕ) → error_number n ≡ suc k
-        → call (current w) (other w) ≡ After.after (ResizeAnswer.Refused n) (current w) (other w) w.entries
+        → call (current w) (other w) ≡ After.after (Err n) (current w) (other w) w.entries
         → Steps w c (reply (suc k) [] i)
     refused n k is e =
-        let replied = left_reply w (resize_reply s) bad call sound_state_lem (ResizeAnswer.Refused n) (current w) (other w) w.entries e in
+        let replied = left_reply w (resize_reply s) bad call sound_state_lem (Err n) (current w) (other w) w.entries e in
         let number = ap (λ (r : Reply State). r.number) replied ∙ is in
         leaves w i a c (suc k) [] (refused_keeps w c (resized_good w size) (λ z. omega (arith, number))) number
         (λ f. ap (λ (r : Reply State). r.values) replied)
@@ -387,7 +383,7 @@ resize_steps w i a l same size =
     answered : s.rehashing ≡ false → accept ≡ true → Steps w c (reply 0 [] (then i.turned))
     answered e f =
         let is = accepting true e f in
-        let answer = ResizeAnswer.Resized (resizing s size) in
+        let answer = Ok (resizing s size) in
         let replied = left_reply w (resize_reply s) bad call sound_state_lem answer (current w) (cleared size (other w)) w.entries is in
         record {
           number = ap (λ (r : Reply State). r.number) replied;
@@ -500,15 +496,15 @@ module _ (w : World) (i : Ideal) (a : Agrees w i) where
           agrees = subst (λ (o : Outcome). Agrees (carry w o) (with_notes i allowed iterators)) (sym e) noted_on;
         }
 
-  abbrev call : StateAnswer → Outcome
+  abbrev call : Result State Error → Outcome
   call r = kept w (state_reply s r) []
 
   -- such a call, by what it comes to on a sound state
-  sounds : (r : StateAnswer) → reading s w.first w.second w.entries (StateAnswer.Refused Error.BadState) (λ c o. r) ≡ r
-  sounds r = reads_sound w (StateAnswer.Refused Error.BadState) (λ c o. r) (shape_sound a.shape)
+  sounds : (r : Result State Error) → reading s w.first w.second w.entries (Err Error.BadState) (λ c o. r) ≡ r
+  sounds r = reads_sound w (Err Error.BadState) (λ c o. r) (shape_sound a.shape)
 
   not_made : (c : StateCall) (error : Error) (n : ℕ) → error_number error ≡ suc n
-      → perform w (Call.note c) ≡ call (StateAnswer.Refused error) → Steps w (Call.note c) (reply (suc n) [] i)
+      → perform w (Call.note c) ≡ call (Err error) → Steps w (Call.note c) (reply (suc n) [] i)
   unfolding kept state_reply reply
   not_made c error n is e =
       let number = ap (λ (o : Outcome). o.reply.number) e ∙ is in
@@ -520,7 +516,7 @@ module _ (w : World) (i : Ideal) (a : Agrees w i) where
   allow_steps allowed =
       subst (λ (n : ℕ). Steps w (Call.note (StateCall.allow_resize allowed)) (reply 0 [] (with_notes i allowed n))) a.iterators
       (made allowed s.safe_iterators (facts a.shape).iterators_fit (StateCall.allow_resize allowed)
-      (ap call (sounds (StateAnswer.Set (noted s allowed s.safe_iterators)))))
+      (ap call (sounds (Ok (noted s allowed s.safe_iterators)))))
 
   begin_safe_steps : Steps w (Call.note StateCall.begin_safe) (note_answer i StateCall.begin_safe)
   unfolding note_answer perform given iterators.begin_safe one_more state_reply error_number
@@ -533,8 +529,8 @@ module _ (w : World) (i : Ideal) (a : Agrees w i) where
       c : Call
       c = Call.note StateCall.begin_safe
 
-      answer : Bool → ℕ → StateAnswer
-      answer t n = cond t (StateAnswer.Set (noted s s.resize_allowed n)) (StateAnswer.Refused Error.TooManyIterators)
+      answer : Bool → ℕ → Result State Error
+      answer t n = cond t (Ok (noted s s.resize_allowed n)) (Err Error.TooManyIterators)
 
       is : (t : Bool) → ltb s.safe_iterators most_safe_iterators ≡ t → perform w c ≡ call (answer t (suc s.safe_iterators))
       is t e =

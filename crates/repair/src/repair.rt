@@ -1,10 +1,9 @@
 // The repair (SPECIFICATION, "Check and mend").
-ghost use Rattle.std.specs.Prelude.{◌≡◌, ◌≤◌, length};
+ghost use Rattle.std.specs.Prelude.{◌≡◌, ◌≤◌, length, Err};
 ghost use Rattle.model.specs.declared.Error.TheVariants as why;
 ghost use Rattle.model.specs.Calls as calls;
 ghost use Rattle.model.specs.Calls.After.{after};
 ghost use Rattle.model.proofs.Soundness.{Sound};
-ghost use Rattle.model.specs.declared.RepairAnswer.TheVariants as answer;
 ghost use Rattle.model.specs.Repair as definition;
 ghost use Rattle.repair_passes.specs.Passes.{cut_and_marked, rebuilt, Countable, recounted, repaired_store};
 ghost use Rattle.repair_passes.specs.Passes.Buffers.{buffers};
@@ -13,7 +12,7 @@ use crate::count::{count_table, first_filled};
 use crate::free::free_others;
 use crate::prune::prune_table;
 use memory::state::is_sound;
-use model::{Error, LARGEST_CAPACITY, RepairAnswer, State};
+use model::{LARGEST_CAPACITY, Error, State};
 use repair_cut::cut::cut_table;
 use repair_cut::first::decide;
 
@@ -83,20 +82,20 @@ fn repair_sound(current: &mut [u32], other: &mut [u32], entries: &mut [u32], s: 
     recount(current, other, entries, s, free)
 }
 
-fn repair_in(current: &mut [u32], other: &mut [u32], entries: &mut [u32], s: State) -> RepairAnswer
+fn repair_in(current: &mut [u32], other: &mut [u32], entries: &mut [u32], s: State) -> Result<State, Error>
     ensures { after result current.new other.new entries.new
-        ≡ calls.checked s entries.old (λ c o. after (answer.Refused why.BadState) c o entries.old)
+        ≡ calls.checked s entries.old (λ c o. after (Err why.BadState) c o entries.old)
         (λ c o. definition.repaired s c o entries.old) current.old other.old }
 {
     if is_sound(current.len(), other.len(), entries.len(), s) {
-        RepairAnswer::Repaired(repair_sound(current, other, entries, s))
+        Ok(repair_sound(current, other, entries, s))
     } else {
-        RepairAnswer::Refused(Error::BadState)
+        Err(Error::BadState)
     }
 }
 
 // Repairs the store in place; a state that is not sound is refused, and nothing is written.
-pub fn repair(first: &mut [u32], second: &mut [u32], entries: &mut [u32], s: State) -> RepairAnswer
+pub fn repair(first: &mut [u32], second: &mut [u32], entries: &mut [u32], s: State) -> Result<State, Error>
     ensures { after result first.new second.new entries.new
         ≡ definition.repair s first.old second.old entries.old }
 {

@@ -6,58 +6,57 @@ use mathlib.Core.Bool.{Bool, true, false}
 use mathlib.Core.List.{List}
 use lib.ListN.{get_or}
 use Rattle.model.specs.declared.State.{State}
-use Rattle.model.specs.declared.VerifyAnswer.{VerifyAnswer}
-use Rattle.model.specs.declared.RepairAnswer.{RepairAnswer}
 use Rattle.model.specs.declared.Error.{Error}
 use Rattle.model.specs.Answers.{reply, error_number, verify_reply, repair_reply}
 use Rattle.model.specs.Calls.{After}
 use Rattle.model.specs.Verify.{verify}
 use Rattle.model.specs.Repair.{repair}
 use Rattle.repair_main.specs.Answered.{in_numbers, behind, answered}
+use Rattle.std.specs.Prelude.{Result, Ok, Err}
 
 -- Each answer, where it is known, in the numbers of its reply.
 
-module _ (a : VerifyAnswer) (s : State) (r : ℕ) where
-  pub verified_number : (undamaged : Bool) → a ≡ VerifyAnswer.Verified undamaged → r ≡ 0 → r ≡ (verify_reply s a).number
+module _ (a : Result Bool Error) (s : State) (r : ℕ) where
+  pub verified_number : (undamaged : Bool) → a ≡ Ok undamaged → r ≡ 0 → r ≡ (verify_reply s a).number
   unfolding verify_reply reply
   verified_number undamaged h k = rw (h, k)
 
-  pub refused_number : (e : Error) → a ≡ VerifyAnswer.Refused e → r ≡ error_number e → r ≡ (verify_reply s a).number
+  pub refused_number : (e : Error) → a ≡ Err e → r ≡ error_number e → r ≡ (verify_reply s a).number
   unfolding verify_reply reply
   refused_number e h k = rw (h, k)
 
-  pub said_yes : (undamaged : Bool) → a ≡ VerifyAnswer.Verified undamaged → undamaged ≡ true → r ≡ 1
+  pub said_yes : (undamaged : Bool) → a ≡ Ok undamaged → undamaged ≡ true → r ≡ 1
       → r ≡ get_or (verify_reply s a).values 0 0
   unfolding verify_reply reply
   said_yes undamaged h u k = rw (h, u, k)
 
-  pub said_no : (undamaged : Bool) → a ≡ VerifyAnswer.Verified undamaged → undamaged ≡ false → r ≡ 0
+  pub said_no : (undamaged : Bool) → a ≡ Ok undamaged → undamaged ≡ false → r ≡ 0
       → r ≡ get_or (verify_reply s a).values 0 0
   unfolding verify_reply reply
   said_no undamaged h u k = rw (h, u, k)
 
-  pub said_nothing : (e : Error) → a ≡ VerifyAnswer.Refused e → r ≡ 0 → r ≡ get_or (verify_reply s a).values 0 0
+  pub said_nothing : (e : Error) → a ≡ Err e → r ≡ 0 → r ≡ get_or (verify_reply s a).values 0 0
   unfolding verify_reply reply
   said_nothing e h k = rw (h, k)
 
-module _ (a : RepairAnswer) (s : State) where
-  pub repaired_number : (r : ℕ) (t : State) → a ≡ RepairAnswer.Repaired t → r ≡ 0 → r ≡ (repair_reply s a).number
+module _ (a : Result State Error) (s : State) where
+  pub repaired_number : (r : ℕ) (t : State) → a ≡ Ok t → r ≡ 0 → r ≡ (repair_reply s a).number
   unfolding repair_reply reply
   repaired_number r t h k = rw (h, k)
 
-  pub unrepaired_number : (r : ℕ) (e : Error) → a ≡ RepairAnswer.Refused e → r ≡ error_number e → r ≡ (repair_reply s a).number
+  pub unrepaired_number : (r : ℕ) (e : Error) → a ≡ Err e → r ≡ error_number e → r ≡ (repair_reply s a).number
   unfolding repair_reply reply
   unrepaired_number r e h k = rw (h, k)
 
-  pub repaired_state_lem : (r t : State) → a ≡ RepairAnswer.Repaired t → r ≡ t → r ≡ (repair_reply s a).state
+  pub repaired_state_lem : (r t : State) → a ≡ Ok t → r ≡ t → r ≡ (repair_reply s a).state
   unfolding repair_reply reply
   repaired_state_lem r t h k = rw h k
 
-  pub unrepaired_state : (r : State) (e : Error) → a ≡ RepairAnswer.Refused e → r ≡ s → r ≡ (repair_reply s a).state
+  pub unrepaired_state : (r : State) (e : Error) → a ≡ Err e → r ≡ s → r ≡ (repair_reply s a).state
   unfolding repair_reply reply
   unrepaired_state r e h k = rw h k
 
-pub both : (s : State) (v : VerifyAnswer) (r : RepairAnswer) (first second entries first₁ second₁ entries₁ : List ℕ)
+pub both : (s : State) (v : Result Bool Error) (r : Result State Error) (first second entries first₁ second₁ entries₁ : List ℕ)
     (verified undamaged repaired : ℕ) (t : State)
     → v ≡ verify s first second entries
     → After.after r first₁ second₁ entries₁ ≡ repair s first second entries

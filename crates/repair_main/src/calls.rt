@@ -5,7 +5,7 @@ ghost use Rattle.model.specs.Answers.{verify_reply, repair_reply};
 ghost use Rattle.model.specs.Calls.After.{after};
 ghost use Rattle.repair_main.specs.Answered.{answered};
 
-use model::{RepairAnswer, State, VerifyAnswer};
+use model::{Error, State};
 use repair::repair::repair;
 use script::answer::error_number;
 use verify::verify::verify;
@@ -19,40 +19,40 @@ pub struct Answers {
     pub state: State,
 }
 
-fn verify_number(a: VerifyAnswer) -> u32
+fn verify_number(a: Result<bool, Error>) -> u32
     ensures { (s : State) → result ≡ (verify_reply s a).number }
 {
     match a {
-        VerifyAnswer::Verified(_) => 0,
-        VerifyAnswer::Refused(e) => error_number(e),
+        Ok(_) => 0,
+        Err(e) => error_number(e),
     }
 }
 
-fn undamaged_number(a: VerifyAnswer) -> u32
+fn undamaged_number(a: Result<bool, Error>) -> u32
     ensures { (s : State) → result ≡ get_or (verify_reply s a).values 0 0 }
 {
     match a {
-        VerifyAnswer::Verified(undamaged) => if undamaged { 1 } else { 0 },
-        VerifyAnswer::Refused(_) => 0,
+        Ok(undamaged) => if undamaged { 1 } else { 0 },
+        Err(_) => 0,
     }
 }
 
-fn repair_number(a: RepairAnswer) -> u32
+fn repair_number(a: Result<State, Error>) -> u32
     ensures { (s : State) → result ≡ (repair_reply s a).number }
 {
     match a {
-        RepairAnswer::Repaired(_) => 0,
-        RepairAnswer::Refused(e) => error_number(e),
+        Ok(_) => 0,
+        Err(e) => error_number(e),
     }
 }
 
 // A refused repair hands back the state that it was given.
-fn state_after(a: RepairAnswer, s: State) -> State
+fn state_after(a: Result<State, Error>, s: State) -> State
     ensures { result ≡ (repair_reply s a).state }
 {
     match a {
-        RepairAnswer::Repaired(t) => t,
-        RepairAnswer::Refused(_) => s,
+        Ok(t) => t,
+        Err(_) => s,
     }
 }
 

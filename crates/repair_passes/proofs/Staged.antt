@@ -11,13 +11,13 @@ use Rattle.model.specs.Limits.{largest_capacity}
 use Rattle.model.specs.Memory.{size_of, buckets_of, last_or}
 use Rattle.model.specs.Calls.{After, state_of, old_new}
 use Rattle.model.proofs.Soundness.{Sound, table_legal, table_fits, index_within}
-use Rattle.model.specs.declared.RepairAnswer.{RepairAnswer}
 use Rattle.model.specs.Repair.{first_or0, freed_list, repaired_state, repaired_buckets, repaired_entries, repaired}
 use Rattle.model.proofs.Fields.{length_set_link}
 use Rattle.repair_passes.specs.Passes.{Tabled, Work, met_by_marks, cut, cut_one, buckets_in, entries_in, marks_in, cut_up_to, finds_first, decided, Chained, heads_of, links_of, pruned_up_to, head_down, entries_down, lengths, Countable, first_filled, Buffers, cut_and_marked, rebuilt, recounted, repaired_store}
 use Rattle.repair_passes.proofs.Marking.{length_mark_all}
 use Rattle.repair_passes.proofs.PruneChains.{length_decided}
 use Rattle.repair_passes.proofs.Passed as passed
+use Rattle.std.specs.Prelude.{Ok}
 
 -- what a sound state says of the tables
 
@@ -73,7 +73,7 @@ recounted_by s c o e free old new index a b d = rw (a, b, d)
 
 -- the call's answer
 pub answered : (s : State) (c o e c₁ o₁ e₁ : List ℕ) (q : State) → After.after q c₁ o₁ e₁ ≡ repaired_store s c o e
-    → After.after (RepairAnswer.Repaired q) c₁ o₁ e₁ ≡ repaired s c o e
+    → After.after (Ok q) c₁ o₁ e₁ ≡ repaired s c o e
 unfolding repaired_store repaired
 answered s c o e c₁ o₁ e₁ q h = cc
 

@@ -11,7 +11,6 @@ use lib.Seq.{sets, sets-eq}
 use lib.Dec.{leb}
 use borrow.Author.Tests.{le-leb, lt-leb}
 use Rattle.model.specs.declared.Error.{Error}
-use Rattle.model.specs.declared.ScanAnswer.{ScanAnswer}
 use Rattle.model.specs.Memory.{key_of, value_of, chain, listed}
 use Rattle.model.specs.Walk.{AfterScan, pairs, scanned}
 use Rattle.model.proofs.Pairs.{length_pairs}
@@ -22,6 +21,8 @@ use Rattle.scan_group.specs.Tables.{One}
 use Rattle.scan_group.specs.Chains.{linked}
 use Rattle.scan_group.specs.Written.{written, Writable}
 use Rattle.scan_group.proofs.Chains.{linked_same}
+use Rattle.std.specs.Prelude.{Ok, Err}
+use Rattle.model.specs.declared.ScanError.{ScanError}
 
 -- from the front of the list, the pairs and then what was there
 
@@ -44,7 +45,7 @@ written_front entries list ns h =
 
 module _ (entries list : List ℕ) (answered : ℕ) (o : Option (List ℕ)) (r : ChainLength) (e : r ≡ length_of o) where
   pub scanned_damaged : r ≡ ChainLength.Unsound
-      → AfterScan.after (ScanAnswer.Refused Error.Damaged) list ≡ scanned entries list answered o
+      → AfterScan.after (Err (ScanError.Refused Error.Damaged)) list ≡ scanned entries list answered o
   unfolding scanned
   scanned_damaged u = rw (uncounted r o u e)
 
@@ -52,17 +53,17 @@ module _ (entries list : List ℕ) (answered : ℕ) (o : Option (List ℕ)) (r :
     as_counted : scanned entries list answered (some (listed o)) ≡ scanned entries list answered o
     as_counted = ap (scanned entries list answered) (sym (counted r n o s e).0)
 
-    pub scanned_short : length list < n * 2 → AfterScan.after (ScanAnswer.Short n) list ≡ scanned entries list answered o
+    pub scanned_short : length list < n * 2 → AfterScan.after (Err (ScanError.Short n)) list ≡ scanned entries list answered o
     unfolding scanned
     scanned_short l =
         let k = (counted r n o s e).1 in
         let none : leb (length (listed o) * 2) (length list) ≡ false = lt-leb (length (listed o) * 2) (length list) (omega arith) in
-        ap (λ m. AfterScan.after (ScanAnswer.Short m) list) (sym k) ∙ rw none at as_counted
+        ap (λ m. AfterScan.after (Err (ScanError.Short m)) list) (sym k) ∙ rw none at as_counted
 
     -- the chains that were written are those that were counted
     pub scanned_written : (list' : List ℕ) (p : Option (List ℕ)) → p ≡ o → n * 2 ≤ length list
         → list' ≡ written entries list 0 (listed p)
-        → AfterScan.after (ScanAnswer.Scanned answered n) list' ≡ scanned entries list answered o
+        → AfterScan.after (Ok (answered, n)) list' ≡ scanned entries list answered o
     unfolding scanned
     scanned_written list' p same l w =
         let k = (counted r n o s e).1 in
@@ -87,5 +88,5 @@ module _ (test : ℕ → Bool) (entries list : List ℕ) (capacity used size hea
   one_writable = writable entries list 0 _ r l n s _ same_chain h
 
   pub one_written : (next : ℕ) (list' : List ℕ) → list' ≡ written entries list 0 (listed (linked entries head))
-      → AfterScan.after (ScanAnswer.Scanned next n) list' ≡ scanned entries list next (chain test entries capacity used head)
+      → AfterScan.after (Ok (next, n)) list' ≡ scanned entries list next (chain test entries capacity used head)
   one_written next list' w = scanned_written entries list next _ r l n s list' _ same_chain h w

@@ -7,7 +7,7 @@ ghost use Rattle.scan_group.specs.Tables.{One};
 
 use crate::write::write_chain;
 use memory::chain::{ChainLength, chain_length};
-use model::{Error, ScanAnswer};
+use model::{Error, ScanError};
 
 // The chain of bucket b, whose head the caller has read, and what comes next, which the caller knows. Nothing is written
 // before the chain was tested and the room is known.
@@ -20,7 +20,7 @@ pub fn hand_out(
     size: u32,
     b: usize,
     next: u32,
-) -> ScanAnswer
+) -> Result<(u32, u32), ScanError>
     requires { One entries.now capacity used size }
     ensures { after result list.new
         ≡ scanned entries.now list.old next
@@ -28,13 +28,13 @@ pub fn hand_out(
 {
     let length = chain_length(entries, capacity, used, head, size, b);
     match length {
-        ChainLength::Unsound => ScanAnswer::Refused(Error::Damaged),
+        ChainLength::Unsound => Err(ScanError::Refused(Error::Damaged)),
         ChainLength::Sound(count) => {
             if count as usize * 2 <= list.len() {
                 write_chain(head, entries, list, 0);
-                ScanAnswer::Scanned(next, count)
+                Ok((next, count))
             } else {
-                ScanAnswer::Short(count)
+                Err(ScanError::Short(count))
             }
         }
     }

@@ -10,7 +10,6 @@ use native.Mathlib.Omega.{arith}
 use borrow.Author.Tests.{le-leb, lt-leb}
 use Rattle.model.specs.Limits.{legal_capacity, legal_size, largest_exponent}
 use Rattle.model.specs.declared.Error.{Error}
-use Rattle.model.specs.declared.ResizeAnswer.{ResizeAnswer}
 use Rattle.model.specs.Calls.{After, sound, oriented, checked, writing, back, init, resize, resized, acceptable}
 use Rattle.model.specs.Answers.{reply, init_reply, resize_reply, error_number}
 use Rattle.model.specs.Sequences.{World, world, Call, Outcome, perform, given, left, carry, carried_state}
@@ -18,6 +17,7 @@ use Rattle.model.proofs.Power.{legal_pos}
 use Rattle.script.specs.declared.line.Command.{Command}
 use Rattle.script.specs.Answers.{answer_line}
 use Rattle.script.specs.Program.{Ran, program_limit, limited, answered, called, run_command}
+use Rattle.std.specs.Prelude.{Err}
 
 -- up to the limit the store is asked for the number itself
 pub limited_within : (n : ℕ) → n ≤ program_limit → n ≡ limited n
@@ -77,7 +77,7 @@ module _ (w : World) (lent : List ℕ) where
       left (resize_reply w.state)
       (back turned
       (oriented turned
-      (checked w.state w.entries (λ current other. After.after (ResizeAnswer.Refused Error.BadState) current other w.entries)
+      (checked w.state w.entries (λ current other. After.after (Err Error.BadState) current other w.entries)
       (λ current other. resized w.state current other w.entries 0 rehashing))
       w.first w.second))
 
@@ -88,7 +88,7 @@ module _ (w : World) (lent : List ℕ) where
       (oriented turned
       (λ current other.
       cond sound (resized w.state current other w.entries 0 rehashing)
-      (After.after (ResizeAnswer.Refused Error.BadState) current other w.entries))
+      (After.after (Err Error.BadState) current other w.entries))
       w.first w.second)))
       [] lent
       ≡ refusing w lent (cond sound (cond rehashing 7 6) 1)

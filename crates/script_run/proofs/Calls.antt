@@ -7,10 +7,6 @@ use mathlib.Core.List.{List, [], ◌∷◌}
 use native.Mathlib.Omega.{arith}
 use lib.ListN.{take}
 use Rattle.model.specs.declared.State.{State}
-use Rattle.model.specs.declared.FindAnswer.{FindAnswer}
-use Rattle.model.specs.declared.InitAnswer.{InitAnswer}
-use Rattle.model.specs.declared.ResizeAnswer.{ResizeAnswer}
-use Rattle.model.specs.declared.StepAnswer.{StepAnswer}
 use Rattle.model.specs.Answers.{reply, init_reply, find_reply, resize_reply, step_reply}
 use Rattle.model.specs.Answers as answers
 use Rattle.model.specs.Calls.{After, init, resize}
@@ -19,6 +15,9 @@ use Rattle.script.specs.Program.{answered}
 use Rattle.script_run.specs.declared.answer.Reply.{Reply}
 use Rattle.script_run.specs.declared.answer.Values.{Values}
 use Rattle.script_run.specs.Runs.{replied, values_of, reply_of, handed, outcome, Replies, Leaves}
+use Rattle.std.specs.Prelude.{Result, Ok}
+use Rattle.model.specs.declared.Error.{Error}
+use Rattle.model.specs.declared.Unstarted.{Unstarted}
 
 -- a reply's number may be put for one that it equals
 pub renumbered : (r : Reply) (k number : ℕ) (values : Values) (t : State) → r ≡ replied k values t → k ≡ number
@@ -35,7 +34,7 @@ known_replies f r number values t count h k e p =
 
 -- a step's second value says whether the rehash goes on
 pub step_value : (s : State) (moved k : ℕ) (t : State) → k ≡ cond t.rehashing 1 0
-    → reply 0 (moved ∷ k ∷ []) t ≡ step_reply s (StepAnswer.Stepped moved t)
+    → reply 0 (moved ∷ k ∷ []) t ≡ step_reply s (Ok (moved, t))
 unfolding step_reply
 step_value s moved k t e = ap (λ (n : ℕ). reply 0 (moved ∷ n ∷ []) t) e
 
@@ -61,14 +60,14 @@ module _ (w : World) (lent : List ℕ) (r : Reply) where
 -- a start and a resize, for numbers that are known
 
 module _ (s : State) (first second entries lent : List ℕ) (r : Reply) (x y z : List ℕ) where
-  pub init_leaves : (a : InitAnswer) (capacity size n m : ℕ) → n ≡ capacity → m ≡ size
+  pub init_leaves : (a : Result State Unstarted) (capacity size n m : ℕ) → n ≡ capacity → m ≡ size
       → After.after a x y z ≡ init first second entries n m → Replies r init_reply a 0
       → Leaves (answered (world s first second entries) (left init_reply (init first second entries capacity size)) [] lent)
       (world s first second entries) r x y z lent
   init_leaves a capacity size n m e f c q =
       left_leaves (world s first second entries) lent r init_reply _ (c ∙ ap₂ (init first second entries) e f) q
 
-  pub resize_leaves : (a : ResizeAnswer) (size n : ℕ) → n ≡ size
+  pub resize_leaves : (a : Result State Error) (size n : ℕ) → n ≡ size
       → After.after a x y z ≡ resize s first second entries n → Replies r (resize_reply s) a 0
       → Leaves (answered (world s first second entries) (left (resize_reply s) (resize s first second entries size)) [] lent)
       (world s first second entries) r x y z lent
@@ -76,7 +75,7 @@ module _ (s : State) (first second entries lent : List ℕ) (r : Reply) (x y z :
       left_leaves (world s first second entries) lent r (resize_reply s) _ (c ∙ ap (resize s first second entries) e) q
 
 -- a find, which only reads
-pub find_leaves : (s : State) (first second entries lent : List ℕ) (r : Reply) (a d : FindAnswer) → a ≡ d
+pub find_leaves : (s : State) (first second entries lent : List ℕ) (r : Reply) (a d : Result ℕ Error) → a ≡ d
     → Replies r (find_reply s) a 0
     → Leaves (answered (world s first second entries) (kept (world s first second entries) (find_reply s d) []) [] lent)
     (world s first second entries) r first second entries lent

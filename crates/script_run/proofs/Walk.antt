@@ -10,7 +10,6 @@ use lib.ListN.{length, take}
 use lib.Dec.{leb, eqb}
 use borrow.Author.Tests.{leb-true}
 use Rattle.model.specs.declared.State.{State}
-use Rattle.model.specs.declared.ScanAnswer.{ScanAnswer}
 use Rattle.model.specs.Answers.{Reply, reply, scan_reply}
 use Rattle.model.specs.Memory.{keys_held}
 use Rattle.model.specs.Calls.{sound, oriented, checked, reading}
@@ -23,9 +22,11 @@ use Rattle.script_run.specs.declared.answer.Reply as code
 use Rattle.script_run.specs.declared.answer.Values.{Values}
 use Rattle.script_run.specs.Runs.{replied, values_of, handed, handed_by, outcome, Replies, Leaves}
 use Rattle.script_run.proofs.Calls.{known_replies}
+use Rattle.std.specs.Prelude.{Result, Ok, Err}
+use Rattle.model.specs.declared.ScanError.{ScanError}
 
 -- an answer that is known, with its reply
-pub scan_replies : {a b : ScanAnswer} (s : State) (r : code.Reply) (number : ℕ) (values : Values) (t : State) → a ≡ b
+pub scan_replies : {a b : Result (ℕ × ℕ) ScanError} (s : State) (r : code.Reply) (number : ℕ) (values : Values) (t : State) → a ≡ b
     → r ≡ replied number values t → reply number (values_of values) t ≡ scan_reply s b → handed values ≡ handed_by b
     → Replies r (scan_reply s) a (handed_by a)
 scan_replies {a} s r number values t h k e p =
@@ -72,14 +73,14 @@ module _ (s : State) (first second entries lent : List ℕ) (cursor : ℕ) where
   ran d = answered w (kept_scan w d) (handed_out (kept_scan w d)) (kept_scan w d).lent
 
   -- of one that is short no value is written, whatever its second value says
-  same : (a : ScanAnswer) (lent' : List ℕ)
+  same : (a : Result (ℕ × ℕ) ScanError) (lent' : List ℕ)
       → answered w (outcome (scan_reply s a) first second entries) (take (handed_by a) lent') lent' ≡ ran (AfterScan.after a lent')
   unfolding kept_scan kept handed_out handed_by world answered carry outcome scan_reply reply answer_line
-  same (ScanAnswer.Scanned next count) lent' = refl
-  same (ScanAnswer.Short count) lent' = refl
-  same (ScanAnswer.Refused e) lent' = refl
+  same (Ok (next, count)) lent' = refl
+  same (Err (ScanError.Short count)) lent' = refl
+  same (Err (ScanError.Refused e)) lent' = refl
 
-  pub scan_leaves : (a : ScanAnswer) (lent' : List ℕ) (r : code.Reply) → AfterScan.after a lent' ≡ walk.scan s first second entries lent cursor
+  pub scan_leaves : (a : Result (ℕ × ℕ) ScanError) (lent' : List ℕ) (r : code.Reply) → AfterScan.after a lent' ≡ walk.scan s first second entries lent cursor
       → length lent' ≡ length lent → Replies r (scan_reply s) a (handed_by a)
       → Leaves (ran (walk.scan s first second entries lent cursor)) w r first second entries lent'
   unfolding Fit

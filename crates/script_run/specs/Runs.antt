@@ -1,7 +1,6 @@
 -- What the code that runs a line asks and leaves, beside what the definitions say.
-use Rattle.std.specs.Prelude.{ℕ, ◌+◌, ◌*◌, ◌≤◌, ◌≡◌, List, [], ◌∷◌, ◌++◌, length, take}
+use Rattle.std.specs.Prelude.{ℕ, ◌+◌, ◌*◌, ◌≤◌, ◌≡◌, List, [], ◌∷◌, ◌++◌, length, take, Result, Ok, Err}
 use Rattle.model.specs.declared.State.{State}
-use Rattle.model.specs.declared.ScanAnswer.{ScanAnswer}
 use Rattle.model.specs.Answers.{reply}
 use Rattle.model.specs.Answers as answers
 use Rattle.model.specs.Sequences.{World, Outcome, carried_state}
@@ -9,6 +8,7 @@ use Rattle.script.specs.Answers.{answer_line, Wrote}
 use Rattle.script.specs.Program.{Ran, answered, program_limit}
 use Rattle.script_run.specs.declared.answer.Reply.{Reply}
 use Rattle.script_run.specs.declared.answer.Values.{Values}
+use Rattle.model.specs.declared.ScanError.{ScanError}
 
 -- the places of the list that walk calls are lent
 abbrev pub pair_room : ℕ
@@ -49,10 +49,10 @@ pub record Replies {A : Type 0} (r : Reply) (f : A → answers.Reply State) (ans
   pub handed : handed r.values ≡ count
 
 -- two for each key of a walk call that is answered 0
-unfoldable pub handed_by : ScanAnswer → ℕ
-handed_by (ScanAnswer.Scanned next count) = count * 2
-handed_by (ScanAnswer.Short count) = 0
-handed_by (ScanAnswer.Refused e) = 0
+unfoldable pub handed_by : Result (ℕ × ℕ) ScanError → ℕ
+handed_by (Ok (next, count)) = count * 2
+handed_by (Err (ScanError.Short count)) = 0
+handed_by (Err (ScanError.Refused e)) = 0
 
 -- Any line, in a world: what it writes and leaves, and the list that walk calls are lent has what is written of it.
 pub record Leaves (ran : Ran) (w : World) (r : Reply) (first second entries lent : List ℕ) : Type 0 where

@@ -4,7 +4,7 @@ use crate::keys::{Path, key_at, next_place};
 use dict_delete::delete::delete;
 use dict_find_update::update::update;
 use dict_grow::add::add;
-use model::{AddAnswer, DeleteAnswer, State};
+use model::{Error, State};
 use std::num::wrapping_add_u32;
 
 fn add_key(
@@ -17,8 +17,8 @@ fn add_key(
 ) -> State {
     let answer = add(first, second, entries, s, key, value);
     match answer {
-        AddAnswer::Added(t) => t,
-        AddAnswer::Refused(_) => s,
+        Ok(t) => t,
+        Err(_) => s,
     }
 }
 
@@ -86,8 +86,8 @@ fn delete_key(
 ) -> State {
     let answer = delete(first, second, entries, s, key);
     match answer {
-        DeleteAnswer::Deleted(t) => t,
-        DeleteAnswer::Refused(_) => s,
+        Ok(t) => t,
+        Err(_) => s,
     }
 }
 

@@ -3,15 +3,15 @@ use crate::keys::{Path, key_at, next_place};
 use dict_find_update::find::find;
 use dict_scan::scan::scan;
 use iterator::iterate::iterate;
-use model::{FindAnswer, ScanAnswer, State};
+use model::{Error, ScanError, State};
 use std::num::wrapping_add_u32;
 
 // The sum, with the value of a key.
 fn find_key(first: &[u32], second: &[u32], entries: &[u32], s: State, key: u32, sum: u32) -> u32 {
     let answer = find(first, second, entries, s, key);
     match answer {
-        FindAnswer::Found(value) => wrapping_add_u32(sum, value),
-        FindAnswer::Refused(_) => sum,
+        Ok(value) => wrapping_add_u32(sum, value),
+        Err(_) => sum,
     }
 }
 
@@ -72,7 +72,7 @@ fn walk_on(
     w: Walk,
 ) -> Walk {
     let answer = scan(first, second, entries, list, s, w.cursor);
-    if let ScanAnswer::Scanned(cursor, count) = answer {
+    if let Ok((cursor, count)) = answer {
         let sum = sum_pairs(list, count, w.sum);
         Walk { cursor, sum }
     } else {
@@ -123,7 +123,7 @@ fn iterate_on(
     p: Pass,
 ) -> Pass {
     let answer = iterate(first, second, entries, list, s, p.place);
-    if let ScanAnswer::Scanned(place, count) = answer {
+    if let Ok((place, count)) = answer {
         let sum = sum_pairs(list, count, p.sum);
         Pass { place, count, sum }
     } else {

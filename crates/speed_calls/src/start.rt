@@ -2,7 +2,7 @@
 use dict_tables::init::init;
 use dict_tables::resize::resize;
 use iterator::safe::{begin_safe, end_safe};
-use model::{InitAnswer, ResizeAnswer, State, StateAnswer};
+use model::{Error, State, Unstarted};
 
 // The longest order has 24 bytes, so one that reaches into the second half of its room is bad. Behind a good one that half is
 // 0, and the state is hidden with it.
@@ -18,8 +18,8 @@ pub fn new_store(
 ) -> State {
     let answer = init(first, second, entries, capacity, size);
     match answer {
-        InitAnswer::Ready(s) => s,
-        InitAnswer::Refused(_, s) => s,
+        Ok(s) => s,
+        Err(Unstarted { error: _, state: s }) => s,
     }
 }
 
@@ -35,8 +35,8 @@ pub fn begin_rehash(
 ) -> State {
     let answer = resize(first, second, entries, s, size);
     match answer {
-        ResizeAnswer::Resized(t) => t,
-        ResizeAnswer::Refused(_) => s,
+        Ok(t) => t,
+        Err(_) => s,
     }
 }
 
@@ -44,8 +44,8 @@ pub fn begin_rehash(
 pub fn begin_pass(first: &[u32], second: &[u32], entries: &[u32], s: State) -> State {
     let answer = begin_safe(first, second, entries, s);
     match answer {
-        StateAnswer::Set(t) => t,
-        StateAnswer::Refused(_) => s,
+        Ok(t) => t,
+        Err(_) => s,
     }
 }
 
@@ -53,8 +53,8 @@ pub fn begin_pass(first: &[u32], second: &[u32], entries: &[u32], s: State) -> S
 pub fn end_pass(first: &[u32], second: &[u32], entries: &[u32], s: State) -> State {
     let answer = end_safe(first, second, entries, s);
     match answer {
-        StateAnswer::Set(t) => t,
-        StateAnswer::Refused(_) => s,
+        Ok(t) => t,
+        Err(_) => s,
     }
 }
 

@@ -1,5 +1,5 @@
 // The timed calls on a whole store: the check and the mend.
-use model::{RepairAnswer, State, VerifyAnswer};
+use model::{Error, State};
 use repair::repair::repair;
 use std::num::wrapping_add_u32;
 use verify::verify::verify;
@@ -12,8 +12,8 @@ fn number_of(yes: bool) -> u32 {
 pub fn verify_whole(first: &[u32], second: &[u32], entries: &[u32], s: State, sum: u32) -> u32 {
     let answer = verify(first, second, entries, s);
     match answer {
-        VerifyAnswer::Verified(yes) => wrapping_add_u32(sum, number_of(yes)),
-        VerifyAnswer::Refused(_) => sum,
+        Ok(yes) => wrapping_add_u32(sum, number_of(yes)),
+        Err(_) => sum,
     }
 }
 
@@ -21,8 +21,8 @@ pub fn verify_whole(first: &[u32], second: &[u32], entries: &[u32], s: State, su
 pub fn repair_whole(first: &mut [u32], second: &mut [u32], entries: &mut [u32], s: State) -> State {
     let answer = repair(first, second, entries, s);
     match answer {
-        RepairAnswer::Repaired(t) => t,
-        RepairAnswer::Refused(_) => s,
+        Ok(t) => t,
+        Err(_) => s,
     }
 }
 

@@ -1,15 +1,14 @@
 // The check (SPECIFICATION, "Check and mend"). It writes nothing.
-ghost use Rattle.std.specs.Prelude.{◌≡◌, length};
+ghost use Rattle.std.specs.Prelude.{◌≡◌, length, Ok, Err};
 ghost use Rattle.model.specs.declared.Error.TheVariants as why;
 ghost use Rattle.model.specs.Calls as calls;
 ghost use Rattle.model.proofs.Soundness.{Sound};
-ghost use Rattle.model.specs.declared.VerifyAnswer.TheVariants as answer;
 ghost use Rattle.model.specs.Verify as definition;
 
 use crate::held::{count_held, free_verified};
 use crate::table::{all_empty, table_checked};
 use memory::state::is_sound;
-use model::{Error, State, VerifyAnswer};
+use model::{Error, State};
 
 // The chains first: only where all of this holds does every entry look up its key.
 fn verified(current: &[u32], other: &[u32], entries: &[u32], s: State) -> bool
@@ -27,19 +26,19 @@ fn verified(current: &[u32], other: &[u32], entries: &[u32], s: State) -> bool
     }
 }
 
-fn verify_in(current: &[u32], other: &[u32], entries: &[u32], s: State) -> VerifyAnswer
-    ensures { result ≡ calls.checked s entries.now (λ c o. answer.Refused why.BadState)
-        (λ c o. answer.Verified (definition.verified s c o entries.now)) current.now other.now }
+fn verify_in(current: &[u32], other: &[u32], entries: &[u32], s: State) -> Result<bool, Error>
+    ensures { result ≡ calls.checked s entries.now (λ c o. Err why.BadState)
+        (λ c o. Ok (definition.verified s c o entries.now)) current.now other.now }
 {
     if is_sound(current.len(), other.len(), entries.len(), s) {
-        VerifyAnswer::Verified(verified(current, other, entries, s))
+        Ok(verified(current, other, entries, s))
     } else {
-        VerifyAnswer::Refused(Error::BadState)
+        Err(Error::BadState)
     }
 }
 
 // Whether the store is undamaged; a state that is not sound is refused.
-pub fn verify(first: &[u32], second: &[u32], entries: &[u32], s: State) -> VerifyAnswer
+pub fn verify(first: &[u32], second: &[u32], entries: &[u32], s: State) -> Result<bool, Error>
     ensures { result ≡ definition.verify s first.now second.now entries.now }
 {
     if s.second_is_current {

@@ -1,12 +1,10 @@
 -- Wrong stores by a call on a key.
-use Rattle.std.specs.Prelude.{ℕ, Bool, not, List, [], ◌∷◌, ◌++◌, set, eqb}
+use Rattle.std.specs.Prelude.{ℕ, Bool, not, List, [], ◌∷◌, ◌++◌, set, eqb, Result, Err}
 use Rattle.cursor.specs.Member.{keep}
 use Rattle.model.specs.declared.State.{State}
 use Rattle.model.specs.declared.Table.{Table}
 use Rattle.model.specs.declared.Error.{Error}
 use Rattle.model.specs.declared.Lookup.{Lookup}
-use Rattle.model.specs.declared.FindAnswer.{FindAnswer}
-use Rattle.model.specs.declared.AddAnswer.{AddAnswer}
 use Rattle.model.specs.Keys.{bucket_of}
 use Rattle.model.specs.Memory.{key_of, set_link, set_key, size_of, used_of, buckets_of, key_place, entries_at}
 use Rattle.model.specs.Answers.{reply, find_reply, add_reply}
@@ -18,7 +16,7 @@ use Rattle.wrong_stores.specs.OneCall.{but_find, but_update, but_add, but_delete
 
 -- finds no key
 unfoldable pub finds_nothing : World → Call → Outcome
-finds_nothing = but_find (λ key w o. kept w (find_reply w.state (FindAnswer.Refused Error.Absent)) [])
+finds_nothing = but_find (λ key w o. kept w (find_reply w.state (Err Error.Absent)) [])
 
 -- finds every value to be 0
 unfoldable pub finds_zero : World → Call → Outcome
@@ -35,12 +33,12 @@ unfoldable pub adds_nothing : World → Call → Outcome
 adds_nothing = but_add (λ key value w o. kept w (reply o.reply.number [] w.state) [])
 
 -- the outcome of another add on the state and the lent buffers
-unfoldable pub adding : World → (State → List ℕ → List ℕ → List ℕ → After AddAnswer) → Outcome
+unfoldable pub adding : World → (State → List ℕ → List ℕ → List ℕ → After (Result State Error)) → Outcome
 adding w add =
     left (add_reply w.state)
     (given w
     (λ s first second entries.
-    writing s first second entries (AddAnswer.Refused Error.BadState) (λ current other. add s current other entries)))
+    writing s first second entries (Err Error.BadState) (λ current other. add s current other entries)))
 
 -- adds to the old table during a rehash (SPECIFICATION, "Tempting mistakes", 3)
 unfoldable pub adds_to_old : World → Call → Outcome

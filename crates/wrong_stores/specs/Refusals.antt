@@ -1,12 +1,8 @@
 -- Wrong stores by a refusal: they refuse what they ought to answer, answer what they ought to refuse, or do not leave all
 -- as it was.
-use Rattle.std.specs.Prelude.{ℕ, suc, ◌*◌, ◌&&◌, cond, List, [], ◌∷◌, length, get_or, replicate, leb, ltb, eqb}
+use Rattle.std.specs.Prelude.{ℕ, suc, ◌*◌, ◌&&◌, cond, List, [], ◌∷◌, length, get_or, replicate, leb, ltb, eqb, Err}
 use Rattle.std.proofs.Math.Option.{Option}
 use Rattle.model.specs.declared.Error.{Error}
-use Rattle.model.specs.declared.FindAnswer.{FindAnswer}
-use Rattle.model.specs.declared.ResizeAnswer.{ResizeAnswer}
-use Rattle.model.specs.declared.StepAnswer.{StepAnswer}
-use Rattle.model.specs.declared.ScanAnswer.{ScanAnswer}
 use Rattle.model.specs.Limits.{largest_capacity}
 use Rattle.model.specs.Memory.{keys_held, set_value}
 use Rattle.model.specs.Answers.{reply, find_reply, resize_reply, step_reply}
@@ -15,6 +11,7 @@ use Rattle.model.specs.Walk.{AfterScan, tables_of, group, group_places, chains_a
 use Rattle.model.specs.Sequences.{World, Call, Outcome, kept, kept_scan, perform}
 use Rattle.refinement.specs.Worlds.{current, other}
 use Rattle.wrong_stores.specs.OneCall.{Change, but, but_init, but_find, but_update, but_resize, but_step, but_scan, if_done, if_refused, if_damaged, answering, handing_back, listing, leaving}
+use Rattle.model.specs.declared.ScanError.{ScanError}
 
 -- refuses every call
 unfoldable pub refuses_all : World → Call → Outcome
@@ -30,16 +27,16 @@ takes_larger = but_init (λ capacity size w o. cond (leb capacity largest_capaci
 
 -- refuses every resize
 unfoldable pub refuses_resizes : World → Call → Outcome
-refuses_resizes = but_resize (λ size w o. if_done (kept w (resize_reply w.state (ResizeAnswer.Refused Error.BadSize)) []) o)
+refuses_resizes = but_resize (λ size w o. if_done (kept w (resize_reply w.state (Err Error.BadSize)) []) o)
 
 -- refuses every step
 unfoldable pub refuses_steps : World → Call → Outcome
-refuses_steps = but_step (λ w o. if_done (kept w (step_reply w.state (StepAnswer.Refused Error.Damaged)) []) o)
+refuses_steps = but_step (λ w o. if_done (kept w (step_reply w.state (Err Error.Damaged)) []) o)
 
 -- takes a chain that is not sound for one without the key
 unfoldable pub overlooks_damage : World → Call → Outcome
 overlooks_damage =
-    but_find (λ key w o. if_damaged (kept w (find_reply w.state (FindAnswer.Refused Error.Absent)) []) o)
+    but_find (λ key w o. if_damaged (kept w (find_reply w.state (Err Error.Absent)) []) o)
 
 -- a refusal hands back a state of zeros
 unfoldable pub loses_state : World → Call → Outcome
@@ -53,14 +50,14 @@ writes_first = but_update (λ key value w o. if_refused (leaving o.first o.secon
 
 -- refuses every one as damaged
 unfoldable pub as_damaged : List ℕ → Change
-as_damaged lent w o = kept_scan w (AfterScan.after (ScanAnswer.Refused Error.Damaged) lent)
+as_damaged lent w o = kept_scan w (AfterScan.after (Err (ScanError.Refused Error.Damaged)) lent)
 
 unfoldable pub refuses_walks : World → Call → Outcome
 refuses_walks = but_scan (λ cursor. as_damaged)
 
 -- always short, with the right number of keys
 unfoldable pub as_short : List ℕ → Change
-as_short lent w o = if_done (kept_scan w (AfterScan.after (ScanAnswer.Short (get_or o.reply.values 1 0)) lent)) o
+as_short lent w o = if_done (kept_scan w (AfterScan.after (Err (ScanError.Short (get_or o.reply.values 1 0))) lent)) o
 
 unfoldable pub always_short : World → Call → Outcome
 always_short = but_scan (λ cursor. as_short)

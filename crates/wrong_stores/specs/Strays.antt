@@ -1,14 +1,11 @@
 -- Wrong stores by the keys on a chain: they pass over a key off its bucket, look for it where it does not belong, or find
 -- damage where there is none.
-use Rattle.std.specs.Prelude.{ℕ, suc, Bool, ◌||◌, cond, List, [], ◌∷◌, eqb}
+use Rattle.std.specs.Prelude.{ℕ, suc, Bool, ◌||◌, cond, List, [], ◌∷◌, eqb, Result, Err}
 use Rattle.std.proofs.Math.Option.{Option, none, some}
 use Rattle.model.specs.declared.Table.{Table}
 use Rattle.model.specs.declared.Error.{Error}
 use Rattle.model.specs.declared.Lookup.{Lookup}
 use Rattle.model.specs.declared.Ahead.{Ahead}
-use Rattle.model.specs.declared.FindAnswer.{FindAnswer}
-use Rattle.model.specs.declared.AddAnswer.{AddAnswer}
-use Rattle.model.specs.declared.StepAnswer.{StepAnswer}
 use Rattle.model.specs.Keys.{bucket_of}
 use Rattle.model.specs.Memory.{key_of, keys_held, chain, in_bucket, any_key, Place, key_place, head_at, budget_at, belongs, chain_at}
 use Rattle.model.specs.Answers.{find_reply, add_reply, step_reply}
@@ -19,6 +16,7 @@ use Rattle.model.specs.Sequences.{World, Call, Outcome, kept, kept_scan, left}
 use Rattle.refinement.specs.Worlds.{current, other}
 use Rattle.refinement.specs.Demand2.{first_filled}
 use Rattle.wrong_stores.specs.OneCall.{but_find, but_add, but_step, but_scan, but_iterate, if_done, if_damaged}
+use Rattle.model.specs.declared.State.{State}
 
 -- A chain read in another way.
 
@@ -82,7 +80,7 @@ unfoldable pub iterates_strays : World → Call → Outcome
 iterates_strays = but_iterate (λ place lent w o. if_damaged (iterated_by w lent (first_filled w place) o) o)
 
 -- a step moves whatever keys are on its chain
-unfoldable pub moved_untested : World → Ahead → After StepAnswer
+unfoldable pub moved_untested : World → Ahead → After (Result (ℕ × State) Error)
 moved_untested w (Ahead.Filled b) =
     moved_chain w.state (current w) (other w) w.entries b (untested w (Place.bucket Table.Old b))
 moved_untested w (Ahead.Empty b) = moved_from w.state (current w) (other w) w.entries (Ahead.Empty b)
@@ -108,7 +106,7 @@ finds_elsewhere =
 
 unfoldable pub or_damaged : World → Option (List ℕ) → Outcome → Outcome
 or_damaged w none o =
-    cond (eqb o.reply.number 1) o (kept w (find_reply w.state (FindAnswer.Refused Error.Damaged)) [])
+    cond (eqb o.reply.number 1) o (kept w (find_reply w.state (Err Error.Damaged)) [])
 or_damaged w (some ns) o = o
 
 -- the chain of bucket 0, whatever bucket is the key's
@@ -135,4 +133,4 @@ tests_free =
     (λ key value w o.
     let s = w.state in
     cond (belongs s (key_place s key (target s.rehashing)) (key_of w.entries s.free_head)) o
-    (if_done (kept w (add_reply s (AddAnswer.Refused Error.Damaged)) []) o))
+    (if_done (kept w (add_reply s (Err Error.Damaged)) []) o))

@@ -45,7 +45,7 @@ module _ (w : World) where
 
   end_state : (a : Result (Unit {0}) Error) → (end_reply w.state a).state ≡ w.state
   unfolding end_reply reply
-  end_state (Ok tt) = refl
+  end_state (Ok done) = refl
   end_state (Err e) = refl
 
   scan_state : (a : Result (ℕ × ℕ) ScanError) → (scan_reply w.state a).state ≡ w.state

@@ -17,7 +17,8 @@ use Rattle.model.proofs.Linked.{linked_kept}
 use Rattle.invariant.proofs.Shape.{Home, IsBucket, Shape, facts}
 use Rattle.invariant.proofs.LinkedChains.{shape_range}
 use Rattle.invariant.proofs.StoreAfter.{HeldIn, held_as_lem, StoreAfter}
-use Rattle.std.specs.Prelude.{Ok}
+use Rattle.std.specs.Prelude.{Result, Ok}
+use Rattle.model.specs.declared.Error.{Error}
 
 module _ {s : State} {current other entries : List ℕ} (h : Shape s current other entries) (n value : ℕ) where
   -- the shape after the value of an entry is changed
@@ -70,7 +71,7 @@ module _ {s : State} {current other entries : List ℕ} (shape : Shape s current
   that_one t l b m i k = shape.keys_distinct m n t p l live b bucket i there (k ∙ sym its_key)
 
   -- the outcome of an update that found its key; the state stays
-  pub updated_store : (l : StoreAfter s (λ t. (Ok tt))
+  pub updated_store : (l : StoreAfter {A = Result (Unit {0}) Error} s (λ t. Ok tt)
       (After.after (Ok tt) current other (set_value entries n value)) (keys_held s) s.rehash_index
       (λ t k v. Changed key value (HeldIn entries (shape.at t)) k v)) × (l.state ≡ s)
   updated_store = (

@@ -40,7 +40,7 @@ find_reply s (Ok value) = reply 0 (value ∷ []) s
 find_reply s (Err e) = reply (error_number e) (0 ∷ []) s
 
 unfoldable pub update_reply : State → Result (Unit {0}) Error → Reply State
-update_reply s (Ok tt) = reply 0 [] s
+update_reply s (Ok done) = reply 0 [] s
 update_reply s (Err e) = reply (error_number e) [] s
 
 unfoldable pub add_reply : State → Result State Error → Reply State
@@ -74,7 +74,7 @@ begin_reply s (Ok fingerprint) = reply 0 (fingerprint ∷ []) s
 begin_reply s (Err e) = reply (error_number e) (0 ∷ []) s
 
 unfoldable pub end_reply : State → Result (Unit {0}) Error → Reply State
-end_reply s (Ok tt) = reply 0 [] s
+end_reply s (Ok done) = reply 0 [] s
 end_reply s (Err e) = reply (error_number e) [] s
 
 -- A look answers the live table. A live table has a bucket, so an empty look is a refusal.

@@ -91,5 +91,5 @@ module _ (w : World) where
   read_keeps (ReadCall.end_iterator fingerprint) = by (given w iterators.end_iterator fingerprint)
     where
       by : (a : Result (Unit {0}) Error) → carry w (kept w (end_reply w.state a) []) ≡ w
-      by (Ok tt) = kept_carried w _ _ (λ e. refl)
+      by (Ok done) = kept_carried w _ _ (λ e. refl)
       by (Err error) = kept_carried w _ _ (λ e. refl)

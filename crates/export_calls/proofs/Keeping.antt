@@ -4,7 +4,7 @@ use Prim.Native.Nat.{ℕ}
 use mathlib.Core.Path.{◌≡◌, refl}
 use mathlib.Core.List.{List, []}
 use Rattle.model.specs.declared.State.{State}
-use Rattle.model.specs.Answers.{Reply, reply, find_reply, size_reply, begin_reply, end_reply, scan_reply}
+use Rattle.model.specs.Answers.{Reply, reply, value_reply, done_reply, scan_reply}
 use Rattle.model.specs.Walk.{AfterScan}
 use Rattle.model.specs.Walk as walk
 use Rattle.model.specs.Iterators as iterators
@@ -28,23 +28,23 @@ module _ (w : World) where
   unfolding kept
   kept_keeps r lent e = record { state = e; first = refl; second = refl; entries = refl }
 
-  find_state : (a : Result ℕ Error) → (find_reply w.state a).state ≡ w.state
-  unfolding find_reply reply
+  find_state : (a : Result ℕ Error) → (value_reply w.state a).state ≡ w.state
+  unfolding value_reply reply
   find_state (Ok value) = refl
   find_state (Err e) = refl
 
-  size_state : (a : Result ℕ Error) → (size_reply w.state a).state ≡ w.state
-  unfolding size_reply reply
+  size_state : (a : Result ℕ Error) → (value_reply w.state a).state ≡ w.state
+  unfolding value_reply reply
   size_state (Ok size) = refl
   size_state (Err e) = refl
 
-  begin_state : (a : Result ℕ Error) → (begin_reply w.state a).state ≡ w.state
-  unfolding begin_reply reply
+  begin_state : (a : Result ℕ Error) → (value_reply w.state a).state ≡ w.state
+  unfolding value_reply reply
   begin_state (Ok fingerprint) = refl
   begin_state (Err e) = refl
 
-  end_state : (a : Result (Unit {0}) Error) → (end_reply w.state a).state ≡ w.state
-  unfolding end_reply reply
+  end_state : (a : Result (Unit {0}) Error) → (done_reply w.state a).state ≡ w.state
+  unfolding done_reply reply
   end_state (Ok done) = refl
   end_state (Err e) = refl
 

@@ -1,6 +1,6 @@
 // What a plain call answers, in numbers.
 ghost use Rattle.std.specs.Prelude.{◌≡◌, [], ◌∷◌};
-ghost use Rattle.model.specs.Answers.{reply, error_number, init_reply, find_reply, update_reply, add_reply, delete_reply, resize_reply, step_reply, size_reply, state_reply, begin_reply, end_reply, scan_reply};
+ghost use Rattle.model.specs.Answers.{reply, error_number, init_reply, value_reply, done_reply, state_reply, step_reply, scan_reply};
 ghost use Rattle.export_calls.specs.Kinds.{answer_of, InNumbers};
 
 use model::{Error, ScanError, State, Unstarted};
@@ -62,7 +62,7 @@ pub(crate) fn of_init(a: Result<State, Unstarted>) -> Answer
 }
 
 pub(crate) fn of_find(a: Result<u32, Error>, s: State) -> Answer
-    ensures { InNumbers result (find_reply s) a }
+    ensures { InNumbers result (value_reply s) a }
 {
     match a {
         Ok(value) => one_result(value as u64, s),
@@ -71,7 +71,7 @@ pub(crate) fn of_find(a: Result<u32, Error>, s: State) -> Answer
 }
 
 pub(crate) fn of_update(a: Result<(), Error>, s: State) -> Answer
-    ensures { InNumbers result (update_reply s) a }
+    ensures { InNumbers result (done_reply s) a }
 {
     match a {
         Ok(()) => no_result(s),
@@ -80,7 +80,7 @@ pub(crate) fn of_update(a: Result<(), Error>, s: State) -> Answer
 }
 
 pub(crate) fn of_add(a: Result<State, Error>, s: State) -> Answer
-    ensures { InNumbers result (add_reply s) a }
+    ensures { InNumbers result (state_reply s) a }
 {
     match a {
         Ok(t) => no_result(t),
@@ -89,7 +89,7 @@ pub(crate) fn of_add(a: Result<State, Error>, s: State) -> Answer
 }
 
 pub(crate) fn of_delete(a: Result<State, Error>, s: State) -> Answer
-    ensures { InNumbers result (delete_reply s) a }
+    ensures { InNumbers result (state_reply s) a }
 {
     match a {
         Ok(t) => no_result(t),
@@ -98,7 +98,7 @@ pub(crate) fn of_delete(a: Result<State, Error>, s: State) -> Answer
 }
 
 pub(crate) fn of_resize(a: Result<State, Error>, s: State) -> Answer
-    ensures { InNumbers result (resize_reply s) a }
+    ensures { InNumbers result (state_reply s) a }
 {
     match a {
         Ok(t) => no_result(t),
@@ -116,7 +116,7 @@ pub(crate) fn of_step(a: Result<(u32, State), Error>, s: State) -> Answer
 }
 
 pub(crate) fn of_size(a: Result<u32, Error>, s: State) -> Answer
-    ensures { InNumbers result (size_reply s) a }
+    ensures { InNumbers result (value_reply s) a }
 {
     match a {
         Ok(size) => one_result(size as u64, s),
@@ -134,7 +134,7 @@ pub(crate) fn of_state(a: Result<State, Error>, s: State) -> Answer
 }
 
 pub(crate) fn of_begin(a: Result<u64, Error>, s: State) -> Answer
-    ensures { InNumbers result (begin_reply s) a }
+    ensures { InNumbers result (value_reply s) a }
 {
     match a {
         Ok(fingerprint) => one_result(fingerprint, s),
@@ -143,7 +143,7 @@ pub(crate) fn of_begin(a: Result<u64, Error>, s: State) -> Answer
 }
 
 pub(crate) fn of_end(a: Result<(), Error>, s: State) -> Answer
-    ensures { InNumbers result (end_reply s) a }
+    ensures { InNumbers result (done_reply s) a }
 {
     match a {
         Ok(()) => no_result(s),

@@ -33,7 +33,7 @@ the_memory = tt
 
 -- the calls and what they answer
 unfoldable pub the_calls : Unit {0}
-unfolding answers.reply answers.error_number answers.init_reply answers.find_reply answers.update_reply answers.add_reply answers.delete_reply answers.resize_reply answers.step_reply answers.size_reply answers.state_reply answers.begin_reply answers.end_reply answers.table_reply answers.scan_reply answers.verify_reply answers.repair_reply calls.sound calls.oriented calls.checked calls.reading calls.back calls.writing calls.changed calls.state_of calls.old_new calls.empty_state calls.recounted calls.retabled calls.noted calls.cleared calls.free_link calls.free_entries calls.no_state calls.long_enough calls.init calls.first_with calls.searched calls.both calls.lookup_in calls.lookup_while calls.lookup calls.held calls.found calls.find calls.updated calls.update calls.push calls.with_count calls.pushed calls.target calls.takeable calls.added calls.add_alone calls.unlink_bucket calls.unlink_entry calls.removed calls.deleted calls.delete_alone calls.acceptable calls.resizing calls.resized calls.resize calls.ahead calls.moved calls.advanced calls.finished calls.settled calls.step_done calls.moved_chain calls.moved_from calls.ahead_of calls.step_taken calls.paused calls.stepped calls.rehash_step calls.unless_refused calls.call_after calls.step_due calls.step_first calls.is_added calls.add_after_step calls.is_deleted calls.delete calls.power_from calls.size_for calls.suggested calls.suggested_size calls.crowded calls.growth_due calls.grown_by calls.grown calls.then_grown calls.add calls.allow_resize calls.current_table walk.tables_by walk.tables_of walk.smaller_of walk.group walk.small_first walk.group_places walk.joined walk.chains_at walk.at_most walk.pairs walk.scanned walk.scan iterators.bucket_at iterators.end_place iterators.first_from iterators.first_place iterators.filled iterators.handed iterators.iterate iterators.buffer_number iterators.numbers_of iterators.fingerprint_of iterators.begin_iterator iterators.end_iterator iterators.one_more iterators.begin_safe iterators.one_fewer iterators.end_safe
+unfolding answers.reply answers.error_number answers.init_reply answers.value_reply answers.done_reply answers.state_reply answers.step_reply answers.table_reply answers.scan_reply answers.verify_reply calls.sound calls.oriented calls.checked calls.reading calls.back calls.writing calls.changed calls.state_of calls.old_new calls.empty_state calls.recounted calls.retabled calls.noted calls.cleared calls.free_link calls.free_entries calls.no_state calls.long_enough calls.init calls.first_with calls.searched calls.both calls.lookup_in calls.lookup_while calls.lookup calls.held calls.found calls.find calls.updated calls.update calls.push calls.with_count calls.pushed calls.target calls.takeable calls.added calls.add_alone calls.unlink_bucket calls.unlink_entry calls.removed calls.deleted calls.delete_alone calls.acceptable calls.resizing calls.resized calls.resize calls.ahead calls.moved calls.advanced calls.finished calls.settled calls.step_done calls.moved_chain calls.moved_from calls.ahead_of calls.step_taken calls.paused calls.stepped calls.rehash_step calls.unless_refused calls.call_after calls.step_due calls.step_first calls.is_added calls.add_after_step calls.is_deleted calls.delete calls.power_from calls.size_for calls.suggested calls.suggested_size calls.crowded calls.growth_due calls.grown_by calls.grown calls.then_grown calls.add calls.allow_resize calls.current_table walk.tables_by walk.tables_of walk.smaller_of walk.group walk.small_first walk.group_places walk.joined walk.chains_at walk.at_most walk.pairs walk.scanned walk.scan iterators.bucket_at iterators.end_place iterators.first_from iterators.first_place iterators.filled iterators.handed iterators.iterate iterators.buffer_number iterators.numbers_of iterators.fingerprint_of iterators.begin_iterator iterators.end_iterator iterators.one_more iterators.begin_safe iterators.one_fewer iterators.end_safe
 the_calls = tt
 
 -- the check and the repair of the whole store

@@ -35,47 +35,25 @@ unfoldable pub init_reply : Result State Unstarted → Reply State
 init_reply (Ok t) = reply 0 [] t
 init_reply (Err refused) = reply (error_number refused.error) [] refused.state
 
-unfoldable pub find_reply : State → Result ℕ Error → Reply State
-find_reply s (Ok value) = reply 0 (value ∷ []) s
-find_reply s (Err e) = reply (error_number e) (0 ∷ []) s
+-- of a call that answers the state: add, delete, resize, the permission, a safe iterator's begin and end, and a repair
+unfoldable pub state_reply : State → Result State Error → Reply State
+state_reply s (Ok t) = reply 0 [] t
+state_reply s (Err e) = reply (error_number e) [] s
 
-unfoldable pub update_reply : State → Result (Unit {0}) Error → Reply State
-update_reply s (Ok done) = reply 0 [] s
-update_reply s (Err e) = reply (error_number e) [] s
+-- of one that answers a number: find, the suggested size, and an iterator's begin
+unfoldable pub value_reply : State → Result ℕ Error → Reply State
+value_reply s (Ok value) = reply 0 (value ∷ []) s
+value_reply s (Err e) = reply (error_number e) (0 ∷ []) s
 
-unfoldable pub add_reply : State → Result State Error → Reply State
-add_reply s (Ok t) = reply 0 [] t
-add_reply s (Err e) = reply (error_number e) [] s
-
-unfoldable pub delete_reply : State → Result State Error → Reply State
-delete_reply s (Ok t) = reply 0 [] t
-delete_reply s (Err e) = reply (error_number e) [] s
-
-unfoldable pub resize_reply : State → Result State Error → Reply State
-resize_reply s (Ok t) = reply 0 [] t
-resize_reply s (Err e) = reply (error_number e) [] s
+-- of one that answers nothing more: update, and an iterator's end
+unfoldable pub done_reply : State → Result (Unit {0}) Error → Reply State
+done_reply s (Ok done) = reply 0 [] s
+done_reply s (Err e) = reply (error_number e) [] s
 
 -- how many entries moved, then 1 while the rehash goes on
 unfoldable pub step_reply : State → Result (ℕ × State) Error → Reply State
 step_reply s (Ok (moved, t)) = reply 0 (moved ∷ cond t.rehashing 1 0 ∷ []) t
 step_reply s (Err e) = reply (error_number e) (0 ∷ 0 ∷ []) s
-
-unfoldable pub size_reply : State → Result ℕ Error → Reply State
-size_reply s (Ok size) = reply 0 (size ∷ []) s
-size_reply s (Err e) = reply (error_number e) (0 ∷ []) s
-
--- of the permission, and of a safe iterator's begin and end
-unfoldable pub state_reply : State → Result State Error → Reply State
-state_reply s (Ok t) = reply 0 [] t
-state_reply s (Err e) = reply (error_number e) [] s
-
-unfoldable pub begin_reply : State → Result ℕ Error → Reply State
-begin_reply s (Ok fingerprint) = reply 0 (fingerprint ∷ []) s
-begin_reply s (Err e) = reply (error_number e) (0 ∷ []) s
-
-unfoldable pub end_reply : State → Result (Unit {0}) Error → Reply State
-end_reply s (Ok done) = reply 0 [] s
-end_reply s (Err e) = reply (error_number e) [] s
 
 -- A look answers the live table. A live table has a bucket, so an empty look is a refusal.
 unfoldable pub table_reply : State → List ℕ → Reply State
@@ -92,7 +70,3 @@ scan_reply s (Err (ScanError.Refused e)) = reply (error_number e) (0 ∷ 0 ∷ [
 unfoldable pub verify_reply : State → Result Bool Error → Reply State
 verify_reply s (Ok undamaged) = reply 0 (cond undamaged 1 0 ∷ []) s
 verify_reply s (Err e) = reply (error_number e) (0 ∷ []) s
-
-unfoldable pub repair_reply : State → Result State Error → Reply State
-repair_reply s (Ok t) = reply 0 [] t
-repair_reply s (Err e) = reply (error_number e) [] s

@@ -2,7 +2,7 @@
 use Rattle.std.specs.Prelude.{ℕ, zero, suc, Bool, cond, List, [], ◌∷◌, map, length, eqb}
 use Rattle.std.proofs.Math.Option.{Option, none, some}
 use Rattle.model.specs.declared.State.{State}
-use Rattle.model.specs.Answers.{Reply, reply, init_reply, find_reply, update_reply, add_reply, delete_reply, resize_reply, step_reply, size_reply, state_reply, begin_reply, end_reply, table_reply, scan_reply}
+use Rattle.model.specs.Answers.{Reply, reply, init_reply, value_reply, done_reply, state_reply, step_reply, table_reply, scan_reply}
 use Rattle.model.specs.Calls.{After}
 use Rattle.model.specs.Calls as calls
 use Rattle.model.specs.Walk.{AfterScan}
@@ -75,20 +75,20 @@ given w call = call w.state w.first w.second w.entries
 
 unfoldable pub perform : World → Call → Outcome
 perform w (Call.init capacity size) = left init_reply (calls.init w.first w.second w.entries capacity size)
-perform w (Call.on key KeyCall.find) = kept w (find_reply w.state (given w calls.find key)) []
-perform w (Call.on key (KeyCall.update value)) = left (update_reply w.state) (given w calls.update key value)
-perform w (Call.on key (KeyCall.add value)) = left (add_reply w.state) (given w calls.add key value)
-perform w (Call.on key KeyCall.delete) = left (delete_reply w.state) (given w calls.delete key)
-perform w (Call.resize size) = left (resize_reply w.state) (given w calls.resize size)
+perform w (Call.on key KeyCall.find) = kept w (value_reply w.state (given w calls.find key)) []
+perform w (Call.on key (KeyCall.update value)) = left (done_reply w.state) (given w calls.update key value)
+perform w (Call.on key (KeyCall.add value)) = left (state_reply w.state) (given w calls.add key value)
+perform w (Call.on key KeyCall.delete) = left (state_reply w.state) (given w calls.delete key)
+perform w (Call.resize size) = left (state_reply w.state) (given w calls.resize size)
 perform w Call.rehash_step = left (step_reply w.state) (given w calls.rehash_step)
 perform w (Call.scan cursor lent) = kept_scan w (given w walk.scan lent cursor)
 perform w (Call.iterate place lent) = kept_scan w (given w iterators.iterate lent place)
 perform w (Call.read (ReadCall.suggested_size growing)) =
-    kept w (size_reply w.state (given w calls.suggested_size growing)) []
+    kept w (value_reply w.state (given w calls.suggested_size growing)) []
 perform w (Call.read ReadCall.current_table) = kept w (table_reply w.state (given w calls.current_table)) []
-perform w (Call.read ReadCall.begin_iterator) = kept w (begin_reply w.state (given w iterators.begin_iterator)) []
+perform w (Call.read ReadCall.begin_iterator) = kept w (value_reply w.state (given w iterators.begin_iterator)) []
 perform w (Call.read (ReadCall.end_iterator fingerprint)) =
-    kept w (end_reply w.state (given w iterators.end_iterator fingerprint)) []
+    kept w (done_reply w.state (given w iterators.end_iterator fingerprint)) []
 perform w (Call.note (StateCall.allow_resize allowed)) = kept w (state_reply w.state (given w calls.allow_resize allowed)) []
 perform w (Call.note StateCall.begin_safe) = kept w (state_reply w.state (given w iterators.begin_safe)) []
 perform w (Call.note StateCall.end_safe) = kept w (state_reply w.state (given w iterators.end_safe)) []

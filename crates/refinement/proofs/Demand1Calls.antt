@@ -15,7 +15,7 @@ use Rattle.model.specs.declared.Table.{Table}
 use Rattle.model.specs.declared.Error.{Error}
 use Rattle.model.specs.declared.Lookup.{Lookup}
 use Rattle.model.specs.declared.Ahead.{Ahead}
-use Rattle.model.specs.Answers.{Reply, reply, error_number, init_reply, find_reply, update_reply, add_reply, delete_reply, resize_reply, step_reply, size_reply, state_reply, begin_reply, end_reply, table_reply}
+use Rattle.model.specs.Answers.{Reply, reply, error_number, init_reply, value_reply, done_reply, state_reply, step_reply, table_reply}
 use Rattle.model.specs.Limits.{largest_exponent, legal_capacity, legal_size, empty_visits, most_safe_iterators}
 use Rattle.model.specs.Memory.{link_of, buckets_of, keys_held, Place, chain_at}
 use Rattle.model.specs.Calls.{After, no_state, oriented, reading, writing, changed, lookup, held, found, updated, push, pushed, target, takeable, added, unlink_bucket, unlink_entry, removed, deleted, long_enough, acceptable, resized, step_done, moved_chain, moved_from, step_taken, paused, stepped}
@@ -191,44 +191,44 @@ module _ (w : World) where
   passes_free f = passes_same (λ h. (f, h)) (λ h. h.1) (passes_or (passes_ne _ _) (passes_le _ _))
 
   -- add of a key that is not there
-  added_good : {c : Call} (key value : ℕ) → Refusing c (add_reply w.state) Err
+  added_good : {c : Call} (key value : ℕ) → Refusing c (state_reply w.state) Err
       → Good w c (row 5 (Full w) ∷ row 2 (FreeListDamaged w) ∷ [])
-      (put w (add_reply w.state) (here added key value Lookup.Absent))
-  unfolding row added add_reply reply error_number pushed push Full
+      (put w (state_reply w.state) (here added key value Lookup.Absent))
+  unfolding row added state_reply reply error_number pushed push Full
   added_good {c} key value refuse =
-      barred (put w (add_reply w.state)) (tells_eq (keys_held w.state) w.state.capacity) (refuse Error.Full)
-      (λ room. gated (put w (add_reply w.state)) (passes_free room) (λ h. pushes) (refuse Error.Damaged))
+      barred (put w (state_reply w.state)) (tells_eq (keys_held w.state) w.state.capacity) (refuse Error.Full)
+      (λ room. gated (put w (state_reply w.state)) (passes_free room) (λ h. pushes) (refuse Error.Damaged))
     where
-      pushes : Good w c [] (put w (add_reply w.state) (here pushed key value (target w.state.rehashing)))
+      pushes : Good w c [] (put w (state_reply w.state) (here pushed key value (target w.state.rehashing)))
       pushes =
-          changed_done (add_reply w.state) (target w.state.rehashing) _ _ _ refl (simp length-set)
+          changed_done (state_reply w.state) (target w.state.rehashing) _ _ _ refl (simp length-set)
           (simp (length_set_value, length_set_key, length_set_link))
 
   pub alone_good : (key : ℕ) (c : KeyCall) → Good w (Call.on key c) (row 1 (BadState w) ∷ alone_rows w key c) (alone w key c)
-  unfolding alone perform alone_rows key_rows row given calls.find found calls.update updated calls.add_alone added calls.delete_alone deleted removed held unlink_entry LeavesAll Leaves key_zeros find_reply update_reply add_reply delete_reply reply error_number kept carry lengths_of world
+  unfolding alone perform alone_rows key_rows row given calls.find found calls.update updated calls.add_alone added calls.delete_alone deleted removed held unlink_entry LeavesAll Leaves key_zeros value_reply done_reply state_reply reply error_number kept carry lengths_of world
   alone_good key KeyCall.find =
-      read (λ a. kept w (find_reply w.state a) []) _ _ (refl, refl)
+      read (λ a. kept w (value_reply w.state a) []) _ _ (refl, refl)
       (λ h.
-      held_good key (λ l. kept w (find_reply w.state (found w.entries l)) []) (refl, refl) (refl, refl)
+      held_good key (λ l. kept w (value_reply w.state (found w.entries l)) []) (refl, refl) (refl, refl)
       (λ t before n. Good.answered refl refl))
   alone_good key (KeyCall.update value) =
-      written _ (update_reply w.state) Err (λ e. (refl, refl)) _
+      written _ (done_reply w.state) Err (λ e. (refl, refl)) _
       (λ refuse.
-      held_good key (λ l. put w (update_reply w.state) (updated (current w) (other w) w.entries value l))
+      held_good key (λ l. put w (done_reply w.state) (updated (current w) (other w) w.entries value l))
       (refuse Error.Damaged) (refuse Error.Absent)
       (λ t before n.
-      done (update_reply w.state) _ _ _ _ refl refl refl (length_set_value w.entries n value)))
+      done (done_reply w.state) _ _ _ _ refl refl refl (length_set_value w.entries n value)))
   alone_good key (KeyCall.add value) =
-      written _ (add_reply w.state) Err (λ e. (refl, refl)) _
+      written _ (state_reply w.state) Err (λ e. (refl, refl)) _
       (λ refuse.
-      looked key (λ l. put w (add_reply w.state) (here added key value l)) (refuse Error.Damaged)
+      looked key (λ l. put w (state_reply w.state) (here added key value l)) (refuse Error.Damaged)
       (λ n. Good.past n (added_good key value refuse)) (λ h t before n. Good.refused h (refuse Error.Present)))
   alone_good key KeyCall.delete =
-      written _ (delete_reply w.state) Err (λ e. (refl, refl)) _
+      written _ (state_reply w.state) Err (λ e. (refl, refl)) _
       (λ refuse.
-      held_good key (λ l. put w (delete_reply w.state) (here deleted key l)) (refuse Error.Damaged) (refuse Error.Absent)
+      held_good key (λ l. put w (state_reply w.state) (here deleted key l)) (refuse Error.Damaged) (refuse Error.Absent)
       (λ t before n.
-      changed_done (delete_reply w.state) t _ _ _ refl (simp length_unlinked) (simp (length_set_entry, length_set_link))))
+      changed_done (state_reply w.state) t _ _ _ refl (simp length_unlinked) (simp (length_set_entry, length_set_link))))
 
   -- ---- resize
 
@@ -240,24 +240,24 @@ module _ (w : World) where
       rw and_assoc (passes_or (passes_not (tells_true (legal_size size))) (passes_or (passes_ne _ _) (passes_le _ _)))
 
   pub resized_good : (size : ℕ) → Good w (Call.resize size) (rows w (Call.resize size)) (perform w (Call.resize size))
-  unfolding perform rows row given calls.resize resized LeavesAll Leaves resize_reply reply error_number kept
+  unfolding perform rows row given calls.resize resized LeavesAll Leaves state_reply reply error_number kept
   resized_good size =
-      written (Call.resize size) (resize_reply w.state) Err (λ e. (refl, refl)) _
+      written (Call.resize size) (state_reply w.state) Err (λ e. (refl, refl)) _
       (λ refuse. by refuse w.state.rehashing)
     where
-      by : Refusing (Call.resize size) (resize_reply w.state) Err → (t : Bool)
+      by : Refusing (Call.resize size) (state_reply w.state) Err → (t : Bool)
           → Good w (Call.resize size)
           (row 7 (t ≡ true)
           ∷ row 6 ((¬ (legal_size size ≡ true)) ⊎ (size ≡ w.state.old_size) ⊎ (length (other w) < size))
           ∷ [])
-          (put w (resize_reply w.state) (here resized size t))
+          (put w (state_reply w.state) (here resized size t))
       by refuse true = Good.refused refl (refuse Error.Rehashing)
       by refuse false =
           Good.past (λ e. true_not_false (sym e))
-          (gated (put w (resize_reply w.state)) (passes_size size)
+          (gated (put w (state_reply w.state)) (passes_size size)
           (λ accepted.
           let fits = (allowed w.state.old_size (length (other w)) size accepted).2 in
-          done (resize_reply w.state) _ _ _ _ refl refl (length_cleared size (other w) fits) refl)
+          done (state_reply w.state) _ _ _ _ refl refl (length_cleared size (other w) fits) refl)
           (refuse Error.BadSize))
 
   -- ---- a step
@@ -348,24 +348,24 @@ module _ (w : World) where
   look_number (suc n) (b ∷ buckets) h l = refl
 
   pub read_good : (c : ReadCall) → Good w (Call.read c) (rows w (Call.read c)) (perform w (Call.read c))
-  unfolding perform rows read_rows row given calls.suggested_size calls.current_table iterators.begin_iterator iterators.end_iterator size_reply table_reply begin_reply end_reply reply error_number LeavesAll read_zeros Leaves kept carry lengths_of world legal_size
+  unfolding perform rows read_rows row given calls.suggested_size calls.current_table iterators.begin_iterator iterators.end_iterator value_reply table_reply done_reply reply error_number LeavesAll read_zeros Leaves kept carry lengths_of world legal_size
   read_good (ReadCall.suggested_size growing) =
-      read (λ a. kept w (size_reply w.state a) []) _ _ (refl, refl) (λ h. Good.answered refl refl)
+      read (λ a. kept w (value_reply w.state a) []) _ _ (refl, refl) (λ h. Good.answered refl refl)
   read_good ReadCall.current_table =
       read (λ l. kept w (table_reply w.state l) []) _ _ (refl, refl)
       (λ h.
       let sound = sound_facts w.state (current w) (other w) w.entries h in
       Good.answered (look_number _ _ (legal_pos largest_exponent _ sound.old_legal) sound.old_fits) refl)
   read_good ReadCall.begin_iterator =
-      read (λ a. kept w (begin_reply w.state a) []) _ _ (refl, refl) (λ h. Good.answered refl refl)
+      read (λ a. kept w (value_reply w.state a) []) _ _ (refl, refl) (λ h. Good.answered refl refl)
   read_good (ReadCall.end_iterator fingerprint) =
-      read (λ a. kept w (end_reply w.state a) []) _ _ (refl, refl)
+      read (λ a. kept w (done_reply w.state a) []) _ _ (refl, refl)
       (λ h.
       let refuse : (e : Error) → Refuses w (Call.read (ReadCall.end_iterator fingerprint)) (error_number e)
-      (kept w (end_reply w.state (Err e)) []) =
+      (kept w (done_reply w.state (Err e)) []) =
       λ e. (refl, refl)
       in
-      gated (λ a. kept w (end_reply w.state a) []) (passes_not (tells_eq fingerprint _)) (λ e. Good.answered refl refl)
+      gated (λ a. kept w (done_reply w.state a) []) (passes_not (tells_eq fingerprint _)) (λ e. Good.answered refl refl)
       (refuse Error.Changed))
 
   -- ---- the calls that set a field of the state

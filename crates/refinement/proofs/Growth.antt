@@ -5,7 +5,7 @@ use mathlib.Core.Path.{◌≡◌, refl, sym, ap}
 use mathlib.Core.Bool.{Bool, true, false, ◌&&◌, not, cond}
 use mathlib.Core.List.{List, []}
 use Rattle.model.specs.declared.State.{State}
-use Rattle.model.specs.Answers.{reply, add_reply, resize_reply}
+use Rattle.model.specs.Answers.{reply, state_reply}
 use Rattle.model.specs.Memory.{keys_held}
 use Rattle.model.specs.Calls.{After, suggested, growth_due, grown_by, grown, then_grown}
 use Rattle.model.specs.Calls as calls
@@ -47,7 +47,7 @@ pub data Follows (w : World) (c : KeyCall) (before after : Outcome) : Type 0 whe
 
 module _ (w : World) where
   abbrev added : After (Result State Error) → Outcome
-  added a = left (add_reply w.state) a
+  added a = left (state_reply w.state) a
 
   -- answered, and that world left
   record Leaves (o : Outcome) (v : World) : Type 0 where
@@ -57,8 +57,8 @@ module _ (w : World) where
 
   -- by what the resize answered
   resize_leaves : (t : State) (x y z : List ℕ) (a : After (Result State Error))
-      → Leaves (added (grown_by t a)) (carry (world t x y z) (left (resize_reply t) a))
-  unfolding grown_by left add_reply resize_reply reply carry carried_state world
+      → Leaves (added (grown_by t a)) (carry (world t x y z) (left (state_reply t) a))
+  unfolding grown_by left state_reply reply carry carried_state world
   resize_leaves t x y z (After.after (Ok u) x' y' z') = record { number = refl; values = refl; world = refl }
   resize_leaves t x y z (After.after (Err e) x' y' z') =
       let (n, is) = some_number e in
@@ -69,7 +69,7 @@ module _ (w : World) where
       }
 
   grown_leaves : (t : State) (x y z : List ℕ) → Leaves (added (grown t x y z)) (grown_world (world t x y z))
-  unfolding grown grown_world grows_at resized_world world perform given left add_reply reply carry carried_state
+  unfolding grown grown_world grows_at resized_world world perform given left state_reply reply carry carried_state
   grown_leaves t x y z =
       by (not t.rehashing && growth_due t.resize_allowed t.old_size (keys_held t))
     where
@@ -78,12 +78,12 @@ module _ (w : World) where
 
       by : (due : Bool)
           → Leaves (added (cond due (grown_by t (calls.resize t x y z size)) (After.after (Ok t) x y z)))
-          (cond due (carry (world t x y z) (left (resize_reply t) (calls.resize t x y z size))) (world t x y z))
+          (cond due (carry (world t x y z) (left (state_reply t) (calls.resize t x y z size))) (world t x y z))
       by true = resize_leaves t x y z (calls.resize t x y z size)
       by false = record { number = refl; values = refl; world = refl }
 
   add_follows : (value : ℕ) (a : After (Result State Error)) → Follows w (KeyCall.add value) (added a) (added (then_grown a))
-  unfolding then_grown left add_reply reply carry carried_state world may_grow
+  unfolding then_grown left state_reply reply carry carried_state world may_grow
   add_follows value (After.after (Err e) x y z) = let (n, is) = some_number e in Follows.refused n is refl
   add_follows value (After.after (Ok t) x y z) =
       let l = grown_leaves t x y z in Follows.answered refl refl l.number l.values l.world

@@ -7,7 +7,7 @@ use mathlib.Core.List.{List, []}
 use native.Mathlib.Omega.{arith}
 use Rattle.model.specs.declared.State.{State}
 use Rattle.model.specs.declared.Error.{Error}
-use Rattle.model.specs.Answers.{Reply, reply, error_number, add_reply, delete_reply, step_reply}
+use Rattle.model.specs.Answers.{Reply, reply, error_number, state_reply, step_reply}
 use Rattle.model.specs.Calls.{After, unless_refused, step_due, step_first, is_added, is_deleted}
 use Rattle.model.specs.Calls as calls
 use Rattle.model.specs.Sequences.{World, world, KeyCall, Call, Outcome, kept, left, given, perform, carried_state, carry}
@@ -19,14 +19,14 @@ use Rattle.std.specs.Prelude.{Result, Ok, Err}
 unfoldable pub alone : World → ℕ → KeyCall → Outcome
 alone w key KeyCall.find = perform w (Call.on key KeyCall.find)
 alone w key (KeyCall.update value) = perform w (Call.on key (KeyCall.update value))
-alone w key (KeyCall.add value) = left (add_reply w.state) (given w calls.add_alone key value)
-alone w key KeyCall.delete = left (delete_reply w.state) (given w calls.delete_alone key)
+alone w key (KeyCall.add value) = left (state_reply w.state) (given w calls.add_alone key value)
+alone w key KeyCall.delete = left (state_reply w.state) (given w calls.delete_alone key)
 
 -- a call on a key with its step, before any growth
 unfoldable pub before_growth : World → ℕ → KeyCall → Outcome
 before_growth w key KeyCall.find = perform w (Call.on key KeyCall.find)
 before_growth w key (KeyCall.update value) = perform w (Call.on key (KeyCall.update value))
-before_growth w key (KeyCall.add value) = left (add_reply w.state) (given w calls.add_after_step key value)
+before_growth w key (KeyCall.add value) = left (state_reply w.state) (given w calls.add_after_step key value)
 before_growth w key KeyCall.delete = perform w (Call.on key KeyCall.delete)
 
 -- What a call comes to that takes a step first: the step refused, or the call on what it left, with all as it was; or both
@@ -119,14 +119,14 @@ module _ {A : Type 0} (refused : Error → A) (done : A → Bool) (replies : Sta
 
 -- for add and delete
 
-added_kind : (a : Result State Error) → Kind is_added add_reply a
-unfolding is_added add_reply reply
+added_kind : (a : Result State Error) → Kind is_added state_reply a
+unfolding is_added state_reply reply
 added_kind (Ok t) = Kind.answer refl t (λ s. refl)
 added_kind (Err e) =
     let (n, is) = some_number e in Kind.refusal refl n (λ s. ap (λ (m : ℕ). reply m [] s) is)
 
-deleted_kind : (a : Result State Error) → Kind is_deleted delete_reply a
-unfolding is_deleted delete_reply reply
+deleted_kind : (a : Result State Error) → Kind is_deleted state_reply a
+unfolding is_deleted state_reply reply
 deleted_kind (Ok t) = Kind.answer refl t (λ s. refl)
 deleted_kind (Err e) =
     let (n, is) = some_number e in Kind.refusal refl n (λ s. ap (λ (m : ℕ). reply m [] s) is)
@@ -140,21 +140,21 @@ module _ (w : World) (key : ℕ) where
 
   pub on_rides : (c : KeyCall) → takes_step c ≡ true → step_due w.state ≡ true
       → Rides w (perform w Call.rehash_step) (λ v. alone v key c) (before_growth w key c)
-  unfolding takes_step alone before_growth perform given calls.add_after_step calls.delete add_reply delete_reply reply
+  unfolding takes_step alone before_growth perform given calls.add_after_step calls.delete state_reply reply
   on_rides KeyCall.find t e = let z : ◌≡◌ {A = ℕ} 0 1 = cc in absurd (omega arith)
   on_rides (KeyCall.update value) t e = let z : ◌≡◌ {A = ℕ} 0 1 = cc in absurd (omega arith)
   on_rides (KeyCall.add value) t e =
-      rides Err is_added add_reply (λ s error. refl) added_kind (adds value) w e
+      rides Err is_added state_reply (λ s error. refl) added_kind (adds value) w e
   on_rides KeyCall.delete t e =
-      rides Err is_deleted delete_reply (λ s error. refl) deleted_kind deletes w e
+      rides Err is_deleted state_reply (λ s error. refl) deleted_kind deletes w e
 
   -- and else it is the call alone
   pub on_alone : (c : KeyCall) → (takes_step c && step_due w.state) ≡ false → before_growth w key c ≡ alone w key c
-  unfolding takes_step alone before_growth perform given calls.add_after_step calls.delete add_reply delete_reply reply
+  unfolding takes_step alone before_growth perform given calls.add_after_step calls.delete state_reply reply
   on_alone KeyCall.find e = refl
   on_alone (KeyCall.update value) e = refl
   on_alone (KeyCall.add value) e =
-      ap (left (add_reply w.state)) (rests Err is_added add_reply (λ s error. refl) added_kind (adds value) w e)
+      ap (left (state_reply w.state)) (rests Err is_added state_reply (λ s error. refl) added_kind (adds value) w e)
   on_alone KeyCall.delete e =
-      ap (left (delete_reply w.state))
-      (rests Err is_deleted delete_reply (λ s error. refl) deleted_kind deletes w e)
+      ap (left (state_reply w.state))
+      (rests Err is_deleted state_reply (λ s error. refl) deleted_kind deletes w e)

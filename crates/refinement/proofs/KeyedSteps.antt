@@ -16,7 +16,7 @@ use Rattle.cursor.specs.Member.{In, Distinct, keep}
 use Rattle.model.specs.declared.State.{State}
 use Rattle.model.specs.declared.Table.{Table}
 use Rattle.model.specs.declared.Error.{Error}
-use Rattle.model.specs.Answers.{Reply, reply, error_number, find_reply, update_reply, add_reply, delete_reply}
+use Rattle.model.specs.Answers.{Reply, reply, error_number, value_reply, done_reply, state_reply}
 use Rattle.model.specs.Memory.{Place, Live, size_of, keys_held, key_place, value_of}
 use Rattle.model.specs.Calls.{After, writing, lookup, found, updated, added, deleted, target}
 use Rattle.model.specs.Calls as calls
@@ -199,19 +199,19 @@ module _ (w : World) (i : Ideal) (a : Agrees w i) where
     -- Find.
 
     keyed_find : Comes w (alone w key KeyCall.find) (key_answer i (map_does i.plain key KeyCall.find))
-    unfolding alone perform given kept calls.find find_reply reply error_number map_answer
+    unfolding alone perform given kept calls.find value_reply reply error_number map_answer
     keyed_find = pick (value_for key ps) refl
       where
         read : Result ℕ Error → Type 0
         read r = calls.find s w.first w.second w.entries key ≡ r
 
         stays_by : (r : Result ℕ Error) (n : ℕ) (vs : List ℕ) → map_does i.plain key KeyCall.find ≡ reply n vs i.plain
-            → (find_reply s r).number ≡ n → (find_reply s r).values ≡ vs → read r
+            → (value_reply s r).number ≡ n → (value_reply s r).values ≡ vs → read r
             → Comes w (alone w key KeyCall.find) (key_answer i (map_does i.plain key KeyCall.find))
         stays_by r n vs is number values e =
             stays key KeyCall.find (alone w key KeyCall.find) n vs is (find_keeps w key)
-            (ap (λ (x : Result ℕ Error). (find_reply s x).number) e ∙ number)
-            (ap (λ (x : Result ℕ Error). (find_reply s x).values) e ∙ values)
+            (ap (λ (x : Result ℕ Error). (value_reply s x).number) e ∙ number)
+            (ap (λ (x : Result ℕ Error). (value_reply s x).values) e ∙ values)
 
         body : List ℕ → List ℕ → Result ℕ Error
         body current other = found w.entries (lookup s current other w.entries key)
@@ -278,7 +278,7 @@ module _ (w : World) (i : Ideal) (a : Agrees w i) where
 
       keyed_update : Comes w (alone w key (KeyCall.update value))
           (key_answer i (map_does i.plain key (KeyCall.update value)))
-      unfolding alone perform given calls.update update_reply reply error_number map_answer
+      unfolding alone perform given calls.update done_reply reply error_number map_answer
       keyed_update = pick (value_for key ps) refl
         where
           c : KeyCall
@@ -292,7 +292,7 @@ module _ (w : World) (i : Ideal) (a : Agrees w i) where
 
           pick : (o : Option ℕ) → value_for key ps ≡ o → Comes w (alone w key c) (key_answer i (map_does i.plain key c))
           pick none e =
-              refused key c (update_reply s) bad call refl (Err Error.Absent) 2 (does c none e) refl refl
+              refused key c (done_reply s) bad call refl (Err Error.Absent) 2 (does c none e) refl refl
               (update_absent a.shape key (not_held e) value)
           pick (some held) e =
               let h = a.in_store key held e in
@@ -304,7 +304,7 @@ module _ (w : World) (i : Ideal) (a : Agrees w i) where
               (l : StoreAfter s answer o (keys_held s) s.rehash_index places) × (l.state ≡ s))
               (sym (update_held a.shape key h.held.entry h.place h.live h.bucket h.held.there h.held.its_key value))
               (updated_store a.shape key value h.held.entry h.place h.live h.bucket h.held.there h.held.its_key) in
-              answered key c (update_reply s) bad call refl answer (keys_held s) places l (with_value key value ps)
+              answered key c (done_reply s) bad call refl answer (keys_held s) places l (with_value key value ps)
               (does c (some held) e) refl refl (sym same) (update_pairs held e)
 
       -- Add.
@@ -358,7 +358,7 @@ module _ (w : World) (i : Ideal) (a : Agrees w i) where
           before rehashing b k v (inr h) = (v, h)
 
       keyed_add : Comes w (alone w key (KeyCall.add value)) (key_answer i (map_does i.plain key (KeyCall.add value)))
-      unfolding alone given calls.add_alone add_reply reply error_number map_answer keys_held
+      unfolding alone given calls.add_alone state_reply reply error_number map_answer keys_held
       keyed_add = pick (value_for key ps) refl
         where
           c : KeyCall
@@ -381,7 +381,7 @@ module _ (w : World) (i : Ideal) (a : Agrees w i) where
               → Comes w (alone w key c) (key_answer i (map_does i.plain key c))
           room e true f =
               let reached = eqb-true (length ps) i.plain.capacity f in
-              refused key c (add_reply s) bad call refl (Err Error.Full) 4 (full true f e) refl refl
+              refused key c (state_reply s) bad call refl (Err Error.Full) 4 (full true f e) refl refl
               (add_full a.shape key (not_held e) value
               (omega (arith, a.count, a.capacity)))
           room e false f =
@@ -392,14 +392,14 @@ module _ (w : World) (i : Ideal) (a : Agrees w i) where
               subst (λ (o : After (Result State Error)). StoreAfter s Ok o (keys_held s + 1) s.rehash_index Joined)
               (sym (add_free a.shape key (not_held e) value (λ f. omega arith)))
               (added_store a.shape key value (omega arith) (λ n t l b j k. not_held e t l b n j k) to refl) in
-              answered key c (add_reply s) bad call refl Ok (keys_held s + 1) Joined l (pair key value ∷ ps)
+              answered key c (state_reply s) bad call refl Ok (keys_held s + 1) Joined l (pair key value ∷ ps)
               (full false f e) refl refl refl (add_pairs e)
 
           pick : (o : Option ℕ) → value_for key ps ≡ o → Comes w (alone w key c) (key_answer i (map_does i.plain key c))
           pick none e = room e (eqb (length ps) i.plain.capacity) refl
           pick (some held) e =
               let h = a.in_store key held e in
-              refused key c (add_reply s) bad call refl (Err Error.Present) 3 (does c (some held) e) refl refl
+              refused key c (state_reply s) bad call refl (Err Error.Present) 3 (does c (some held) e) refl refl
               (add_held a.shape key h.held.entry h.place h.live h.bucket h.held.there h.held.its_key value)
 
     -- Delete.
@@ -437,7 +437,7 @@ module _ (w : World) (i : Ideal) (a : Agrees w i) where
             (h.place, h.live, h.bucket, (h.held, d))
 
     keyed_delete : Comes w (alone w key KeyCall.delete) (key_answer i (map_does i.plain key KeyCall.delete))
-    unfolding alone given calls.delete_alone delete_reply reply error_number map_answer
+    unfolding alone given calls.delete_alone state_reply reply error_number map_answer
     keyed_delete = pick (value_for key ps) refl
       where
         call : List ℕ → List ℕ → After (Result State Error)
@@ -449,7 +449,7 @@ module _ (w : World) (i : Ideal) (a : Agrees w i) where
         pick : (o : Option ℕ) → value_for key ps ≡ o
             → Comes w (alone w key KeyCall.delete) (key_answer i (map_does i.plain key KeyCall.delete))
         pick none e =
-            refused key KeyCall.delete (delete_reply s) bad call refl (Err Error.Absent) 2
+            refused key KeyCall.delete (state_reply s) bad call refl (Err Error.Absent) 2
             (does KeyCall.delete none e) refl refl (delete_absent a.shape key (not_held e))
         pick (some held) e =
             let h = a.in_store key held e in
@@ -460,7 +460,7 @@ module _ (w : World) (i : Ideal) (a : Agrees w i) where
             (sym is)
             (deleted_store a.shape key t h.held.entry before at.us at.vs at.live at.split
             at.before_last at.its_key) in
-            answered key KeyCall.delete (delete_reply s) bad call refl Ok (keys_held s - 1) Left l
+            answered key KeyCall.delete (state_reply s) bad call refl Ok (keys_held s - 1) Left l
             (without key ps) (does KeyCall.delete (some held) e) refl refl refl (delete_pairs held e)
 
   pub keyed_steps : (key : ℕ) (c : KeyCall) → Comes w (alone w key c) (key_answer i (map_does i.plain key c))

@@ -5,7 +5,7 @@ use Prim.Native.Nat.{ℕ, zero, suc}
 use mathlib.Core.Path.{◌≡◌, refl, ap, ◌∙◌}
 use mathlib.Core.List.{List, [], ◌∷◌}
 use Rattle.model.specs.declared.State.{State}
-use Rattle.model.specs.Answers.{Reply, reply, find_reply, size_reply, begin_reply, end_reply, table_reply, scan_reply}
+use Rattle.model.specs.Answers.{Reply, reply, value_reply, done_reply, table_reply, scan_reply}
 use Rattle.model.specs.Calls as calls
 use Rattle.model.specs.Walk.{AfterScan}
 use Rattle.model.specs.Walk as walk
@@ -50,10 +50,10 @@ module _ (w : World) where
   -- find, the calls that are lent a list, and those that only read leave it whatever they answer
 
   pub find_keeps : (key : ℕ) → carry w (perform w (Call.on key KeyCall.find)) ≡ w
-  unfolding perform find_reply reply
+  unfolding perform value_reply reply
   find_keeps key = by (given w calls.find key)
     where
-      by : (a : Result ℕ Error) → carry w (kept w (find_reply w.state a) []) ≡ w
+      by : (a : Result ℕ Error) → carry w (kept w (value_reply w.state a) []) ≡ w
       by (Ok value) = kept_carried w _ _ (λ e. refl)
       by (Err error) = kept_carried w _ _ (λ e. refl)
 
@@ -72,10 +72,10 @@ module _ (w : World) where
   iterate_keeps place lent = list_keeps (given w iterators.iterate lent place)
 
   pub read_keeps : (c : ReadCall) → carry w (perform w (Call.read c)) ≡ w
-  unfolding perform size_reply table_reply begin_reply end_reply reply
+  unfolding perform value_reply table_reply done_reply reply
   read_keeps (ReadCall.suggested_size growing) = by (given w calls.suggested_size growing)
     where
-      by : (a : Result ℕ Error) → carry w (kept w (size_reply w.state a) []) ≡ w
+      by : (a : Result ℕ Error) → carry w (kept w (value_reply w.state a) []) ≡ w
       by (Ok size) = kept_carried w _ _ (λ e. refl)
       by (Err error) = kept_carried w _ _ (λ e. refl)
   read_keeps ReadCall.current_table = by (given w calls.current_table)
@@ -85,11 +85,11 @@ module _ (w : World) where
       by (head ∷ rest) = kept_carried w _ _ (λ e. refl)
   read_keeps ReadCall.begin_iterator = by (given w iterators.begin_iterator)
     where
-      by : (a : Result ℕ Error) → carry w (kept w (begin_reply w.state a) []) ≡ w
+      by : (a : Result ℕ Error) → carry w (kept w (value_reply w.state a) []) ≡ w
       by (Ok fingerprint) = kept_carried w _ _ (λ e. refl)
       by (Err error) = kept_carried w _ _ (λ e. refl)
   read_keeps (ReadCall.end_iterator fingerprint) = by (given w iterators.end_iterator fingerprint)
     where
-      by : (a : Result (Unit {0}) Error) → carry w (kept w (end_reply w.state a) []) ≡ w
+      by : (a : Result (Unit {0}) Error) → carry w (kept w (done_reply w.state a) []) ≡ w
       by (Ok done) = kept_carried w _ _ (λ e. refl)
       by (Err error) = kept_carried w _ _ (λ e. refl)

@@ -12,7 +12,7 @@ use borrow.Author.Tests.{ltb-true}
 use Rattle.model.specs.declared.State.{State}
 use Rattle.model.specs.declared.Table.{Table}
 use Rattle.model.specs.declared.Error.{Error}
-use Rattle.model.specs.Answers.{Reply, reply, error_number, init_reply, resize_reply, size_reply, state_reply, begin_reply, end_reply, table_reply}
+use Rattle.model.specs.Answers.{Reply, reply, error_number, init_reply, state_reply, value_reply, done_reply, table_reply}
 use Rattle.model.specs.Limits.{largest_exponent, legal_capacity, legal_size, most_safe_iterators}
 use Rattle.model.specs.Memory.{Place, Live, size_of, used_of, keys_held}
 use Rattle.model.specs.Calls.{After, oriented, reading, state_of, old_new, empty_state, retabled, noted, suggested, cleared, no_state, long_enough, acceptable, resizing, resized}
@@ -58,29 +58,29 @@ module _ (w : World) (i : Ideal) (a : Agrees w i) where
 
   suggested_steps : (growing : Bool)
       → Steps w (Call.read (ReadCall.suggested_size growing)) (read_answer i (ReadCall.suggested_size growing))
-  unfolding read_answer perform given kept calls.suggested_size size_reply
+  unfolding read_answer perform given kept calls.suggested_size value_reply
   suggested_steps growing =
       reads (ReadCall.suggested_size growing) 0 (suggested growing (length i.plain.pairs) ∷ [])
-      (ap (size_reply w.state)
+      (ap (value_reply w.state)
       (reads_sound w (Err Error.BadState)
       (λ current other. Ok (suggested growing (keys_held w.state))) sound)
       ∙ ap (λ (n : ℕ). reply 0 (suggested growing n ∷ []) w.state) (sym a.count))
 
   -- an iterator's begin and end
   begin_steps : Steps w (Call.read ReadCall.begin_iterator) (read_answer i ReadCall.begin_iterator)
-  unfolding read_answer perform given kept iterators.begin_iterator begin_reply
+  unfolding read_answer perform given kept iterators.begin_iterator value_reply
   begin_steps =
       reads ReadCall.begin_iterator 0 (ideal_print i ∷ [])
-      (ap (begin_reply w.state)
+      (ap (value_reply w.state)
       (reads_sound w (Err Error.BadState) (λ current other. Ok (fingerprint_of w.state)) sound)
       ∙ ap (λ (n : ℕ). reply 0 (n ∷ []) w.state) (print_agrees w i a))
 
   end_steps : (fingerprint : ℕ)
       → Steps w (Call.read (ReadCall.end_iterator fingerprint)) (read_answer i (ReadCall.end_iterator fingerprint))
-  unfolding read_answer perform given kept iterators.end_iterator end_reply error_number
+  unfolding read_answer perform given kept iterators.end_iterator done_reply error_number
   end_steps fingerprint =
       reads (ReadCall.end_iterator fingerprint) (cond (eqb fingerprint (ideal_print i)) 0 15) []
-      (ap (end_reply w.state)
+      (ap (done_reply w.state)
       (reads_sound w (Err Error.BadState) (λ current other. answer (eqb fingerprint (fingerprint_of w.state))) sound)
       ∙ by (eqb fingerprint (fingerprint_of w.state))
       ∙ ap (λ (n : ℕ). reply (cond (eqb fingerprint n) 0 15) [] w.state) (print_agrees w i a))
@@ -88,7 +88,7 @@ module _ (w : World) (i : Ideal) (a : Agrees w i) where
       answer : Bool → Result (Unit {0}) Error
       answer same = cond same (Ok tt) (Err Error.Changed)
 
-      by : (same : Bool) → end_reply w.state (answer same) ≡ reply (cond same 0 15) [] w.state
+      by : (same : Bool) → done_reply w.state (answer same) ≡ reply (cond same 0 15) [] w.state
       by true = refl
       by false = refl
 
@@ -333,7 +333,7 @@ other_length w l same =
 -- a resize, answered or refused
 pub resize_steps : (w : World) (i : Ideal) → Agrees w i → (l : Lengths) → lengths_of w ≡ l → (size : ℕ)
     → Steps w (Call.resize size) (predict l i (Call.resize size))
-unfolding predict resize_answer reply perform given calls.resize resized resizing retabled state_of resize_reply error_number tables_of tables_by ideal
+unfolding predict resize_answer reply perform given calls.resize resized resizing retabled state_of state_reply error_number tables_of tables_by ideal
 resize_steps w i a l same size =
     subst (λ (t : Tables). Steps w c (resize_answer l i size t)) a.tables (by s.rehashing refl)
   where
@@ -372,7 +372,7 @@ resize_steps w i a l same size =
         → call (current w) (other w) ≡ After.after (Err n) (current w) (other w) w.entries
         → Steps w c (reply (suc k) [] i)
     refused n k is e =
-        let replied = left_reply w (resize_reply s) bad call sound_state_lem (Err n) (current w) (other w) w.entries e in
+        let replied = left_reply w (state_reply s) bad call sound_state_lem (Err n) (current w) (other w) w.entries e in
         let number = ap (λ (r : Reply State). r.number) replied ∙ is in
         leaves w i a c (suc k) [] (refused_keeps w c (resized_good w size) (λ z. omega (arith, number))) number
         (λ f. ap (λ (r : Reply State). r.values) replied)
@@ -384,14 +384,14 @@ resize_steps w i a l same size =
     answered e f =
         let is = accepting true e f in
         let answer = Ok (resizing s size) in
-        let replied = left_reply w (resize_reply s) bad call sound_state_lem answer (current w) (cleared size (other w)) w.entries is in
+        let replied = left_reply w (state_reply s) bad call sound_state_lem answer (current w) (cleared size (other w)) w.entries is in
         record {
           number = ap (λ (r : Reply State). r.number) replied;
           values = λ f. ap (λ (r : Reply State). r.values) replied;
           agrees =
               subst₂ (λ (v : World) (t : Bool). Agrees v (then t))
               (sym
-              (left_world w (resize_reply s) bad call sound_state_lem answer (current w) (cleared size (other w)) w.entries is
+              (left_world w (state_reply s) bad call sound_state_lem answer (current w) (cleared size (other w)) w.entries is
               (resizing s size) refl refl))
               a.turned
               (kept_agrees s.second_is_current (resizing s size) (current w) (cleared size (other w)) w.entries

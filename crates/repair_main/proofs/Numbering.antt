@@ -7,7 +7,7 @@ use mathlib.Core.List.{List}
 use lib.ListN.{get_or}
 use Rattle.model.specs.declared.State.{State}
 use Rattle.model.specs.declared.Error.{Error}
-use Rattle.model.specs.Answers.{reply, error_number, verify_reply, repair_reply}
+use Rattle.model.specs.Answers.{reply, error_number, verify_reply, state_reply}
 use Rattle.model.specs.Calls.{After}
 use Rattle.model.specs.Verify.{verify}
 use Rattle.model.specs.Repair.{repair}
@@ -40,20 +40,20 @@ module _ (a : Result Bool Error) (s : State) (r : ℕ) where
   said_nothing e h k = rw (h, k)
 
 module _ (a : Result State Error) (s : State) where
-  pub repaired_number : (r : ℕ) (t : State) → a ≡ Ok t → r ≡ 0 → r ≡ (repair_reply s a).number
-  unfolding repair_reply reply
+  pub repaired_number : (r : ℕ) (t : State) → a ≡ Ok t → r ≡ 0 → r ≡ (state_reply s a).number
+  unfolding state_reply reply
   repaired_number r t h k = rw (h, k)
 
-  pub unrepaired_number : (r : ℕ) (e : Error) → a ≡ Err e → r ≡ error_number e → r ≡ (repair_reply s a).number
-  unfolding repair_reply reply
+  pub unrepaired_number : (r : ℕ) (e : Error) → a ≡ Err e → r ≡ error_number e → r ≡ (state_reply s a).number
+  unfolding state_reply reply
   unrepaired_number r e h k = rw (h, k)
 
-  pub repaired_state_lem : (r t : State) → a ≡ Ok t → r ≡ t → r ≡ (repair_reply s a).state
-  unfolding repair_reply reply
+  pub repaired_state_lem : (r t : State) → a ≡ Ok t → r ≡ t → r ≡ (state_reply s a).state
+  unfolding state_reply reply
   repaired_state_lem r t h k = rw h k
 
-  pub unrepaired_state : (r : State) (e : Error) → a ≡ Err e → r ≡ s → r ≡ (repair_reply s a).state
-  unfolding repair_reply reply
+  pub unrepaired_state : (r : State) (e : Error) → a ≡ Err e → r ≡ s → r ≡ (state_reply s a).state
+  unfolding state_reply reply
   unrepaired_state r e h k = rw h k
 
 pub both : (s : State) (v : Result Bool Error) (r : Result State Error) (first second entries first₁ second₁ entries₁ : List ℕ)
@@ -62,8 +62,8 @@ pub both : (s : State) (v : Result Bool Error) (r : Result State Error) (first s
     → After.after r first₁ second₁ entries₁ ≡ repair s first second entries
     → ((s : State) → verified ≡ (verify_reply s v).number)
     → ((s : State) → undamaged ≡ get_or (verify_reply s v).values 0 0)
-    → ((s : State) → repaired ≡ (repair_reply s r).number)
-    → t ≡ (repair_reply s r).state
+    → ((s : State) → repaired ≡ (state_reply s r).number)
+    → t ≡ (state_reply s r).state
     → After.after (record { verify = verified; undamaged = undamaged; repair = repaired; state = t }) first₁ second₁ entries₁
     ≡ answered s first second entries
 unfolding answered behind in_numbers

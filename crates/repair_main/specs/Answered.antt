@@ -1,7 +1,7 @@
 -- What both calls answer on the same store, in the numbers of their replies, and the buffers behind them.
 use Rattle.std.specs.Prelude.{ℕ, List, get_or, Result}
 use Rattle.model.specs.declared.State.{State}
-use Rattle.model.specs.Answers.{verify_reply, repair_reply}
+use Rattle.model.specs.Answers.{verify_reply, state_reply}
 use Rattle.model.specs.Calls.{After}
 use Rattle.model.specs.Verify.{verify}
 use Rattle.model.specs.Repair.{repair}
@@ -14,8 +14,8 @@ in_numbers s v r =
     record {
       verify = (verify_reply s v).number;
       undamaged = get_or (verify_reply s v).values 0 0;
-      repair = (repair_reply s r).number;
-      state = (repair_reply s r).state;
+      repair = (state_reply s r).number;
+      state = (state_reply s r).state;
     }
 
 unfoldable pub behind : State → Result Bool Error → After (Result State Error) → After Answers

@@ -1,7 +1,7 @@
 // The two calls, answered in numbers.
 ghost use Rattle.std.specs.Prelude.{◌≡◌, get_or};
 ghost use Rattle.model.specs.declared.State.{State};
-ghost use Rattle.model.specs.Answers.{verify_reply, repair_reply};
+ghost use Rattle.model.specs.Answers.{verify_reply, state_reply};
 ghost use Rattle.model.specs.Calls.After.{after};
 ghost use Rattle.repair_main.specs.Answered.{answered};
 
@@ -38,7 +38,7 @@ fn undamaged_number(a: Result<bool, Error>) -> u32
 }
 
 fn repair_number(a: Result<State, Error>) -> u32
-    ensures { (s : State) → result ≡ (repair_reply s a).number }
+    ensures { (s : State) → result ≡ (state_reply s a).number }
 {
     match a {
         Ok(_) => 0,
@@ -48,7 +48,7 @@ fn repair_number(a: Result<State, Error>) -> u32
 
 // A refused repair hands back the state that it was given.
 fn state_after(a: Result<State, Error>, s: State) -> State
-    ensures { result ≡ (repair_reply s a).state }
+    ensures { result ≡ (state_reply s a).state }
 {
     match a {
         Ok(t) => t,

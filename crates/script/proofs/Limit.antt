@@ -11,7 +11,7 @@ use borrow.Author.Tests.{le-leb, lt-leb}
 use Rattle.model.specs.Limits.{legal_capacity, legal_size, largest_exponent}
 use Rattle.model.specs.declared.Error.{Error}
 use Rattle.model.specs.Calls.{After, sound, oriented, checked, writing, back, init, resize, resized, acceptable}
-use Rattle.model.specs.Answers.{reply, init_reply, resize_reply, error_number}
+use Rattle.model.specs.Answers.{reply, init_reply, state_reply, error_number}
 use Rattle.model.specs.Sequences.{World, world, Call, Outcome, perform, given, left, carry, carried_state}
 use Rattle.model.proofs.Power.{legal_pos}
 use Rattle.script.specs.declared.line.Command.{Command}
@@ -74,7 +74,7 @@ module _ (w : World) (lent : List ℕ) where
   -- the size 0, by the state's flags
   resized_by : (turned rehashing : Bool) → Outcome
   resized_by turned rehashing =
-      left (resize_reply w.state)
+      left (state_reply w.state)
       (back turned
       (oriented turned
       (checked w.state w.entries (λ current other. After.after (Err Error.BadState) current other w.entries)
@@ -83,7 +83,7 @@ module _ (w : World) (lent : List ℕ) where
 
   tested : (turned sound rehashing : Bool)
       → answered w
-      (left (resize_reply w.state)
+      (left (state_reply w.state)
       (back turned
       (oriented turned
       (λ current other.
@@ -92,7 +92,7 @@ module _ (w : World) (lent : List ℕ) where
       w.first w.second)))
       [] lent
       ≡ refusing w lent (cond sound (cond rehashing 7 6) 1)
-  unfolding answered refusing left back oriented resized acceptable resize_reply reply error_number carry carried_state world answer_line
+  unfolding answered refusing left back oriented resized acceptable state_reply reply error_number carry carried_state world answer_line
   tested false false rehashing = refl
   tested true false rehashing = refl
   tested false true true = refl

@@ -7,7 +7,7 @@ use mathlib.Core.List.{List, [], ◌∷◌}
 use native.Mathlib.Omega.{arith}
 use lib.ListN.{take}
 use Rattle.model.specs.declared.State.{State}
-use Rattle.model.specs.Answers.{reply, init_reply, find_reply, resize_reply, step_reply}
+use Rattle.model.specs.Answers.{reply, init_reply, value_reply, state_reply, step_reply}
 use Rattle.model.specs.Answers as answers
 use Rattle.model.specs.Calls.{After, init, resize}
 use Rattle.model.specs.Sequences.{World, world, Outcome, kept, left}
@@ -68,18 +68,18 @@ module _ (s : State) (first second entries lent : List ℕ) (r : Reply) (x y z :
       left_leaves (world s first second entries) lent r init_reply _ (c ∙ ap₂ (init first second entries) e f) q
 
   pub resize_leaves : (a : Result State Error) (size n : ℕ) → n ≡ size
-      → After.after a x y z ≡ resize s first second entries n → Replies r (resize_reply s) a 0
-      → Leaves (answered (world s first second entries) (left (resize_reply s) (resize s first second entries size)) [] lent)
+      → After.after a x y z ≡ resize s first second entries n → Replies r (state_reply s) a 0
+      → Leaves (answered (world s first second entries) (left (state_reply s) (resize s first second entries size)) [] lent)
       (world s first second entries) r x y z lent
   resize_leaves a size n e c q =
-      left_leaves (world s first second entries) lent r (resize_reply s) _ (c ∙ ap (resize s first second entries) e) q
+      left_leaves (world s first second entries) lent r (state_reply s) _ (c ∙ ap (resize s first second entries) e) q
 
 -- a find, which only reads
 pub find_leaves : (s : State) (first second entries lent : List ℕ) (r : Reply) (a d : Result ℕ Error) → a ≡ d
-    → Replies r (find_reply s) a 0
-    → Leaves (answered (world s first second entries) (kept (world s first second entries) (find_reply s d) []) [] lent)
+    → Replies r (value_reply s) a 0
+    → Leaves (answered (world s first second entries) (kept (world s first second entries) (value_reply s d) []) [] lent)
     (world s first second entries) r first second entries lent
 unfolding kept world outcome
 find_leaves s first second entries lent r a d c q =
-    plain_leaves (world s first second entries) lent r (kept (world s first second entries) (find_reply s d) []) first second entries
-    (ap (λ (q : answers.Reply State). outcome q first second entries) (q.reply ∙ ap (find_reply s) c)) q.handed
+    plain_leaves (world s first second entries) lent r (kept (world s first second entries) (value_reply s d) []) first second entries
+    (ap (λ (q : answers.Reply State). outcome q first second entries) (q.reply ∙ ap (value_reply s) c)) q.handed

@@ -1,7 +1,7 @@
 // Each call's answer as a reply (SPECIFICATION, "Answers"). Where an answer has no state, the one that the call was given
 // is the one that comes back.
 ghost use Rattle.std.specs.Prelude.{◌≡◌, cond};
-ghost use Rattle.model.specs.Answers.{init_reply, find_reply, update_reply, add_reply, delete_reply, resize_reply, step_reply, scan_reply};
+ghost use Rattle.model.specs.Answers.{init_reply, value_reply, done_reply, state_reply, step_reply, scan_reply};
 ghost use Rattle.script_run.specs.Runs.{handed_by, Replies};
 
 use crate::answer::{Reply, Values, numbered, refused};
@@ -17,7 +17,7 @@ pub(crate) fn init_reply(answer: Result<State, Unstarted>) -> Reply
 }
 
 pub(crate) fn find_reply(s: State, answer: Result<u32, Error>) -> Reply
-    ensures { Replies result (find_reply s) answer 0 }
+    ensures { Replies result (value_reply s) answer 0 }
 {
     match answer {
         Ok(value) => numbered(0, Values::One(value), s),
@@ -26,7 +26,7 @@ pub(crate) fn find_reply(s: State, answer: Result<u32, Error>) -> Reply
 }
 
 pub(crate) fn update_reply(s: State, answer: Result<(), Error>) -> Reply
-    ensures { Replies result (update_reply s) answer 0 }
+    ensures { Replies result (done_reply s) answer 0 }
 {
     match answer {
         Ok(()) => numbered(0, Values::None, s),
@@ -35,7 +35,7 @@ pub(crate) fn update_reply(s: State, answer: Result<(), Error>) -> Reply
 }
 
 pub(crate) fn add_reply(s: State, answer: Result<State, Error>) -> Reply
-    ensures { Replies result (add_reply s) answer 0 }
+    ensures { Replies result (state_reply s) answer 0 }
 {
     match answer {
         Ok(t) => numbered(0, Values::None, t),
@@ -44,7 +44,7 @@ pub(crate) fn add_reply(s: State, answer: Result<State, Error>) -> Reply
 }
 
 pub(crate) fn delete_reply(s: State, answer: Result<State, Error>) -> Reply
-    ensures { Replies result (delete_reply s) answer 0 }
+    ensures { Replies result (state_reply s) answer 0 }
 {
     match answer {
         Ok(t) => numbered(0, Values::None, t),
@@ -53,7 +53,7 @@ pub(crate) fn delete_reply(s: State, answer: Result<State, Error>) -> Reply
 }
 
 pub(crate) fn resize_reply(s: State, answer: Result<State, Error>) -> Reply
-    ensures { Replies result (resize_reply s) answer 0 }
+    ensures { Replies result (state_reply s) answer 0 }
 {
     match answer {
         Ok(t) => numbered(0, Values::None, t),

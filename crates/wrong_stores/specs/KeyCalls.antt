@@ -7,7 +7,7 @@ use Rattle.model.specs.declared.Error.{Error}
 use Rattle.model.specs.declared.Lookup.{Lookup}
 use Rattle.model.specs.Keys.{bucket_of}
 use Rattle.model.specs.Memory.{key_of, set_link, set_key, size_of, used_of, buckets_of, key_place, entries_at}
-use Rattle.model.specs.Answers.{reply, find_reply, add_reply}
+use Rattle.model.specs.Answers.{reply, value_reply, state_reply}
 use Rattle.model.specs.Calls.{After, oriented, back, writing, changed, recounted, pushed, target, added}
 use Rattle.model.specs.Sequences.{World, Call, Outcome, kept, left, given}
 use Rattle.wrong_stores.specs.OneCall.{but_find, but_update, but_add, but_delete, if_done, answering, handing_back, leaving}
@@ -16,7 +16,7 @@ use Rattle.wrong_stores.specs.OneCall.{but_find, but_update, but_add, but_delete
 
 -- finds no key
 unfoldable pub finds_nothing : World → Call → Outcome
-finds_nothing = but_find (λ key w o. kept w (find_reply w.state (Err Error.Absent)) [])
+finds_nothing = but_find (λ key w o. kept w (value_reply w.state (Err Error.Absent)) [])
 
 -- finds every value to be 0
 unfoldable pub finds_zero : World → Call → Outcome
@@ -35,7 +35,7 @@ adds_nothing = but_add (λ key value w o. kept w (reply o.reply.number [] w.stat
 -- the outcome of another add on the state and the lent buffers
 unfoldable pub adding : World → (State → List ℕ → List ℕ → List ℕ → After (Result State Error)) → Outcome
 adding w add =
-    left (add_reply w.state)
+    left (state_reply w.state)
     (given w
     (λ s first second entries.
     writing s first second entries (Err Error.BadState) (λ current other. add s current other entries)))

@@ -5,7 +5,7 @@ use Rattle.std.proofs.Math.Option.{Option}
 use Rattle.model.specs.declared.Error.{Error}
 use Rattle.model.specs.Limits.{largest_capacity}
 use Rattle.model.specs.Memory.{keys_held, set_value}
-use Rattle.model.specs.Answers.{reply, find_reply, resize_reply, step_reply}
+use Rattle.model.specs.Answers.{reply, value_reply, state_reply, step_reply}
 use Rattle.model.specs.Calls.{no_state}
 use Rattle.model.specs.Walk.{AfterScan, tables_of, group, group_places, chains_at, at_most, scanned}
 use Rattle.model.specs.Sequences.{World, Call, Outcome, kept, kept_scan, perform}
@@ -27,7 +27,7 @@ takes_larger = but_init (λ capacity size w o. cond (leb capacity largest_capaci
 
 -- refuses every resize
 unfoldable pub refuses_resizes : World → Call → Outcome
-refuses_resizes = but_resize (λ size w o. if_done (kept w (resize_reply w.state (Err Error.BadSize)) []) o)
+refuses_resizes = but_resize (λ size w o. if_done (kept w (state_reply w.state (Err Error.BadSize)) []) o)
 
 -- refuses every step
 unfoldable pub refuses_steps : World → Call → Outcome
@@ -36,7 +36,7 @@ refuses_steps = but_step (λ w o. if_done (kept w (step_reply w.state (Err Error
 -- takes a chain that is not sound for one without the key
 unfoldable pub overlooks_damage : World → Call → Outcome
 overlooks_damage =
-    but_find (λ key w o. if_damaged (kept w (find_reply w.state (Err Error.Absent)) []) o)
+    but_find (λ key w o. if_damaged (kept w (value_reply w.state (Err Error.Absent)) []) o)
 
 -- a refusal hands back a state of zeros
 unfoldable pub loses_state : World → Call → Outcome

@@ -8,7 +8,7 @@ use Rattle.model.specs.declared.Lookup.{Lookup}
 use Rattle.model.specs.declared.Ahead.{Ahead}
 use Rattle.model.specs.Keys.{bucket_of}
 use Rattle.model.specs.Memory.{key_of, keys_held, chain, in_bucket, any_key, Place, key_place, head_at, budget_at, belongs, chain_at}
-use Rattle.model.specs.Answers.{find_reply, add_reply, step_reply}
+use Rattle.model.specs.Answers.{value_reply, state_reply, step_reply}
 use Rattle.model.specs.Calls.{After, back, searched, both, found, target, moved_chain, moved_from, ahead_of}
 use Rattle.model.specs.Walk.{tables_of, group, group_places, joined, at_most, scanned}
 use Rattle.model.specs.Iterators.{bucket_at}
@@ -45,7 +45,7 @@ lookup_by read w key =
     cond s.rehashing (both (at Table.Old) (at Table.New)) (at Table.Old)
 
 unfoldable pub find_by : World → Lookup → Outcome
-find_by w l = kept w (find_reply w.state (found w.entries l)) []
+find_by w l = kept w (value_reply w.state (found w.entries l)) []
 
 -- a find hands out a value whatever other keys are on the chain
 unfoldable pub finds_among_strays : World → Call → Outcome
@@ -106,7 +106,7 @@ finds_elsewhere =
 
 unfoldable pub or_damaged : World → Option (List ℕ) → Outcome → Outcome
 or_damaged w none o =
-    cond (eqb o.reply.number 1) o (kept w (find_reply w.state (Err Error.Damaged)) [])
+    cond (eqb o.reply.number 1) o (kept w (value_reply w.state (Err Error.Damaged)) [])
 or_damaged w (some ns) o = o
 
 -- the chain of bucket 0, whatever bucket is the key's
@@ -133,4 +133,4 @@ tests_free =
     (λ key value w o.
     let s = w.state in
     cond (belongs s (key_place s key (target s.rehashing)) (key_of w.entries s.free_head)) o
-    (if_done (kept w (add_reply s (Err Error.Damaged)) []) o))
+    (if_done (kept w (state_reply s (Err Error.Damaged)) []) o))

@@ -5,9 +5,9 @@ use Rattle.dict_delete.proofs.delete.delete_after_step.Goals as goal
 pub delete_alone-requires : goal.delete_alone-requires
 delete_alone-requires c = search then_sound
 
-pub returns-in-Refused : goal.returns-in-Refused
-returns-in-Refused c = search delete_stopped
+pub returns-in-Err : goal.returns-in-Err
+returns-in-Err c = search delete_stopped
 
 -- the key is deleted from what the step leaves
-pub returns-in-Stepped : goal.returns-in-Stepped
-returns-in-Stepped c = search delete_held
+pub returns-in-Ok : goal.returns-in-Ok
+returns-in-Ok c = search delete_held

@@ -5,8 +5,8 @@ use Rattle.dict_grow.proofs.add.add.Goals as goal
 pub grow-requires : goal.grow-requires
 grow-requires c = search growable
 
-pub returns-in-Refused : goal.returns-in-Refused
-returns-in-Refused c = search add_refused
+pub returns-in-Err : goal.returns-in-Err
+returns-in-Err c = search add_refused
 
-pub returns-in-Added : goal.returns-in-Added
-returns-in-Added c = search add_grown
+pub returns-in-Ok : goal.returns-in-Ok
+returns-in-Ok c = search add_grown

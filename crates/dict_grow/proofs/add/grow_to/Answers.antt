@@ -2,8 +2,8 @@
 use Rattle.dict_grow.proofs.Growing.{begun, not_begun}
 use Rattle.dict_grow.proofs.add.grow_to.Goals as goal
 
-pub returns-in-Resized : goal.returns-in-Resized
-returns-in-Resized c = search begun
+pub returns-in-Ok : goal.returns-in-Ok
+returns-in-Ok c = search begun
 
-pub returns-in-Refused : goal.returns-in-Refused
-returns-in-Refused c = search not_begun
+pub returns-in-Err : goal.returns-in-Err
+returns-in-Err c = search not_begun

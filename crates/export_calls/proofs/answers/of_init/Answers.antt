@@ -5,10 +5,10 @@ use Rattle.export_calls.specs.Kinds.{answer_of}
 use Rattle.export_calls.proofs.Telling.{known}
 use Rattle.export_calls.proofs.answers.of_init.Goals as goal
 
-pub returns-in-Ready : goal.returns-in-Ready
+pub returns-in-Ok : goal.returns-in-Ok
 unfolding init_reply answer_of results reply
-returns-in-Ready c = search known
+returns-in-Ok c = search known
 
-pub returns-in-Refused : goal.returns-in-Refused
+pub returns-in-Err : goal.returns-in-Err
 unfolding init_reply answer_of results reply
-returns-in-Refused c = search known
+returns-in-Err c = search known

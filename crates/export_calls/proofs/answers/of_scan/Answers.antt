@@ -5,14 +5,14 @@ use Rattle.export_calls.specs.Kinds.{answer_of}
 use Rattle.export_calls.proofs.Telling.{known}
 use Rattle.export_calls.proofs.answers.of_scan.Goals as goal
 
-pub returns-in-Scanned : goal.returns-in-Scanned
+pub returns-in-Ok : goal.returns-in-Ok
 unfolding scan_reply answer_of results reply
-returns-in-Scanned c = search known
+returns-in-Ok c = search known
 
-pub returns-in-Short : goal.returns-in-Short
+pub returns-in-Err-Short : goal.returns-in-Err-Short
 unfolding scan_reply answer_of results reply
-returns-in-Short c = search known
+returns-in-Err-Short c = search known
 
-pub returns-in-Refused : goal.returns-in-Refused
+pub returns-in-Err-Refused : goal.returns-in-Err-Refused
 unfolding scan_reply answer_of results reply
-returns-in-Refused c = search known
+returns-in-Err-Refused c = search known

@@ -5,10 +5,10 @@ use Rattle.export_calls.specs.Kinds.{answer_of}
 use Rattle.export_calls.proofs.Telling.{known}
 use Rattle.export_calls.proofs.answers.of_state.Goals as goal
 
-pub returns-in-Set : goal.returns-in-Set
+pub returns-in-Ok : goal.returns-in-Ok
 unfolding state_reply answer_of results reply
-returns-in-Set c = search known
+returns-in-Ok c = search known
 
-pub returns-in-Refused : goal.returns-in-Refused
+pub returns-in-Err : goal.returns-in-Err
 unfolding state_reply answer_of results reply
-returns-in-Refused c = search known
+returns-in-Err c = search known

@@ -5,9 +5,9 @@ use Rattle.export_calls.specs.Kinds.{answer_of}
 use Rattle.export_calls.proofs.Telling.{known, step_value}
 use Rattle.export_calls.proofs.answers.of_step.Goals as goal
 
-pub returns-in-Stepped : goal.returns-in-Stepped
-returns-in-Stepped c = search (known, step_value)
+pub returns-in-Ok : goal.returns-in-Ok
+returns-in-Ok c = search (known, step_value)
 
-pub returns-in-Refused : goal.returns-in-Refused
+pub returns-in-Err : goal.returns-in-Err
 unfolding step_reply answer_of results reply
-returns-in-Refused c = search known
+returns-in-Err c = search known

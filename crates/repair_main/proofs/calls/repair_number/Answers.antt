@@ -2,8 +2,8 @@
 use Rattle.repair_main.proofs.Numbering.{repaired_number, unrepaired_number}
 use Rattle.repair_main.proofs.calls.repair_number.Goals as goal
 
-pub returns-in-Repaired : goal.returns-in-Repaired
-returns-in-Repaired c = λ s. search (repaired_number, unrepaired_number)
+pub returns-in-Ok : goal.returns-in-Ok
+returns-in-Ok c = λ s. search (repaired_number, unrepaired_number)
 
-pub returns-in-Refused : goal.returns-in-Refused
-returns-in-Refused c = λ s. search (repaired_number, unrepaired_number)
+pub returns-in-Err : goal.returns-in-Err
+returns-in-Err c = λ s. search (repaired_number, unrepaired_number)

@@ -8,5 +8,5 @@ returns-then-undamaged c = λ s. search (said_yes, said_no, said_nothing)
 pub returns-else-undamaged : goal.returns-else-undamaged
 returns-else-undamaged c = λ s. search (said_yes, said_no, said_nothing)
 
-pub returns-in-Refused : goal.returns-in-Refused
-returns-in-Refused c = λ s. search (said_yes, said_no, said_nothing)
+pub returns-in-Err : goal.returns-in-Err
+returns-in-Err c = λ s. search (said_yes, said_no, said_nothing)

@@ -2,8 +2,8 @@
 use Rattle.repair_main.proofs.Numbering.{verified_number, refused_number}
 use Rattle.repair_main.proofs.calls.verify_number.Goals as goal
 
-pub returns-in-Verified : goal.returns-in-Verified
-returns-in-Verified c = λ s. search (verified_number, refused_number)
+pub returns-in-Ok : goal.returns-in-Ok
+returns-in-Ok c = λ s. search (verified_number, refused_number)
 
-pub returns-in-Refused : goal.returns-in-Refused
-returns-in-Refused c = λ s. search (verified_number, refused_number)
+pub returns-in-Err : goal.returns-in-Err
+returns-in-Err c = λ s. search (verified_number, refused_number)

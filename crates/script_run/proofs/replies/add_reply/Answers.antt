@@ -1,13 +1,13 @@
--- `script_run::replies::add_reply` meets its contract: each way is a clause of the definition.
-use Rattle.model.specs.Answers.{add_reply}
+-- `script_run::replies::state_reply` meets its contract: each way is a clause of the definition.
+use Rattle.model.specs.Answers.{state_reply}
 use Rattle.script_run.specs.Runs.{values_of, handed}
 use Rattle.script_run.proofs.Calls.{known_replies}
 use Rattle.script_run.proofs.replies.add_reply.Goals as goal
 
-pub returns-in-Added : goal.returns-in-Added
-unfolding add_reply values_of handed
-returns-in-Added c = search known_replies
+pub returns-in-Ok : goal.returns-in-Ok
+unfolding state_reply values_of handed
+returns-in-Ok c = search known_replies
 
-pub returns-in-Refused : goal.returns-in-Refused
-unfolding add_reply values_of handed
-returns-in-Refused c = search known_replies
+pub returns-in-Err : goal.returns-in-Err
+unfolding state_reply values_of handed
+returns-in-Err c = search known_replies

@@ -4,10 +4,10 @@ use Rattle.script_run.specs.Runs.{values_of, handed}
 use Rattle.script_run.proofs.Calls.{known_replies}
 use Rattle.script_run.proofs.replies.init_reply.Goals as goal
 
-pub returns-in-Ready : goal.returns-in-Ready
+pub returns-in-Ok : goal.returns-in-Ok
 unfolding init_reply values_of handed
-returns-in-Ready c = search known_replies
+returns-in-Ok c = search known_replies
 
-pub returns-in-Refused : goal.returns-in-Refused
+pub returns-in-Err : goal.returns-in-Err
 unfolding init_reply values_of handed
-returns-in-Refused c = search known_replies
+returns-in-Err c = search known_replies

@@ -4,14 +4,14 @@ use Rattle.script_run.specs.Runs.{values_of, handed, handed_by}
 use Rattle.script_run.proofs.Walk.{scan_replies}
 use Rattle.script_run.proofs.replies.scan_reply.Goals as goal
 
-pub returns-in-Scanned : goal.returns-in-Scanned
+pub returns-in-Ok : goal.returns-in-Ok
 unfolding scan_reply values_of handed handed_by
-returns-in-Scanned c = search scan_replies
+returns-in-Ok c = search scan_replies
 
-pub returns-in-Short : goal.returns-in-Short
+pub returns-in-Err-Short : goal.returns-in-Err-Short
 unfolding scan_reply values_of handed handed_by
-returns-in-Short c = search scan_replies
+returns-in-Err-Short c = search scan_replies
 
-pub returns-in-Refused : goal.returns-in-Refused
+pub returns-in-Err-Refused : goal.returns-in-Err-Refused
 unfolding scan_reply values_of handed handed_by
-returns-in-Refused c = search scan_replies
+returns-in-Err-Refused c = search scan_replies

@@ -4,10 +4,10 @@ use Rattle.script_run.specs.Runs.{values_of, handed}
 use Rattle.script_run.proofs.Calls.{known_replies, step_value}
 use Rattle.script_run.proofs.replies.step_reply.Goals as goal
 
-pub returns-in-Stepped : goal.returns-in-Stepped
+pub returns-in-Ok : goal.returns-in-Ok
 unfolding values_of handed
-returns-in-Stepped c = search (known_replies, step_value)
+returns-in-Ok c = search (known_replies, step_value)
 
-pub returns-in-Refused : goal.returns-in-Refused
+pub returns-in-Err : goal.returns-in-Err
 unfolding step_reply values_of handed
-returns-in-Refused c = search known_replies
+returns-in-Err c = search known_replies

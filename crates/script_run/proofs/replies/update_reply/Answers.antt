@@ -1,13 +1,13 @@
--- `script_run::replies::update_reply` meets its contract: each way is a clause of the definition.
-use Rattle.model.specs.Answers.{update_reply}
+-- `script_run::replies::done_reply` meets its contract: each way is a clause of the definition.
+use Rattle.model.specs.Answers.{done_reply}
 use Rattle.script_run.specs.Runs.{values_of, handed}
 use Rattle.script_run.proofs.Calls.{known_replies}
 use Rattle.script_run.proofs.replies.update_reply.Goals as goal
 
-pub returns-in-Updated : goal.returns-in-Updated
-unfolding update_reply values_of handed
-returns-in-Updated c = search known_replies
+pub returns-in-Ok : goal.returns-in-Ok
+unfolding done_reply values_of handed
+returns-in-Ok c = search known_replies
 
-pub returns-in-Refused : goal.returns-in-Refused
-unfolding update_reply values_of handed
-returns-in-Refused c = search known_replies
+pub returns-in-Err : goal.returns-in-Err
+unfolding done_reply values_of handed
+returns-in-Err c = search known_replies

@@ -1,5 +1,5 @@
 // What a plain call answers, in numbers.
-ghost use Rattle.std.specs.Prelude.{◌≡◌, [], ◌∷◌};
+ghost use Rattle.std.specs.Prelude.{◌≡◌, [], ◌∷◌, Err};
 ghost use Rattle.model.specs.Answers.{reply, error_number, init_reply, value_reply, done_reply, state_reply, step_reply, scan_reply};
 ghost use Rattle.export_calls.specs.Kinds.{answer_of, InNumbers};
 
@@ -48,6 +48,15 @@ fn refused(e: Error, s: State) -> Answer
     ensures { result ≡ answer_of (reply (error_number e) [] s) }
 {
     two_results(error_number(e), 0, 0, s)
+}
+
+fn short_or_refused(e: ScanError, s: State) -> Answer
+    ensures { result ≡ answer_of (scan_reply s (Err e)) }
+{
+    match e {
+        ScanError::Short(count) => two_results(9, 0, count, s),
+        ScanError::Refused(e) => refused(e, s),
+    }
 }
 
 // Each answer of the store. Where it has no state, the one that the call was given comes back.
@@ -156,7 +165,6 @@ pub(crate) fn of_scan(a: Result<(u32, u32), ScanError>, s: State) -> Answer
 {
     match a {
         Ok((cursor, count)) => two_results(0, cursor, count, s),
-        Err(ScanError::Short(count)) => two_results(9, 0, count, s),
-        Err(ScanError::Refused(e)) => refused(e, s),
+        Err(e) => short_or_refused(e, s),
     }
 }

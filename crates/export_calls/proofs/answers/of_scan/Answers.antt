@@ -9,10 +9,5 @@ pub returns-in-Ok : goal.returns-in-Ok
 unfolding scan_reply answer_of results reply
 returns-in-Ok c = search known
 
-pub returns-in-Err-Short : goal.returns-in-Err-Short
-unfolding scan_reply answer_of results reply
-returns-in-Err-Short c = search known
-
-pub returns-in-Err-Refused : goal.returns-in-Err-Refused
-unfolding scan_reply answer_of results reply
-returns-in-Err-Refused c = search known
+pub returns-in-Err : goal.returns-in-Err
+returns-in-Err c = search known

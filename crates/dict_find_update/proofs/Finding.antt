@@ -1,8 +1,8 @@
 -- What find answers, from the test of the state and the entry found.
 -- Assumes nothing.
 use Prim.Native.Nat.{ℕ}
-use mathlib.Core.Path.{◌≡◌, sym, ap, ◌∙◌}
-use mathlib.Core.Bool.{Bool, true, false}
+use mathlib.Core.Path.{◌≡◌, refl, sym, ap, ◌∙◌}
+use mathlib.Core.Bool.{true}
 use mathlib.Core.List.{List}
 use lib.ListN.{length}
 use Rattle.model.specs.declared.State.{State}
@@ -11,7 +11,7 @@ use Rattle.model.specs.declared.Lookup.{Lookup}
 use Rattle.model.specs.Memory.{value_of}
 use Rattle.model.specs.Calls.{lookup, found, find}
 use Rattle.memory.specs.Lent.{sound_lent}
-use Rattle.memory.proofs.Orientation.{oriented_map, reading_refused, reading_sound}
+use Rattle.memory.proofs.Orientation.{oriented_map, reading_sound}
 use Rattle.search.specs.declared.found.Found.{Found}
 use Rattle.search.specs.Tables.{lookup_lent}
 use Rattle.search.specs.Found.{found_of}
@@ -36,17 +36,13 @@ module _ (entries : List ℕ) (r : Found) where
 
 -- The call.
 
-module _ (s : State) (first second entries : List ℕ) (key : ℕ) (t : Bool)
-    (e : t ≡ sound_lent (length first) (length second) (length entries) s) where
-  pub find_bad_state : t ≡ false → Err Error.BadState ≡ find s first second entries key
-  unfolding find
-  find_bad_state h = reading_refused s first second entries t e _ _ h
-
-  pub find_sound : t ≡ true → (r : Found) → r ≡ found_of (lookup_lent s first second entries key) → (a : Result ℕ Error)
+module _ (s : State) (first second entries : List ℕ) (key : ℕ)
+    (h : sound_lent (length first) (length second) (length entries) s ≡ true) where
+  pub find_sound : (r : Found) → r ≡ found_of (lookup_lent s first second entries key) → (a : Result ℕ Error)
       → ((l : Lookup) → r ≡ found_of l → a ≡ found entries l) → a ≡ find s first second entries key
   unfolding find lookup_lent
-  find_sound h r l a f =
+  find_sound r l a f =
       f _ l
-      ∙ reading_sound s first second entries t e _ _ _ h
+      ∙ reading_sound s first second entries _ refl _ _ _ h
       (sym
       (oriented_map (found entries) s.second_is_current (λ current other. lookup s current other entries key) first second))

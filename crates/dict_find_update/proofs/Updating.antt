@@ -11,7 +11,7 @@ use Rattle.model.specs.declared.Lookup.{Lookup}
 use Rattle.model.specs.Memory.{set_value}
 use Rattle.model.specs.Calls.{After, oriented, back, lookup, held, updated, update}
 use Rattle.memory.specs.Lent.{sound_lent}
-use Rattle.memory.proofs.Orientation.{writing_refused, writing_sound}
+use Rattle.memory.proofs.Orientation.{writing_sound}
 use Rattle.search.specs.declared.found.Found.{Found}
 use Rattle.search.specs.Tables.{lookup_lent}
 use Rattle.search.specs.Found.{found_of}
@@ -47,20 +47,15 @@ updated_back first second entries value Lookup.Damaged = refl
 updated_back first second entries value Lookup.Absent = refl
 updated_back first second entries value (Lookup.At t before n) = refl
 
-module _ (s : State) (first second entries : List ℕ) (key value : ℕ) (t : Bool)
-    (e : t ≡ sound_lent (length first) (length second) (length entries) s) where
-  pub update_bad_state : t ≡ false
-      → After.after (Err Error.BadState) first second entries ≡ update s first second entries key value
-  unfolding update
-  update_bad_state h = writing_refused s first second entries t e _ _ h
-
-  pub update_sound : t ≡ true → (r : Found) → r ≡ found_of (lookup_lent s first second entries key)
+module _ (s : State) (first second entries : List ℕ) (key value : ℕ)
+    (h : sound_lent (length first) (length second) (length entries) s ≡ true) where
+  pub update_sound : (r : Found) → r ≡ found_of (lookup_lent s first second entries key)
       → (a : Result (Unit {0}) Error) (last : List ℕ)
       → ((x y : List ℕ) (l : Lookup) → r ≡ found_of l → After.after a x y last ≡ updated x y entries value l)
       → After.after a first second last ≡ update s first second entries key value
   unfolding update lookup_lent oriented back
-  update_sound h r l a last f =
-      f first second _ l ∙ writing_sound s first second entries t e _ _ _ h (pick s.second_is_current)
+  update_sound r l a last f =
+      f first second _ l ∙ writing_sound s first second entries _ refl _ _ _ h (pick s.second_is_current)
     where
       pick : (flag : Bool)
           → updated first second entries value (oriented flag (λ current other. lookup s current other entries key) first second)

@@ -6,7 +6,7 @@ ghost use Rattle.model.specs.Calls as calls;
 ghost use Rattle.search.specs.Found.{found_of, Inside};
 
 use memory::entry::value_of;
-use memory::state::is_sound_lent;
+use memory::state::require_sound;
 use model::{Error, State};
 use search::found::{Found, entry_moving, entry_resting};
 
@@ -25,18 +25,21 @@ fn value_at(entries: &[u32], at: Found) -> Result<u32, Error>
     }
 }
 
-pub fn find(first: &[u32], second: &[u32], entries: &[u32], s: State, key: u32) -> Result<u32, Error>
+pub fn find(
+    first: &[u32],
+    second: &[u32],
+    entries: &[u32],
+    s: State,
+    key: u32,
+) -> Result<u32, Error>
     ensures { result ≡ calls.find s first.now second.now entries.now key }
 {
-    if is_sound_lent(first.len(), second.len(), entries.len(), s) {
-        if s.rehashing {
-            let at = entry_moving(first, second, entries, s, key);
-            value_at(entries, at)
-        } else {
-            let at = entry_resting(first, second, entries, s, key);
-            value_at(entries, at)
-        }
+    require_sound(first.len(), second.len(), entries.len(), s)?;
+    if s.rehashing {
+        let at = entry_moving(first, second, entries, s, key);
+        value_at(entries, at)
     } else {
-        Err(Error::BadState)
+        let at = entry_resting(first, second, entries, s, key);
+        value_at(entries, at)
     }
 }

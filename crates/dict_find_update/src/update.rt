@@ -6,7 +6,7 @@ ghost use Rattle.model.specs.Calls.After.{after};
 ghost use Rattle.search.specs.Found.{found_of, Inside};
 
 use memory::entry::set_value;
-use memory::state::is_sound_lent;
+use memory::state::require_sound;
 use model::{Error, State};
 use search::found::{Found, entry_moving, entry_resting};
 
@@ -37,15 +37,12 @@ pub fn update(
     ensures { after result first.now second.now entries.new
         ≡ calls.update s first.now second.now entries.old key value }
 {
-    if is_sound_lent(first.len(), second.len(), entries.len(), s) {
-        if s.rehashing {
-            let at = entry_moving(first, second, entries, s, key);
-            update_at(entries, at, value)
-        } else {
-            let at = entry_resting(first, second, entries, s, key);
-            update_at(entries, at, value)
-        }
+    require_sound(first.len(), second.len(), entries.len(), s)?;
+    if s.rehashing {
+        let at = entry_moving(first, second, entries, s, key);
+        update_at(entries, at, value)
     } else {
-        Err(Error::BadState)
+        let at = entry_resting(first, second, entries, s, key);
+        update_at(entries, at, value)
     }
 }

@@ -20,7 +20,6 @@ use Rattle.model.specs.Calls.{After, Chains, state_of, old_new, retabled, moved,
 use Rattle.model.proofs.Soundness.{Sound}
 use Rattle.model.proofs.StepAhead.{filled_below}
 use Rattle.model.proofs.Linked.{Linked, room, read_sound, linked_wider}
-use Rattle.memory.specs.declared.chain.ChainLength.{ChainLength}
 use Rattle.memory.specs.Length.{length_of}
 use Rattle.memory.proofs.Counted.{counted, uncounted}
 use Rattle.dict_rehash.specs.declared.rehash.Progress.{Progress}
@@ -50,7 +49,7 @@ read_linked test entries capacity budget head ns e fits =
 
 -- the chain of a bucket of the old table, once its entries were counted
 -- (the count stands first: where a search has no such count, it ends there)
-pub old_counted : (r : ChainLength) (count : ℕ) → r ≡ ChainLength.Sound count → (s : State) (current entries : List ℕ) (b : ℕ)
+pub old_counted : (r : Result ℕ Error) (count : ℕ) → r ≡ Ok count → (s : State) (current entries : List ℕ) (b : ℕ)
     → r ≡ length_of (old_chain s current entries b) → OldChain s current entries b count
 old_counted r count c s current entries b e =
     let o = old_chain s current entries b in
@@ -77,11 +76,11 @@ module _ (s : State) (current other entries : List ℕ) (b : ℕ) where
   unfolding moved_chain step_answer
   moved_by c ns count then ce n t = rw (ce, t, ← n, add-one)
 
-  pub bucket_unsound : (r : ChainLength) → r ≡ length_of (old_chain s current entries b) → r ≡ ChainLength.Unsound
+  pub bucket_unsound : (r : Result ℕ Error) (x : Error) → r ≡ length_of (old_chain s current entries b) → r ≡ Err x
       → After.after (step_answer s (Progress.Refused Error.Damaged)) current other entries
       ≡ moved_chain s current other entries b (old_chain s current entries b)
   unfolding moved_chain step_answer
-  bucket_unsound r e u = rw (uncounted r (old_chain s current entries b) u e)
+  bucket_unsound r x e u = rw (uncounted r x (old_chain s current entries b) u e).0
 
   module _ (count : ℕ) (k : OldChain s current entries b count) (h : Sound s (length current) (length other) (length entries)) where
     pub bucket_moved : (other' entries' : List ℕ)

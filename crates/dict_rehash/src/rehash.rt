@@ -7,10 +7,10 @@ ghost use Rattle.model.specs.Calls.After.{after};
 ghost use Rattle.model.proofs.Soundness.{Sound};
 ghost use Rattle.dict_rehash.specs.Progress.{step_answer, step_room, old_chain, chains, OldChain, ChainOf, ChainMoved, EntryMoved};
 
-use memory::chain::{ChainLength, chain_length};
+use memory::chain::chain_length;
 use memory::entry::{key_of, link_of, set_link};
 use memory::state::{bucket_index, is_sound};
-use model::{EMPTY_VISITS, Ahead, Error, State};
+use model::{Ahead, EMPTY_VISITS, Error, State};
 
 // What happened to the buffers, in numbers: the public call makes the answer of it, and a call that takes a step first its own.
 #[derive(Clone, Copy)]
@@ -118,8 +118,8 @@ fn move_bucket(
     let head = current[index];
     let length = chain_length(entries, s.capacity, s.old_used, head, s.old_size, index);
     match length {
-        ChainLength::Unsound => Progress::Refused(Error::Damaged),
-        ChainLength::Sound(count) => move_counted(current, other, entries, s, b, count),
+        Err(_) => Progress::Refused(Error::Damaged),
+        Ok(count) => move_counted(current, other, entries, s, b, count),
     }
 }
 

@@ -15,7 +15,6 @@ use Rattle.model.specs.Limits.{legal_size}
 use Rattle.model.specs.Memory.{chain, in_bucket, listed}
 use Rattle.model.specs.Walk.{AfterScan, joined, at_most, scanned}
 use Rattle.model.proofs.AtMost.{at_most_sound}
-use Rattle.memory.specs.declared.chain.ChainLength.{ChainLength}
 use Rattle.memory.specs.Length.{length_of}
 use Rattle.memory.proofs.Counted.{counted}
 use Rattle.scan_group.specs.Chains.{cursor_chain, chains, group_chains, linked, all_linked}
@@ -25,7 +24,8 @@ use Rattle.scan_group.proofs.Chains.{joined_parts, linked_same, all_linked_same}
 use Rattle.scan_group.proofs.HandingOut.{scanned_written, writable}
 use Rattle.dict_scan.specs.Tables.{Both, Two}
 use Rattle.dict_scan.specs.Groups.{scanned_two, scanned_both}
-use Rattle.std.specs.Prelude.{Ok}
+use Rattle.std.specs.Prelude.{Ok, Result}
+use Rattle.model.specs.declared.Error.{Error}
 
 -- One live table: the bucket is the cursor's.
 
@@ -46,7 +46,7 @@ module _ (entries larger list : List ℕ) (capacity small_used large_used small 
   abbrev pub walked : Option (List ℕ)
   walked = joined (linked entries head) (all_linked entries larger (buckets_from small large cursor))
 
-  module _ (limit n : ℕ) (r : ChainLength) (s : r ≡ ChainLength.Sound n) (l : r ≡ length_of (at_most limit read))
+  module _ (limit n : ℕ) (r : Result ℕ Error) (s : r ≡ Ok n) (l : r ≡ length_of (at_most limit read))
       (g : Both larger entries capacity small_used large_used small large) (h : n * 2 ≤ length list) where
     same_group : walked ≡ at_most limit read
     unfolding group_chains
@@ -62,9 +62,9 @@ module _ (entries larger list : List ℕ) (capacity small_used large_used small 
     pub two_writable : Writable list 0 walked
     two_writable = writable entries list 0 _ r l n s _ same_group h
 
-  pub two_written : (n : ℕ) (r : ChainLength) (turned : ℕ) (list' : List ℕ)
+  pub two_written : (n : ℕ) (r : Result ℕ Error) (turned : ℕ) (list' : List ℕ)
       → Both larger entries capacity small_used large_used small large
-      → r ≡ length_of (at_most (small_used + large_used) read) → r ≡ ChainLength.Sound n → n * 2 ≤ length list
+      → r ≡ length_of (at_most (small_used + large_used) read) → r ≡ Ok n → n * 2 ≤ length list
       → ((c : ℕ) → small ≡ 2 ^ c → turned ≡ next small cursor)
       → list' ≡ written entries list 0 (listed walked)
       → AfterScan.after (Ok (turned, n)) list'

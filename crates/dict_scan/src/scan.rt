@@ -10,7 +10,6 @@ ghost use Rattle.dict_scan.specs.Tables.{Holding, Both, Two};
 ghost use Rattle.dict_scan.specs.Groups.{scanned_two, scanned_both};
 
 use cursor::next_cursor;
-use memory::chain::ChainLength;
 use memory::state::{bucket_index, is_sound_lent};
 use model::{Error, ScanError, State};
 use scan_group::bucket::bucket_head;
@@ -63,8 +62,8 @@ fn scan_two(
         head, larger, entries, capacity, small_used, large_used, keys, small, large, cursor,
     );
     match length {
-        ChainLength::Unsound => Err(ScanError::Refused(Error::Damaged)),
-        ChainLength::Sound(total) => {
+        Err(_) => Err(ScanError::Refused(Error::Damaged)),
+        Ok(total) => {
             if total as usize * 2 <= list.len() {
                 write_group(head, larger, entries, list, small, large, cursor);
                 Ok((next, total))

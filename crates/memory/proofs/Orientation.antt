@@ -2,7 +2,10 @@
 -- definitions of the calls are `reading` and `writing`. A call that orients first has them unfolded, and its body is what
 -- `checked` says (Tested); one that tests first, on the lent lengths, uses the second half.
 -- Assumes nothing.
-use Rattle.std.proofs.Common.{◌≡◌, ℕ, Bool, true, false, cond, List, length, refl, ap, ◌∙◌}
+use Rattle.std.proofs.Common.{◌≡◌, ℕ, Bool, true, false, cond, List, length, refl, ap, ◌∙◌, Result, Err}
+use Rattle.std.specs.Result.{IsErrAnd}
+use Rattle.std.proofs.lemmas.Result.{err_from_is_err_and}
+use Rattle.model.specs.declared.Error.{Error}
 use Rattle.model.specs.declared.State.{State}
 use Rattle.model.specs.Memory.{sound_state}
 use Rattle.model.specs.Calls.{After, sound, oriented, checked, reading, back, writing}
@@ -107,3 +110,20 @@ module _ {A : Type 0} (s : State) (first second entries : List ℕ) (t : Bool)
       a
       ∙ ap (back s.second_is_current)
       (rw h at (by_test s first second entries t e (λ current other. After.after refusal current other entries) call))
+
+-- The exit of `require_sound(..)?`: what it answers is what the definition answers to a state that is not sound.
+module _ {A : Type 0} (s : State) (first second entries : List ℕ) (r : Result A Error) (x : Error)
+    (gives : IsErrAnd r (λ e. e ≡ x))
+    (h : (x ≡ Error.BadState) × (sound_lent (length first) (length second) (length entries) s ≡ false)) where
+  refusal : r ≡ Err Error.BadState
+  refusal = let p = err_from_is_err_and r gives in rw (p.1, p.2, h.0)
+
+  pub reading_bad_state : (call : List ℕ → List ℕ → Result A Error)
+      → r ≡ reading s first second entries (Err Error.BadState) call
+  reading_bad_state call = refusal ∙ reading_refused s first second entries _ refl (Err Error.BadState) call h.1
+
+  pub writing_bad_state : (call : List ℕ → List ℕ → After (Result A Error))
+      → After.after r first second entries ≡ writing s first second entries (Err Error.BadState) call
+  writing_bad_state call =
+      ap (λ (a : Result A Error). After.after a first second entries) refusal
+      ∙ writing_refused s first second entries _ refl (Err Error.BadState) call h.1

@@ -7,15 +7,9 @@ ghost use Rattle.memory.specs.Length.{length_of};
 
 use crate::entry::{key_of, link_of};
 use crate::state::bucket_index;
+use model::Error;
 
-// How many entries a chain has, if it is sound.
-#[derive(Clone, Copy)]
-pub enum ChainLength {
-    Unsound,
-    Sound(u32),
-}
-
-// The chain of bucket b in a table of that size.
+// How many entries the chain of bucket b has in a table of that size; one that is not sound is damage.
 pub fn chain_length(
     entries: &[u32],
     capacity: u32,
@@ -23,7 +17,7 @@ pub fn chain_length(
     head: u32,
     size: u32,
     b: usize,
-) -> ChainLength
+) -> Result<u32, Error>
     requires entries_fit { capacity * 3 ≤ length entries.now }
     requires legal { legal_size size ≡ true }
     ensures { result ≡ length_of (chain (in_bucket size b) entries.now capacity budget head) }
@@ -32,13 +26,13 @@ pub fn chain_length(
     let mut left = budget;
     while at != 0 {
         if (left == 0) | (capacity < at) {
-            return ChainLength::Unsound;
+            return Err(Error::Damaged);
         }
         if bucket_index(key_of(entries, at), size) != b {
-            return ChainLength::Unsound;
+            return Err(Error::Damaged);
         }
         at = link_of(entries, at);
         left -= 1;
     }
-    ChainLength::Sound(budget - left)
+    Ok(budget - left)
 }

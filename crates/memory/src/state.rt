@@ -1,11 +1,12 @@
 // Whether a state is sound, and a key's bucket.
-ghost use Rattle.std.specs.Prelude.{◌≡◌, ◌<◌, true, if◌then◌else◌};
+ghost use Rattle.std.specs.Prelude.{◌≡◌, ◌<◌, true, false, if◌then◌else◌, MatchResult};
+ghost use Rattle.model.specs.declared.Error.{Error};
 ghost use Rattle.model.specs.Keys.{bucket_of};
 ghost use Rattle.model.specs.Limits.{legal_size};
 ghost use Rattle.model.specs.Memory.{sound_capacity, sound_table, sound_base, sound_state};
 ghost use Rattle.memory.specs.Lent.{sound_lent};
 
-use model::{LARGEST_CAPACITY, LARGEST_SIZE, MOST_SAFE_ITERATORS, State};
+use model::{Error, LARGEST_CAPACITY, LARGEST_SIZE, MOST_SAFE_ITERATORS, State};
 
 // A power of two has one bit set, and one less has just the bits below it. At 0 the wrapped number does no harm.
 pub fn is_legal_size(n: u32) -> bool
@@ -69,6 +70,18 @@ pub fn is_sound_lent(first: usize, second: usize, entries: usize, s: State) -> b
     let current = choose(s.second_is_current, second, first);
     let other = choose(s.second_is_current, first, second);
     is_sound(current, other, entries, s)
+}
+
+// The first line of a call on the lent buffers: it refuses a state that is not sound beside them.
+pub fn require_sound(first: usize, second: usize, entries: usize, s: State) -> Result<(), Error>
+    ensures { MatchResult result (λ _. sound_lent first second entries s ≡ true)
+        (λ e. (e ≡ Error.BadState) × (sound_lent first second entries s ≡ false)) }
+{
+    if is_sound_lent(first, second, entries, s) {
+        Ok(())
+    } else {
+        Err(Error::BadState)
+    }
 }
 
 // A legal size is a power of two, so its remainder is a mask.

@@ -14,11 +14,12 @@ use mir.Val.{Fits}
 use Rattle.model.specs.Limits.{legal_size}
 use Rattle.model.specs.Memory.{chain, in_bucket, listed, sum}
 use Rattle.model.specs.Iterators.{first_from}
-use Rattle.memory.specs.declared.chain.ChainLength.{ChainLength}
 use Rattle.memory.specs.Length.{bucket_chain, length_of}
 use Rattle.model.specs.Repair.{or_else}
 use Rattle.repair_passes.specs.Passes.{length_is, lengths, Countable, first_filled}
 use Rattle.model.proofs.Sums.{sum_first}
+use Rattle.std.specs.Prelude.{Result}
+use Rattle.model.specs.declared.Error.{Error}
 
 length_is_lem : (o : Option (List ℕ)) → length_is (length_of o) ≡ length (listed o)
 unfolding length_is length_of listed
@@ -38,7 +39,7 @@ module _ (buckets entries : List ℕ) (capacity size : ℕ) where
     pub tally_legal : Countable buckets entries capacity size → b < size → legal_size size ≡ true
     tally_legal c l = c.legal b l
 
-    module _ (r : ChainLength) (n : ℕ) (l : b < size)
+    module _ (r : Result ℕ Error) (n : ℕ) (l : b < size)
         (e : r ≡ length_of (chain (in_bucket size b) entries capacity capacity (get_or buckets b 0))) (k : n ≡ length_is r) where
       this : n ≡ length (listed (bucket_chain size entries capacity capacity buckets b))
       this = k ∙ ap length_is e ∙ length_is_lem (bucket_chain size entries capacity capacity buckets b)

@@ -12,7 +12,7 @@ use crate::count::{count_table, first_filled};
 use crate::free::free_others;
 use crate::prune::prune_table;
 use memory::state::is_sound;
-use model::{LARGEST_CAPACITY, Error, State};
+use model::{Error, LARGEST_CAPACITY, State};
 use repair_cut::cut::cut_table;
 use repair_cut::first::decide;
 
@@ -82,7 +82,12 @@ fn repair_sound(current: &mut [u32], other: &mut [u32], entries: &mut [u32], s: 
     recount(current, other, entries, s, free)
 }
 
-fn repair_in(current: &mut [u32], other: &mut [u32], entries: &mut [u32], s: State) -> Result<State, Error>
+fn repair_in(
+    current: &mut [u32],
+    other: &mut [u32],
+    entries: &mut [u32],
+    s: State,
+) -> Result<State, Error>
     ensures { after result current.new other.new entries.new
         ≡ calls.checked s entries.old (λ c o. after (Err why.BadState) c o entries.old)
         (λ c o. definition.repaired s c o entries.old) current.old other.old }
@@ -95,7 +100,12 @@ fn repair_in(current: &mut [u32], other: &mut [u32], entries: &mut [u32], s: Sta
 }
 
 // Repairs the store in place; a state that is not sound is refused, and nothing is written.
-pub fn repair(first: &mut [u32], second: &mut [u32], entries: &mut [u32], s: State) -> Result<State, Error>
+pub fn repair(
+    first: &mut [u32],
+    second: &mut [u32],
+    entries: &mut [u32],
+    s: State,
+) -> Result<State, Error>
     ensures { after result first.new second.new entries.new
         ≡ definition.repair s first.old second.old entries.old }
 {

@@ -1,17 +1,17 @@
 -- The passes of a repair as the code makes them, each a fold over memory, and what each asks.
-use Rattle.std.specs.Prelude.{ℕ, zero, suc, ◌*◌, ◌≤◌, ◌<◌, ◌≡◌, Bool, true, false, ◌&&◌, not, cond, List, [], ◌∷◌, length, get_or, set, leb, eqb}
+use Rattle.std.specs.Prelude.{ℕ, zero, suc, ◌*◌, ◌≤◌, ◌<◌, ◌≡◌, Bool, true, false, ◌&&◌, not, cond, List, [], ◌∷◌, length, get_or, set, leb, eqb, Result, Ok, Err}
 use Rattle.model.specs.declared.State.{State}
 use Rattle.model.specs.declared.Table.{Table}
 use Rattle.model.specs.Limits.{legal_size}
 use Rattle.model.specs.Memory.{link_of, key_of, set_link, set_entry, in_bucket, size_of, listed, sum, last_or}
 use Rattle.model.specs.Calls.{After, both, state_of, old_new}
 use Rattle.model.specs.Iterators.{first_from}
-use Rattle.memory.specs.declared.chain.ChainLength.{ChainLength}
 use Rattle.memory.specs.Length.{bucket_chain}
 use Rattle.search.specs.declared.found.Found.{Found}
 use Rattle.search.specs.Found.{found_of, found_is}
 use Rattle.search.specs.Tables.{searched_in}
 use Rattle.model.specs.Repair.{first_or0, or_else, repaired_state, repaired_buckets, repaired_entries}
+use Rattle.model.specs.declared.Error.{Error}
 
 -- marks
 
@@ -155,9 +155,9 @@ entries_down marks (suc n) head entries =
 
 -- counting
 
-unfoldable pub length_is : ChainLength → ℕ
-length_is ChainLength.Unsound = 0
-length_is (ChainLength.Sound n) = n
+unfoldable pub length_is : Result ℕ Error → ℕ
+length_is (Err e) = 0
+length_is (Ok n) = n
 
 unfoldable pub lengths : List ℕ → List ℕ → ℕ → ℕ → ℕ → ℕ
 lengths buckets entries capacity size n = sum (λ b. length (listed (bucket_chain size entries capacity capacity buckets b))) n

@@ -14,14 +14,13 @@ use Rattle.model.specs.declared.Error.{Error}
 use Rattle.model.specs.Memory.{key_of, value_of, chain, listed}
 use Rattle.model.specs.Walk.{AfterScan, pairs, scanned}
 use Rattle.model.proofs.Pairs.{length_pairs}
-use Rattle.memory.specs.declared.chain.ChainLength.{ChainLength}
 use Rattle.memory.specs.Length.{length_of}
 use Rattle.memory.proofs.Counted.{counted, uncounted}
 use Rattle.scan_group.specs.Tables.{One}
 use Rattle.scan_group.specs.Chains.{linked}
 use Rattle.scan_group.specs.Written.{written, Writable}
 use Rattle.scan_group.proofs.Chains.{linked_same}
-use Rattle.std.specs.Prelude.{Ok, Err}
+use Rattle.std.specs.Prelude.{Ok, Err, Result}
 use Rattle.model.specs.declared.ScanError.{ScanError}
 
 -- from the front of the list, the pairs and then what was there
@@ -43,13 +42,13 @@ written_front entries list ns h =
 
 -- the three answers, once the chains were counted
 
-module _ (entries list : List ℕ) (answered : ℕ) (o : Option (List ℕ)) (r : ChainLength) (e : r ≡ length_of o) where
-  pub scanned_damaged : r ≡ ChainLength.Unsound
+module _ (entries list : List ℕ) (answered : ℕ) (o : Option (List ℕ)) (r : Result ℕ Error) (e : r ≡ length_of o) where
+  pub scanned_damaged : (x : Error) → r ≡ Err x
       → AfterScan.after (Err (ScanError.Refused Error.Damaged)) list ≡ scanned entries list answered o
   unfolding scanned
-  scanned_damaged u = rw (uncounted r o u e)
+  scanned_damaged x u = rw (uncounted r x o u e).0
 
-  module _ (n : ℕ) (s : r ≡ ChainLength.Sound n) where
+  module _ (n : ℕ) (s : r ≡ Ok n) where
     as_counted : scanned entries list answered (some (listed o)) ≡ scanned entries list answered o
     as_counted = ap (scanned entries list answered) (sym (counted r n o s e).0)
 
@@ -79,8 +78,8 @@ module _ (entries list : List ℕ) (answered : ℕ) (o : Option (List ℕ)) (r :
 
 -- One chain.
 
-module _ (test : ℕ → Bool) (entries list : List ℕ) (capacity used size head n : ℕ) (r : ChainLength) (g : One entries capacity used size)
-    (l : r ≡ length_of (chain test entries capacity used head)) (s : r ≡ ChainLength.Sound n) (h : n * 2 ≤ length list) where
+module _ (test : ℕ → Bool) (entries list : List ℕ) (capacity used size head n : ℕ) (r : Result ℕ Error) (g : One entries capacity used size)
+    (l : r ≡ length_of (chain test entries capacity used head)) (s : r ≡ Ok n) (h : n * 2 ≤ length list) where
   same_chain : linked entries head ≡ chain test entries capacity used head
   same_chain = linked_same entries capacity used g.entries_fit g.used_fits test head (counted r n _ s l).0
 

@@ -9,8 +9,9 @@ ghost use Rattle.scan_group.specs.Chains.{chains, group_chains};
 ghost use Rattle.scan_group.specs.Tables.{Larger};
 
 use cursor::next_cursor;
-use memory::chain::{ChainLength, chain_length};
+use memory::chain::chain_length;
 use memory::state::bucket_index;
+use model::Error;
 
 fn least(a: u32, b: u32) -> u32
     ensures { result ≡ min a b }
@@ -30,7 +31,7 @@ fn count_large(
     small: u32,
     large: u32,
     cursor: u32,
-) -> ChainLength
+) -> Result<u32, Error>
     requires { Larger larger.now entries.now capacity small large }
     ensures { result ≡ length_of (at_most limit
         (chains (in_bucket large) entries.now capacity used larger.now (two_tables small large cursor).large)) }
@@ -42,12 +43,12 @@ fn count_large(
         let head = larger[b];
         let length = chain_length(entries, capacity, least(used, left), head, large, b);
         match length {
-            ChainLength::Unsound => return ChainLength::Unsound,
-            ChainLength::Sound(n) => left -= n,
+            Err(_) => return Err(Error::Damaged),
+            Ok(n) => left -= n,
         }
         at = next_cursor(large, at);
         if at < small {
-            return ChainLength::Sound(limit - left);
+            return Ok(limit - left);
         }
     }
 }
@@ -65,7 +66,7 @@ pub fn count_group(
     small: u32,
     large: u32,
     cursor: u32,
-) -> ChainLength
+) -> Result<u32, Error>
     requires { Larger larger.now entries.now capacity small large }
     ensures { result ≡ length_of (at_most limit
         (group_chains entries.now larger.now capacity small_used large_used head small large cursor)) }
@@ -73,8 +74,8 @@ pub fn count_group(
     let b = bucket_index(cursor, small);
     let first = chain_length(entries, capacity, least(small_used, limit), head, small, b);
     match first {
-        ChainLength::Unsound => ChainLength::Unsound,
-        ChainLength::Sound(n) => {
+        Err(_) => Err(Error::Damaged),
+        Ok(n) => {
             let rest = count_large(
                 larger,
                 entries,
@@ -86,8 +87,8 @@ pub fn count_group(
                 cursor,
             );
             match rest {
-                ChainLength::Unsound => ChainLength::Unsound,
-                ChainLength::Sound(m) => ChainLength::Sound(n + m),
+                Err(_) => Err(Error::Damaged),
+                Ok(m) => Ok(n + m),
             }
         }
     }

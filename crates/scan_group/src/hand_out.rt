@@ -6,7 +6,7 @@ ghost use Rattle.model.specs.Walk.AfterScan.{after};
 ghost use Rattle.scan_group.specs.Tables.{One};
 
 use crate::write::write_chain;
-use memory::chain::{ChainLength, chain_length};
+use memory::chain::chain_length;
 use model::{Error, ScanError};
 
 // The chain of bucket b, whose head the caller has read, and what comes next, which the caller knows. Nothing is written
@@ -28,8 +28,8 @@ pub fn hand_out(
 {
     let length = chain_length(entries, capacity, used, head, size, b);
     match length {
-        ChainLength::Unsound => Err(ScanError::Refused(Error::Damaged)),
-        ChainLength::Sound(count) => {
+        Err(_) => Err(ScanError::Refused(Error::Damaged)),
+        Ok(count) => {
             if count as usize * 2 <= list.len() {
                 write_chain(head, entries, list, 0);
                 Ok((next, count))

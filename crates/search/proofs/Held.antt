@@ -68,14 +68,11 @@ module _ (s : State) (entries : List ℕ) (key : ℕ) where
       )
 
   module _ (first second : List ℕ) (r : Found) (l : r ≡ found_of (lookup_lent s first second entries key))
-      (t : Bool) (e : t ≡ sound_lent (length first) (length second) (length entries) s) (h : t ≡ true) where
+      (sound : sound_lent (length first) (length second) (length entries) s ≡ true) where
     in_lent : (n : ℕ) → r ≡ Found.At n → (0 < n) × (n * 3 ≤ length entries)
     unfolding lookup_lent oriented
     in_lent n a = pick s.second_is_current refl (sym a ∙ l)
       where
-        sound : sound_lent (length first) (length second) (length entries) s ≡ true
-        sound = sym e ∙ h
-
         pick : (flag : Bool) → s.second_is_current ≡ flag
             → Found.At n ≡ found_of (oriented flag (λ current other. lookup s current other entries key) first second)
             → (0 < n) × (n * 3 ≤ length entries)

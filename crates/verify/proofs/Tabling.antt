@@ -13,12 +13,13 @@ use borrow.Author.Tests.{eqb-true, eq-eqb, ne_eqb}
 use Rattle.model.specs.Limits.{legal_size}
 use Rattle.model.specs.Memory.{chain, in_bucket, listed, sum}
 use Rattle.model.proofs.Linked.{read_sound, read_complete, chain_wider}
-use Rattle.memory.specs.declared.chain.ChainLength.{ChainLength}
 use Rattle.memory.specs.Length.{bucket_chain, length_of}
 use Rattle.memory.proofs.Counted.{counted, uncounted}
 use Rattle.model.specs.Verify.{is_sound, all_sound, all_empty}
 use Rattle.verify.specs.Checked.{Tabled, table_checked}
 use Rattle.model.proofs.Sums.{sum_first}
+use Rattle.std.specs.Prelude.{Result, Ok, Err}
+use Rattle.model.specs.declared.Error.{Error}
 
 -- where all are sound, so is each
 each_sound : (f : ℕ → Option (List ℕ)) (n : ℕ) → all_sound f n ≡ true → (b : ℕ) → b < n → f b ≡ some (listed (f b))
@@ -61,10 +62,10 @@ module _ (entries : List ℕ) (capacity used : ℕ) (buckets : List ℕ) (size :
 
   module _ (left b : ℕ) (h : Tabling entries capacity used buckets size left b) where
     -- a chain that has more entries than are left, or is not sound
-    pub tabling_out : (r : ChainLength) → b < size → r ≡ length_of (chain (in_bucket size b) entries capacity left (get_or buckets b 0))
-        → r ≡ ChainLength.Unsound → false ≡ table_checked entries capacity used buckets size
+    pub tabling_out : (r : Result ℕ Error) (x : Error) → b < size → r ≡ length_of (chain (in_bucket size b) entries capacity left (get_or buckets b 0))
+        → r ≡ Err x → false ≡ table_checked entries capacity used buckets size
     unfolding table_checked sum
-    tabling_out r l e u =
+    tabling_out r x l e u =
         not_true_false _
         (λ t.
         let (all, same) = both_true _ _ t in
@@ -75,7 +76,7 @@ module _ (entries : List ℕ) (capacity used : ℕ) (buckets : List ℕ) (size :
         let whole =
         read_complete (in_bucket size b) entries capacity left (get_or buckets b 0)
         (listed (bucket_chain size entries capacity used buckets b)) linked passing (fits same) in
-        let none_read = uncounted r _ u e in
+        let none_read = (uncounted r x _ u e).0 in
         let z : ◌≡◌ {A = ℕ} 0 1 = cc in
         omega arith)
       where
@@ -85,15 +86,15 @@ module _ (entries : List ℕ) (capacity used : ℕ) (buckets : List ℕ) (size :
         fits : eqb used (sum f size) ≡ true → f b ≤ left
         fits same = omega (arith, eqb-true used (sum f size) same, sum_first f (suc b) size (omega arith), h.rest)
 
-    pub tabling_fits : (r : ChainLength) (n : ℕ) → r ≡ length_of (chain (in_bucket size b) entries capacity left (get_or buckets b 0))
-        → r ≡ ChainLength.Sound n → n ≤ left
+    pub tabling_fits : (r : Result ℕ Error) (n : ℕ) → r ≡ length_of (chain (in_bucket size b) entries capacity left (get_or buckets b 0))
+        → r ≡ Ok n → n ≤ left
     tabling_fits r n e u =
         let (read, long) = counted r n _ u e in
         let (linked, short, passing) = read_sound (in_bucket size b) entries capacity left (get_or buckets b 0) _ read in
         omega arith
 
-    pub tabling_next : (r : ChainLength) (n : ℕ) → b < size
-        → r ≡ length_of (chain (in_bucket size b) entries capacity left (get_or buckets b 0)) → r ≡ ChainLength.Sound n
+    pub tabling_next : (r : Result ℕ Error) (n : ℕ) → b < size
+        → r ≡ length_of (chain (in_bucket size b) entries capacity left (get_or buckets b 0)) → r ≡ Ok n
         → Tabling entries capacity used buckets size (left - n) (b + 1)
     unfolding all_sound is_sound sum listed
     tabling_next r n l e u = turn (counted r n _ u e) (tabling_fits r n e u)

@@ -3,7 +3,7 @@ ghost use Rattle.std.specs.Prelude.{◌≡◌, ◌≤◌, length};
 ghost use Rattle.model.specs.Verify.{all_empty};
 ghost use Rattle.verify.specs.Checked.{Tabled, table_checked};
 
-use memory::chain::{ChainLength, chain_length};
+use memory::chain::chain_length;
 
 // Whether they are sound, and together as long as the table's count says. What the chains before leave of the count is the budget
 // of the next, so no more entries are read than the count says, even where chains loop or share entries.
@@ -17,8 +17,8 @@ pub fn table_checked(buckets: &[u32], entries: &[u32], capacity: u32, used: u32,
     while b < end {
         let length = chain_length(entries, capacity, left, buckets[b], size, b);
         match length {
-            ChainLength::Unsound => return false,
-            ChainLength::Sound(n) => left -= n,
+            Err(_) => return false,
+            Ok(n) => left -= n,
         }
         b += 1;
     }

@@ -7,6 +7,6 @@ use Rattle.dict_rehash.proofs.rehash.move_bucket.Goals as goal
 pub move_counted-requires : goal.move_counted-requires
 move_counted-requires c = record { sound = search rules; rehashing = search rules; old_chain = search old_counted }
 
-pub returns-in-Unsound : goal.returns-in-Unsound
+pub returns-in-Err : goal.returns-in-Err
 unfolding step_room
-returns-in-Unsound c = record { outcome = search bucket_unsound; step_room = tt }
+returns-in-Err c = record { outcome = search bucket_unsound; step_room = tt }

@@ -8,9 +8,9 @@ use Rattle.dict_scan.proofs.scan.scan_two.Goals as goal
 pub write_group-requires : goal.write_group-requires
 write_group-requires c = record { sizes = search rules; writable = search two_writable }
 
-pub returns-in-Unsound : goal.returns-in-Unsound
+pub returns-in-Err : goal.returns-in-Err
 unfolding scanned_two
-returns-in-Unsound c = search scanned_damaged
+returns-in-Err c = search scanned_damaged
 
 pub returns-then-total-list : goal.returns-then-total-list
 returns-then-total-list c = search two_written

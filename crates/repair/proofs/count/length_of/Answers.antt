@@ -3,10 +3,10 @@ use borrow.Author.Rules.{rules}
 use Rattle.repair_passes.specs.Passes.{length_is}
 use Rattle.repair.proofs.count.length_of.Goals as goal
 
-pub returns-in-Unsound : goal.returns-in-Unsound
+pub returns-in-Err : goal.returns-in-Err
 unfolding length_is
-returns-in-Unsound c = search rules
+returns-in-Err c = search rules
 
-pub returns-in-Sound : goal.returns-in-Sound
+pub returns-in-Ok : goal.returns-in-Ok
 unfolding length_is
-returns-in-Sound c = search rules
+returns-in-Ok c = search rules

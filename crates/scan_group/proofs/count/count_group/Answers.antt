@@ -36,14 +36,14 @@ pub overflow_add-result : goal.overflow_add-result
 unfolding group_chains
 overflow_add-result c = search both_fit
 
-pub returns-in-Unsound : goal.returns-in-Unsound
+pub returns-in-Err : goal.returns-in-Err
 unfolding group_chains
-returns-in-Unsound c = search first_out
+returns-in-Err c = search first_out
 
-pub returns-in-Unsound-rest : goal.returns-in-Unsound-rest
+pub returns-in-Err-rest : goal.returns-in-Err-rest
 unfolding group_chains
-returns-in-Unsound-rest c = search rest_out
+returns-in-Err-rest c = search rest_out
 
-pub returns-in-Sound-rest : goal.returns-in-Sound-rest
+pub returns-in-Ok-rest : goal.returns-in-Ok-rest
 unfolding group_chains
-returns-in-Sound-rest c = search both_counted
+returns-in-Ok-rest c = search both_counted

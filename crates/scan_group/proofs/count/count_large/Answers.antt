@@ -6,8 +6,8 @@ use Rattle.scan_group.proofs.count.count_large.Goals as goal
 pub loop-n-init : goal.loop-n-init
 loop-n-init c = search counting_start
 
-pub returns-in-Unsound : goal.returns-in-Unsound
-returns-in-Unsound c = search counting_out
+pub returns-in-Err : goal.returns-in-Err
+returns-in-Err c = search counting_out
 
 pub overflow_sub-left : goal.overflow_sub-left
 overflow_sub-left c = search counting_fits

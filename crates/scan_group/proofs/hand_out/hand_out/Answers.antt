@@ -5,8 +5,8 @@ use Rattle.scan_group.proofs.hand_out.hand_out.Goals as goal
 pub write_chain-requires : goal.write_chain-requires
 write_chain-requires c = search one_writable
 
-pub returns-in-Unsound : goal.returns-in-Unsound
-returns-in-Unsound c = search scanned_damaged
+pub returns-in-Err : goal.returns-in-Err
+returns-in-Err c = search scanned_damaged
 
 pub returns-then-count-list : goal.returns-then-count-list
 returns-then-count-list c = search one_written

@@ -10,8 +10,8 @@ loop-b-init c = search tabling_start
 pub chain_length-length-requires : goal.chain_length-length-requires
 chain_length-length-requires c = record { entries_fit = search rules; legal = search table_legal }
 
-pub returns-in-Unsound : goal.returns-in-Unsound
-returns-in-Unsound c = search tabling_out
+pub returns-in-Err : goal.returns-in-Err
+returns-in-Err c = search tabling_out
 
 pub overflow_sub-left : goal.overflow_sub-left
 overflow_sub-left c = search tabling_fits

@@ -2,6 +2,9 @@
 // leaves, or what it was asked for. What the calls mean is in specs/.
 #![tactic(auto)]
 
+ghost use Rattle.std.specs.Prelude.{◌≡◌};
+ghost use Rattle.model.specs.declared.ScanError.TheVariants.{Refused};
+
 // The most entries that a store can have.
 pub const LARGEST_CAPACITY: u32 = 65536;
 
@@ -110,4 +113,13 @@ pub struct Unstarted {
 pub enum ScanError {
     Short(u32),
     Refused(Error),
+}
+
+// So that `?` hands a refusal on.
+impl From<Error> for ScanError {
+    ghost from_gives = { λ e refusal. refusal ≡ Refused e };
+
+    fn from(e: Error) -> ScanError {
+        ScanError::Refused(e)
+    }
 }

@@ -1,10 +1,11 @@
--- A word's reversal, looked up byte by byte in a list. One computed test, that the list is that of the reversals of 0 to 255,
--- gives each place its reversal (`tested`); one law adds a byte to what is reversed so far (`byte_more`).
+-- A word's reversal, looked up byte by byte in a list. The code has no such list: these are laws of reversal, whatever the code
+-- does. One computed test, that the list is that of the reversals of 0 to 255, gives each place its reversal (`tested`); one law
+-- adds a byte to what is reversed so far (`byte_more`).
 use Rattle.std.proofs.Common.{◌≡◌, ℕ, zero, suc, ◌+◌, ◌*◌, ◌/◌, ◌%◌, ◌^◌, ◌<◌, List, [], ◌∷◌, get_or, ap, ◌∙◌, le_of_suc-le-suc, add-zero, add-suc, mod-lt, suc-add, zero-add, arith}
 use Rattle.cursor.specs.Reverse.{reverse, rev}
 use Rattle.cursor.proofs.Reversal.{reverse_split, reverse_mod}
 
--- at each place below 256 the reversal of the place's eight bits, as `reverse_bits` requires it
+-- at each place below 256 the reversal of the place's eight bits
 abbrev pub ReversesBytes : List ℕ → Type 0
 ReversesBytes bytes = (i : ℕ) → i < 256 → get_or bytes i 0 ≡ reverse 8 i
 
@@ -51,13 +52,3 @@ unfolding rev
 four_bytes bytes rule x first second third fourth e f g h =
     let more = byte_more bytes rule x in
     more 24 _ fourth (more 16 _ third (more 8 first second (looked_up bytes rule x first e) f) g) h
-
--- its two lowest bytes
-pub two_bytes :
-    (bytes : List ℕ)
-    → ReversesBytes bytes
-    → (x first second : ℕ)
-    → first ≡ get_or bytes (x % 256) 0
-    → second ≡ get_or bytes (x / 2 ^ 8 % 256) 0
-    → first * 256 + second ≡ reverse 16 x
-two_bytes bytes rule x first second e f = byte_more bytes rule x 8 first second (looked_up bytes rule x first e) f

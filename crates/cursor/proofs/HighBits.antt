@@ -3,8 +3,9 @@ use Rattle.std.proofs.Common.{◌≡◌, ℕ, ◌+◌, ◌-◌, ◌*◌, ◌/◌
 use native.Mathlib.Nat.{le_dest}
 use lib.Pow.{pow-lt, split, high_ones}
 use lib.Bits.{bit_or, or_block, or_zero_r, or_add_and, and_mask}
-use Rattle.cursor.specs.Reverse.{rev}
+use Rattle.std.specs.Int.{w32, reverse_bits}
 use Rattle.cursor.specs.Next.{next, set_high, add_one}
+use Rattle.cursor.proofs.Reversal.{reverse_bits_lem}
 
 -- a number of d bits adds nothing to d ones
 or_ones : (d x : ℕ) → x < 2 ^ d → bit_or x (2 ^ d - 1) ≡ 2 ^ d - 1
@@ -29,23 +30,19 @@ high_set b v h k =
 
 -- the steps of the code, one after the other, give the next cursor
 pub next_computed :
-    (size cursor negative first counted r : ℕ)
+    (size cursor negative first r : ℕ)
     → size < 2 ^ 32
     → cursor < 2 ^ 32
     → negative < 2 ^ 32
     → (negative + size) % 2 ^ 32 ≡ 0
-    → first ≡ rev (bit_or cursor negative)
-    → counted ≡ (first + 1) % 2 ^ 32
-    → r ≡ rev counted
+    → first ≡ reverse_bits w32 (bit_or cursor negative)
+    → r ≡ reverse_bits w32 ((first + 1) % 2 ^ 32)
     → (b : ℕ)
     → size ≡ 2 ^ b
     → r ≡ next size cursor
 unfolding next set_high add_one
-next_computed size cursor negative first counted r s k n m f a e b p =
-    let negated : negative ≡ 2 ^ 32 - size = omega (arith, pow_pos b) in
-    let set : bit_or cursor (2 ^ 32 - size) ≡ cursor % size + (2 ^ 32 - size) = rw p (at_width (le_dest (exponent_le b 32 (omega arith)))) in
-    rw (e, a, f, negated, set)
-  where
-    at_width : (d : ℕ) × (b + d ≡ 32) → bit_or cursor (2 ^ 32 - 2 ^ b) ≡ cursor % 2 ^ b + (2 ^ 32 - 2 ^ b)
-    at_width (d, g) =
-        subst (λ w. cursor < 2 ^ w → bit_or cursor (2 ^ w - 2 ^ b) ≡ cursor % 2 ^ b + (2 ^ w - 2 ^ b)) (add_comm d b ∙ g) (or_high d b cursor) k
+next_computed size cursor negative first r s k n m f e b p =
+    let negated : negative ≡ 2 ^ 32 - 2 ^ b = omega (arith, p, pow_pos b) in
+    let set : bit_or cursor negative ≡ cursor % 2 ^ b + (2 ^ 32 - 2 ^ b) =
+    rw negated (high_set b cursor (exponent_le b 32 (omega (arith, p))) k) in
+    rw (e, f, reverse_bits_lem, set, reverse_bits_lem, p)

@@ -34,14 +34,13 @@ quick_next b v f h =
     ∙ rw (even, mod-eq_of_lt small, reversed_odd b x, reverse_twice b w, mod-eq_of_lt h) (omega arith)
 
 -- the steps of the code give the next cursor
-pub quick_computed : (size cursor mask : ℕ) → size < 2 ^ 32 → mask < 2 ^ 32 → (mask + 1) % 2 ^ 32 ≡ size
-    → bit_and cursor mask < size / 2
-    → (b : ℕ) → size ≡ 2 ^ b → bit_and cursor mask + size / 2 ≡ next size cursor
-quick_computed size cursor mask s m e h zero p = absurd (omega (arith, p))
-quick_computed size cursor mask s m e h (suc b) p =
-    let pos = pow_pos (suc b) in
-    let ones : mask ≡ 2 ^ suc b - 1 = omega (arith, p, pos) in
+pub quick_computed : (size cursor : ℕ) → size < 2 ^ 32
+    → bit_and cursor ((size + (2 ^ 32 - 1)) % 2 ^ 32) < size / 2
+    → (b : ℕ) → size ≡ 2 ^ b → bit_and cursor ((size + (2 ^ 32 - 1)) % 2 ^ 32) + size / 2 ≡ next size cursor
+quick_computed size cursor s h zero p = absurd (omega (arith, p))
+quick_computed size cursor s h (suc b) p =
+    let ones : (size + (2 ^ 32 - 1)) % 2 ^ 32 ≡ 2 ^ suc b - 1 = omega (arith, p, pow_pos (suc b)) in
     let half : size / 2 ≡ 2 ^ b = omega (arith, p, pow-suc 2 b) in
-    let taken : bit_and cursor mask ≡ cursor % 2 ^ suc b = rw ones (and_mask cursor (suc b)) in
+    let taken : bit_and cursor ((size + (2 ^ 32 - 1)) % 2 ^ 32) ≡ cursor % 2 ^ suc b = rw ones (and_mask cursor (suc b)) in
     let below : cursor % 2 ^ suc b < 2 ^ b = omega (arith, h, half, taken) in
     rw (taken, half, p) (sym (quick_next b cursor (exponent_le (suc b) 32 (omega (arith, p))) below))

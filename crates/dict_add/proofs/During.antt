@@ -1,7 +1,7 @@
 -- What an add during a rehash comes to: on the lent buffers, and the answer.
 -- Assumes nothing.
 use Prim.Native.Nat.{ℕ, ◌+◌, ◌≤◌}
-use mathlib.Core.Path.{◌≡◌, sym, ap, subst, ◌∙◌}
+use mathlib.Core.Path.{◌≡◌, ap, ◌∙◌}
 use mathlib.Core.Bool.{Bool, true, false}
 use mathlib.Core.List.{List}
 use Rattle.model.specs.declared.State.{State}
@@ -12,24 +12,23 @@ use Rattle.during_rehash.specs.declared.moving.Purpose.{Purpose}
 use Rattle.during_rehash.specs.Counts.{one_more}
 use Rattle.during_rehash.specs.Moving.{first_of, second_of, add_moving, moved_state, taken_answer, taken_room, Comes, Meets}
 use Rattle.during_rehash.proofs.AddingAfter.{twice_back}
-use Rattle.during_rehash.proofs.Numbered.{numbered, same_state}
 use Rattle.std.specs.Prelude.{Result, Ok, Err}
 
 -- On the lent buffers.
 
-module _ (s : State) (e : s.rehashing ≡ true) (first second entries : List ℕ) (key value : ℕ) (r : Taken) (x y z : List ℕ) where
-  comes : (current other : List ℕ) → Meets (numbered s) current other entries key (Purpose.Add value) r x y z
+module _ (s : State) (first second entries : List ℕ) (key value : ℕ) (r : Taken) (x y z : List ℕ) where
+  comes : (current other : List ℕ) → Meets s current other entries key (Purpose.Add value) r x y z
       → Comes s current other entries key value r x y z
   unfolding Meets
-  comes current other h = subst (λ (t : State). Comes t current other entries key value r x y z) (sym (same_state s e)) h
+  comes current other h = h
 
-  pub moving_first : s.second_is_current ≡ false → Meets (numbered s) first second entries key (Purpose.Add value) r x y z
+  pub moving_first : s.second_is_current ≡ false → Meets s first second entries key (Purpose.Add value) r x y z
       → After.after (taken_answer s r) x y z ≡ add_after_step s first second entries key value
   unfolding add_moving oriented back
   moving_first f h =
       (comes first second h).same ∙ ap (λ (g : Bool). back g (add_after_step s (first_of g first second) (second_of g first second) entries key value)) f
 
-  pub moving_second : s.second_is_current ≡ true → Meets (numbered s) second first entries key (Purpose.Add value) r x y z
+  pub moving_second : s.second_is_current ≡ true → Meets s second first entries key (Purpose.Add value) r x y z
       → After.after (taken_answer s r) y x z ≡ add_after_step s first second entries key value
   unfolding add_moving oriented back
   moving_second f h =
@@ -37,7 +36,7 @@ module _ (s : State) (e : s.rehashing ≡ true) (first second entries : List ℕ
       ((comes second first h).same ∙ ap (λ (g : Bool). back g (add_after_step s (first_of g second first) (second_of g second first) entries key value)) f)
       ∙ twice_back true (add_after_step s first second entries key value)
 
-  pub moving_room : Meets (numbered s) first second entries key (Purpose.Add value) r x y z → taken_room s r
+  pub moving_room : Meets s first second entries key (Purpose.Add value) r x y z → taken_room s r
   moving_room h = (comes first second h).room
 
 -- The answer.

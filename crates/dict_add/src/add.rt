@@ -111,41 +111,9 @@ fn add_rehashing(
     ensures taken_room { taken_room s result }
 {
     if s.second_is_current {
-        during(
-            second,
-            first,
-            entries,
-            s.second_is_current,
-            s.old_size,
-            s.new_size,
-            s.old_used,
-            s.new_used,
-            s.rehash_index,
-            s.free_head,
-            s.capacity,
-            s.resize_allowed,
-            s.safe_iterators,
-            key,
-            Purpose::Add(value),
-        )
+        during(second, first, entries, s, key, Purpose::Add(value))
     } else {
-        during(
-            first,
-            second,
-            entries,
-            s.second_is_current,
-            s.old_size,
-            s.new_size,
-            s.old_used,
-            s.new_used,
-            s.rehash_index,
-            s.free_head,
-            s.capacity,
-            s.resize_allowed,
-            s.safe_iterators,
-            key,
-            Purpose::Add(value),
-        )
+        during(first, second, entries, s, key, Purpose::Add(value))
     }
 }
 

@@ -23,7 +23,6 @@ use Rattle.after_step.proofs.Courses.{taken_first, taken_second, told_first, tol
 use Rattle.during_rehash.specs.declared.moving.Taken.{Taken}
 use Rattle.during_rehash.specs.declared.moving.Purpose.{Purpose}
 use Rattle.during_rehash.specs.Moving.{RefusedFor, Stopped, Ready, Prepared, PreparedIn, Meets}
-use Rattle.during_rehash.proofs.Numbered.{numbered, same_state}
 use Rattle.dict_delete.specs.Prepared.{PreparedLent, SteppedBefore}
 use Rattle.std.specs.Prelude.{Result, Ok, Err}
 
@@ -207,23 +206,22 @@ elsewhere s v w a b c o p q entries x y x' y' z e there same (Taken.Pushed free)
 elsewhere s v w a b c o p q entries x y x' y' z e there same (Taken.Stepped count next free) k =
     record { told = k.told ∙ e; step = there _ k.step; room = k.room }
 
-module _ (s : State) (e : s.rehashing ≡ true) (first second entries : List ℕ)
+module _ (s : State) (first second entries : List ℕ)
     (h : sound_lent (length first) (length second) (length entries) s ≡ true) (d : step_due s ≡ true) (key : ℕ) (r : Taken)
     (x y z : List ℕ) where
-  told_of : (current other : List ℕ) → Meets (numbered s) current other entries key Purpose.Delete r x y z
+  told_of : (current other : List ℕ) → Meets s current other entries key Purpose.Delete r x y z
       → PreparedIn s current other entries key r x y z
   unfolding Meets
-  told_of current other k =
-      subst (λ (t : State). step_due t ≡ true → PreparedIn t current other entries key r x y z) (sym (same_state s e)) k d
+  told_of current other k = k d
 
   pub prepared_first : s.second_is_current ≡ false
-      → Meets (numbered s) first second entries key Purpose.Delete r x y z → PreparedLent s first second entries key r x y z
+      → Meets s first second entries key Purpose.Delete r x y z → PreparedLent s first second entries key r x y z
   prepared_first f k =
       elsewhere s _ _ _ _ first second first second entries x y x y z (told_first s first second entries h d key _ f refl)
       (λ m g. taken_first s first second entries h d m x y z f g) (λ l m. (l, m)) r (told_of first second k)
 
   pub prepared_second : s.second_is_current ≡ true
-      → Meets (numbered s) second first entries key Purpose.Delete r x y z → PreparedLent s first second entries key r y x z
+      → Meets s second first entries key Purpose.Delete r x y z → PreparedLent s first second entries key r y x z
   prepared_second f k =
       elsewhere s _ _ _ _ second first first second entries x y y x z (told_second s first second entries h d key _ f refl)
       (λ m g. taken_second s first second entries h d m y x z f g) (λ l m. (m, l)) r (told_of second first k)

@@ -108,41 +108,9 @@ fn step_lent(
         first.new second.new entries.new }
 {
     if s.second_is_current {
-        during(
-            second,
-            first,
-            entries,
-            s.second_is_current,
-            s.old_size,
-            s.new_size,
-            s.old_used,
-            s.new_used,
-            s.rehash_index,
-            s.free_head,
-            s.capacity,
-            s.resize_allowed,
-            s.safe_iterators,
-            key,
-            Purpose::Delete,
-        )
+        during(second, first, entries, s, key, Purpose::Delete)
     } else {
-        during(
-            first,
-            second,
-            entries,
-            s.second_is_current,
-            s.old_size,
-            s.new_size,
-            s.old_used,
-            s.new_used,
-            s.rehash_index,
-            s.free_head,
-            s.capacity,
-            s.resize_allowed,
-            s.safe_iterators,
-            key,
-            Purpose::Delete,
-        )
+        during(first, second, entries, s, key, Purpose::Delete)
     }
 }
 

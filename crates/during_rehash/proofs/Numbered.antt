@@ -1,9 +1,7 @@
--- A call during a rehash: an add where safe iterators hold up the step, what is promised by the purpose, and from a state to its
--- numbers.
+-- A call during a rehash: an add where safe iterators hold up the step, and what is promised by the purpose.
 -- Assumes nothing.
 use Prim.Native.Nat.{ℕ}
 use mathlib.Core.Path.{◌≡◌, refl, sym, ap, subst, ◌∙◌}
-use mathlib.Core.Bool.{Bool, true, false}
 use mathlib.Core.List.{List}
 use native.Mathlib.Omega.{arith}
 use lib.ListN.{length}
@@ -11,8 +9,6 @@ use Rattle.model.specs.declared.State.{State}
 use Rattle.model.specs.declared.Error.{Error}
 use Rattle.model.specs.Calls.{After, back, lookup, added, add_alone, is_added, add_after_step}
 use Rattle.model.proofs.Soundness.{Sound}
-use Rattle.memory.specs.Lent.{sound_lent}
-use Rattle.memory.proofs.Tested.{lent_first, lent_second}
 use Rattle.dict_rehash.proofs.Due.{none_due_paused}
 use Rattle.after_step.proofs.StepFirst.{first_alone}
 use Rattle.during_rehash.specs.declared.moving.Taken.{Taken}
@@ -20,7 +16,6 @@ use Rattle.during_rehash.specs.declared.moving.Purpose.{Purpose}
 use Rattle.during_rehash.specs.declared.push.Push.{Push}
 use Rattle.during_rehash.specs.Moving.{add_moving, taken_answer, taken_room, Comes, PreparedIn, Meets}
 use Rattle.during_rehash.specs.Push.{push_answer, taken_of}
-use Rattle.during_rehash.specs.During.{moving}
 use Rattle.during_rehash.proofs.AddingAfter.{twice_back, first, second, lent_writing}
 use Rattle.std.specs.Prelude.{Err}
 
@@ -98,45 +93,3 @@ pub meets_alone : (s : State) (current other entries : List ℕ) (key value : �
 meets_alone s current other entries key value purpose e r t o z p a h i =
     meets_add s current other entries key purpose t current o z value e
     (moving_alone s current other entries key value h i r t o z a p)
-
--- A state during a rehash, and its numbers.
-
-abbrev pub numbered : State → State
-numbered s =
-    moving s.second_is_current s.old_size s.new_size s.old_used s.new_used s.rehash_index s.free_head
-    s.capacity s.resize_allowed s.safe_iterators
-
-module _ (s : State) (e : s.rehashing ≡ true) where
-  pub same_state : s ≡ numbered s
-  same_state =
-      ap
-      (λ (b : Bool).
-      record {
-        second_is_current = s.second_is_current;
-        old_size = s.old_size;
-        new_size = s.new_size;
-        old_used = s.old_used;
-        new_used = s.new_used;
-        rehashing = b;
-        rehash_index = s.rehash_index;
-        free_head = s.free_head;
-        capacity = s.capacity;
-        resize_allowed = s.resize_allowed;
-        safe_iterators = s.safe_iterators;
-      })
-      e
-
-  module _ (first second entries : ℕ) (h : sound_lent first second entries s ≡ true) where
-    pub sound_first : s.second_is_current ≡ false
-        → Sound
-        (moving s.second_is_current s.old_size s.new_size s.old_used s.new_used s.rehash_index
-        s.free_head s.capacity s.resize_allowed s.safe_iterators)
-        first second entries
-    sound_first f = subst (λ (t : State). Sound t first second entries) same_state (lent_first s first second entries h f)
-
-    pub sound_second : s.second_is_current ≡ true
-        → Sound
-        (moving s.second_is_current s.old_size s.new_size s.old_used s.new_used s.rehash_index
-        s.free_head s.capacity s.resize_allowed s.safe_iterators)
-        second first entries
-    sound_second f = subst (λ (t : State). Sound t second first entries) same_state (lent_second s first second entries h f)

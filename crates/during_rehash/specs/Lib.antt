@@ -2,4 +2,3 @@
 pub mod Counts
 pub mod Moving
 pub mod Push
-pub mod During

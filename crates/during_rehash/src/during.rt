@@ -1,11 +1,8 @@
-// A call during a rehash as it is handed over. It is given the state's numbers and answers numbers: with two buffers that may be
-// the current one and two calls that come here it has four callers and stays a call of its own, and a state would go in, and
-// come back, through memory.
+// A call during a rehash.
 ghost use Rattle.std.specs.Prelude.{◌≡◌, true, length};
 ghost use Rattle.model.proofs.Soundness.{Sound};
 ghost use Rattle.during_rehash.specs.Push.{taken_of};
 ghost use Rattle.during_rehash.specs.Moving.{Meets};
-ghost use Rattle.during_rehash.specs.During.{moving};
 
 use crate::moving::{Purpose, Taken, change_moving};
 use crate::push::{Push, push_paused};
@@ -45,46 +42,23 @@ fn change_paused(
     }
 }
 
-// On the current and the other bucket buffer: with a step first, unless safe iterators hold it up.
+// On the current and the other bucket buffer: with a step first, unless safe iterators hold it up. Two calls with two buffers
+// that may be current come here: built into each, it would be there four times.
+#[inline(never)]
 pub fn during(
     current: &mut [u32],
     other: &mut [u32],
     entries: &mut [u32],
-    second_is_current: bool,
-    old_size: u32,
-    new_size: u32,
-    old_used: u32,
-    new_used: u32,
-    rehash_index: u32,
-    free_head: u32,
-    capacity: u32,
-    resize_allowed: bool,
-    safe_iterators: u32,
+    s: State,
     key: u32,
     purpose: Purpose,
 ) -> Taken
-    requires { Sound
-        (moving second_is_current old_size new_size old_used new_used rehash_index free_head capacity resize_allowed safe_iterators)
-        (length current.old) (length other.old) (length entries.old) }
-    ensures { Meets
-        (moving second_is_current old_size new_size old_used new_used rehash_index free_head capacity resize_allowed safe_iterators)
-        current.old other.old entries.old key purpose result
+    requires sound { Sound s (length current.old) (length other.old) (length entries.old) }
+    requires rehashing { s.rehashing ≡ true }
+    ensures { Meets s current.old other.old entries.old key purpose result
         current.new other.new entries.new }
 {
-    let s = State {
-        second_is_current,
-        old_size,
-        new_size,
-        old_used,
-        new_used,
-        rehashing: true,
-        rehash_index,
-        free_head,
-        capacity,
-        resize_allowed,
-        safe_iterators,
-    };
-    if safe_iterators == 0 {
+    if s.safe_iterators == 0 {
         change_moving(current, other, entries, s, key, purpose)
     } else {
         change_paused(current, other, entries, s, key, purpose)

@@ -1,17 +1,17 @@
 -- `dict_delete::delete::step_lent` meets its contract: the flag says which lent buffer is current.
 use Rattle.dict_rehash.proofs.Due.{due_rehashing}
-use Rattle.during_rehash.proofs.Numbered.{sound_first, sound_second}
+use Rattle.memory.proofs.Tested.{lent_first, lent_second}
 use Rattle.dict_delete.proofs.Deleting.{prepared_first, prepared_second}
 use Rattle.dict_delete.proofs.delete.step_lent.Goals as goal
 
 pub during-requires : goal.during-requires
-during-requires c = search (sound_second, due_rehashing)
+during-requires c = record { sound = search lent_second; rehashing = search due_rehashing }
 
 pub during-requires-else-s : goal.during-requires-else-s
-during-requires-else-s c = search (sound_first, due_rehashing)
+during-requires-else-s c = record { sound = search lent_first; rehashing = search due_rehashing }
 
 pub returns-then-s : goal.returns-then-s
-returns-then-s c = search (prepared_second, due_rehashing)
+returns-then-s c = search prepared_second
 
 pub returns-else-s : goal.returns-else-s
-returns-else-s c = search (prepared_first, due_rehashing)
+returns-else-s c = search prepared_first

@@ -1,6 +1,6 @@
 -- The fingerprint of a list of numbers (Redis's dictFingerprint): each number is added to what is made of those before it,
 -- and the sum is mixed. All is modulo 2 ^ 64, on numbers without a sign.
-use Rattle.std.specs.Prelude.{ℕ, ◌+◌, ◌-◌, ◌*◌, ◌/◌, ◌%◌, ◌^◌, List, [], ◌∷◌, bit_xor}
+use Rattle.std.specs.Prelude.{ℕ, ◌+◌, ◌-◌, ◌*◌, ◌/◌, ◌%◌, ◌^◌, List, bit_xor, fold}
 
 -- the lowest 64 bits
 unfoldable pub cut : ℕ → ℕ
@@ -35,8 +35,7 @@ mixed h =
 
 -- the numbers of a list, taken in one after the other
 unfoldable pub folded : ℕ → List ℕ → ℕ
-folded h [] = h
-folded h (n ∷ ns) = folded (mixed (plus h n)) ns
+folded h ns = fold (λ a n. mixed (plus a n)) h ns
 
 unfoldable pub fingerprint : List ℕ → ℕ
 fingerprint ns = folded 0 ns

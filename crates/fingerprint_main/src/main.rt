@@ -3,12 +3,14 @@
 // each to standard output, in decimal, on a line of its own.
 #![tactic(auto)]
 
-ghost use Rattle.std.specs.Prelude.{◌≡◌, ◌≤◌, ◌<◌, ◌+◌, get_or};
+ghost use Rattle.std.specs.Prelude.{◌≡◌, map};
+ghost use Rattle.std.specs.Int.{w64, from_le_bytes};
+ghost use Rattle.std.specs.Simd.{first_chunks};
 ghost use Rattle.fingerprint.specs.Mix as Mix;
-ghost use Rattle.fingerprint_main.specs.Input.{little_endian, numbers_at};
 
 use fingerprint::fingerprint;
 use std::io::{Read, Stdin, Stdout};
+use std::{array, io};
 
 // The bytes of an array.
 const ARRAY_BYTES: usize = 48;
@@ -16,58 +18,28 @@ const ARRAY_BYTES: usize = 48;
 // Nothing says that an input ends, so the arrays are counted.
 const MOST_ARRAYS: usize = 1000000;
 
-fn byte_at(bytes: &[u8; ARRAY_BYTES], at: usize) -> u8
-    requires { at < 48 }
-    ensures { result ≡ get_or bytes.now at 0 }
-{
-    bytes[at]
-}
-
-// The eight bytes from a place on, as a number: from the last, which is the highest, to the first.
-fn number_at(bytes: &[u8; ARRAY_BYTES], at: usize) -> u64
-    requires { at + 8 ≤ 48 }
-    ensures { result ≡ little_endian bytes.now at 8 }
-{
-    let mut number = 0;
-    let mut left = 8;
-    while 0 < left {
-        left -= 1;
-        number = number * 256 + byte_at(bytes, at + left) as u64;
-    }
-    number
-}
-
+// Every eight bytes are a number, the lowest byte first.
 fn fingerprint_of(bytes: &[u8; ARRAY_BYTES]) -> u64
-    ensures { result ≡ Mix.fingerprint (numbers_at bytes.now 0 6) }
+    ensures { result ≡ Mix.fingerprint (map (from_le_bytes w64) (first_chunks 8 6 bytes.now)) }
 {
-    fingerprint([
-        number_at(bytes, 0),
-        number_at(bytes, 8),
-        number_at(bytes, 16),
-        number_at(bytes, 24),
-        number_at(bytes, 32),
-        number_at(bytes, 40),
-    ])
+    let (words, _) = bytes.as_chunks();
+    fingerprint(array::from_fn(|i| u64::from_le_bytes(words[i])))
 }
 
-// Answers one array, and says whether that could be done. One that is cut short counts as none, and
-// a read that fails as the end: the lines that are missing show.
-fn answer_one(input: &mut Stdin, output: &Stdout) -> bool {
-    let mut bytes = [0u8; ARRAY_BYTES];
-    if input.read_exact(&mut bytes).is_err() {
-        return false;
-    }
-    println!(output; "{}", fingerprint_of(&bytes)).is_ok()
+// Answers one array. One that is cut short counts as none: it is a read that fails.
+fn answer_one(input: &mut Stdin, output: &Stdout) -> io::Result<()> {
+    let mut bytes = [0; ARRAY_BYTES];
+    input.read_exact(&mut bytes)?;
+    println!(output; "{}", fingerprint_of(&bytes))
 }
 
+// A read or a write that fails is the end: the lines that are missing show.
 fn main(rt: HostRuntime) {
     let mut input = rt.stdin();
     let output = rt.stdout();
-    let mut left = MOST_ARRAYS;
-    while 0 < left {
-        if !answer_one(&mut input, &output) {
+    for _ in 0..MOST_ARRAYS {
+        if answer_one(&mut input, &output).is_err() {
             return;
         }
-        left -= 1;
     }
 }

@@ -1,2 +1,0 @@
--- How the bytes of an array become its numbers.
-mod Reading

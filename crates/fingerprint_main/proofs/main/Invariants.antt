@@ -1,8 +1,0 @@
--- `fingerprint_main::main` ends: the arrays are counted.
-use Rattle.fingerprint_main.proofs.main.Given as goal
-
-abbrev pub invariant-loop-left : goal.invariant-loop-left
-invariant-loop-left l = Unit {0}
-
-abbrev pub decreases-loop-left : goal.decreases-loop-left
-decreases-loop-left l = l.left

@@ -1,2 +1,0 @@
--- How the program's input is read.
-pub mod Input

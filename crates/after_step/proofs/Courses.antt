@@ -22,8 +22,7 @@ use Rattle.model.proofs.Soundness.{Sound}
 use Rattle.model.proofs.Moved.{moved_link}
 use Rattle.memory.specs.Lent.{sound_lent}
 use Rattle.memory.proofs.Orientation.{read_first, read_second, written_first, written_second, writing_sound}
-use Rattle.search.specs.declared.found.Found.{Found}
-use Rattle.search.specs.Found.{found_of}
+use Rattle.search.specs.Found.{Found, found_of}
 use Rattle.search.specs.Tables.{searched_in}
 use Rattle.dict_rehash.specs.declared.rehash.Progress.{Progress}
 use Rattle.dict_rehash.specs.Progress.{step_answer, old_chain, chains, ChainOf}

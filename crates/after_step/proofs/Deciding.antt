@@ -23,8 +23,7 @@ use Rattle.model.proofs.Linked.{read_sound}
 use Rattle.model.proofs.Soundness.{Sound}
 use Rattle.model.proofs.StepAhead.{Comes, ahead_comes}
 use Rattle.memory.specs.Length.{bucket_chain}
-use Rattle.search.specs.declared.found.Found.{Found}
-use Rattle.search.specs.Found.{found_of}
+use Rattle.search.specs.Found.{Found, found_of}
 use Rattle.search.specs.Tables.{searched_in}
 use Rattle.dict_rehash.specs.Progress.{old_chain}
 use Rattle.after_step.specs.declared.presence.Presence.{Presence}

@@ -1,5 +1,5 @@
 -- What the code reads before a step, and what it tells of the memory after it.
-use Rattle.std.specs.Prelude.{ℕ, ◌+◌, ◌<◌, ◌≡◌, Bool, true, false, cond, ◌||◌, List, [], ◌∷◌, length, get_or, eqb}
+use Rattle.std.specs.Prelude.{ℕ, ◌+◌, ◌<◌, ◌≡◌, Bool, true, false, cond, ◌||◌, List, [], ◌∷◌, length, get_or, eqb, Ok, Err, Some, None}
 use Rattle.std.proofs.Math.Option.{Option, none, some}
 use mir.Val.{bool_byte}
 use Rattle.model.specs.declared.State.{State}
@@ -8,11 +8,11 @@ use Rattle.model.specs.Keys.{bucket_of}
 use Rattle.model.specs.Memory.{key_of, in_bucket, last_or}
 use Rattle.model.proofs.Soundness.{Sound}
 use Rattle.memory.specs.Length.{bucket_chain}
-use Rattle.search.specs.declared.found.Found.{Found}
 use Rattle.search.specs.Tables.{searched_in}
 use Rattle.after_step.specs.declared.presence.Presence.{Presence}
 use Rattle.after_step.specs.declared.presence.Survey.{Survey}
 use Rattle.after_step.specs.Presence.{presence}
+use Rattle.search.specs.Found.{Found}
 
 -- One pass over a chain. `bool_byte` is 1 of true and 0 of false.
 
@@ -42,9 +42,9 @@ surveyed entries size c key n (some ns) =
 -- Presences.
 
 abbrev pub found_presence : Found → Presence
-found_presence Found.Damaged = Presence.Damaged
-found_presence Found.Absent = Presence.Absent
-found_presence (Found.At n) = Presence.Held
+found_presence (Err e) = Presence.Damaged
+found_presence (Ok None) = Presence.Absent
+found_presence (Ok (Some n)) = Presence.Held
 
 abbrev pub held_if : Bool → Presence
 held_if t = cond t Presence.Held Presence.Absent

@@ -11,8 +11,8 @@ ghost use Rattle.after_step.specs.Told.{surveyed, found_presence, held_if, eithe
 
 use memory::entry::{key_of, link_of};
 use memory::state::bucket_index;
-use model::State;
-use search::found::{Found, entry_in};
+use model::{Error, State};
+use search::found::entry_in;
 
 // What a lookup would answer, without the entry.
 #[derive(Clone, Copy)]
@@ -98,13 +98,13 @@ fn held_if(t: bool) -> Presence
     if t { Presence::Held } else { Presence::Absent }
 }
 
-pub fn presence_of(found: Found) -> Presence
+pub fn presence_of(found: Result<Option<u32>, Error>) -> Presence
     ensures { result ≡ found_presence found }
 {
     match found {
-        Found::Damaged => Presence::Damaged,
-        Found::Absent => Presence::Absent,
-        Found::At(_) => Presence::Held,
+        Err(_) => Presence::Damaged,
+        Ok(None) => Presence::Absent,
+        Ok(Some(_)) => Presence::Held,
     }
 }
 

@@ -1,10 +1,14 @@
--- What update answers and leaves, from the test of the state and the entry found.
+-- What update answers and leaves on a sound state, by the entry found.
 -- Assumes nothing.
 use Prim.Native.Nat.{ℕ}
 use mathlib.Core.Path.{◌≡◌, refl, ◌∙◌}
 use mathlib.Core.Bool.{Bool, true, false}
 use mathlib.Core.List.{List}
 use lib.ListN.{length}
+use Rattle.std.specs.Prelude.{Result, Ok, Err, Option}
+use Rattle.std.specs.Option.{ok_or}
+use Rattle.std.specs.Result.{IsErrAnd}
+use Rattle.std.proofs.lemmas.Result.{err_from_is_err_and}
 use Rattle.model.specs.declared.State.{State}
 use Rattle.model.specs.declared.Error.{Error}
 use Rattle.model.specs.declared.Lookup.{Lookup}
@@ -12,32 +16,9 @@ use Rattle.model.specs.Memory.{set_value}
 use Rattle.model.specs.Calls.{After, oriented, back, lookup, held, updated, update}
 use Rattle.memory.specs.Lent.{sound_lent}
 use Rattle.memory.proofs.Orientation.{writing_sound}
-use Rattle.search.specs.declared.found.Found.{Found}
 use Rattle.search.specs.Tables.{lookup_lent}
 use Rattle.search.specs.Found.{found_of}
 use Rattle.search.proofs.Held.{held_damaged, held_absent, held_at}
-use Rattle.std.specs.Prelude.{Result, Ok, Err}
-
--- The answer to any lookup and what it leaves, from the entry that it found.
-
-module _ (entries : List ℕ) (value : ℕ) (r : Found) where
-  pub update_damaged : r ≡ Found.Damaged → (first second : List ℕ) (l : Lookup) → r ≡ found_of l
-      → After.after (Err Error.Damaged) first second entries ≡ updated first second entries value l
-  unfolding updated
-  update_damaged d first second l e = held_damaged _ _ l r e d
-
-  pub update_absent : r ≡ Found.Absent → (first second : List ℕ) (l : Lookup) → r ≡ found_of l
-      → After.after (Err Error.Absent) first second entries ≡ updated first second entries value l
-  unfolding updated
-  update_absent d first second l e = held_absent _ _ l r e d
-
-  pub update_value : (n : ℕ) (last : List ℕ) → r ≡ Found.At n → last ≡ set_value entries n value
-      → (first second : List ℕ) (l : Lookup) → r ≡ found_of l
-      → After.after (Ok tt) first second last ≡ updated first second entries value l
-  unfolding updated
-  update_value n last d v first second l e = rw v (held_at _ _ l r e n d)
-
--- The call.
 
 -- the buckets stay, so they may as well be named as they were lent
 updated_back : (first second entries : List ℕ) (value : ℕ) (l : Lookup)
@@ -49,13 +30,9 @@ updated_back first second entries value (Lookup.At t before n) = refl
 
 module _ (s : State) (first second entries : List ℕ) (key value : ℕ)
     (h : sound_lent (length first) (length second) (length entries) s ≡ true) where
-  pub update_sound : (r : Found) → r ≡ found_of (lookup_lent s first second entries key)
-      → (a : Result (Unit {0}) Error) (last : List ℕ)
-      → ((x y : List ℕ) (l : Lookup) → r ≡ found_of l → After.after a x y last ≡ updated x y entries value l)
-      → After.after a first second last ≡ update s first second entries key value
+  looked_up : updated first second entries value (lookup_lent s first second entries key) ≡ update s first second entries key value
   unfolding update lookup_lent oriented back
-  update_sound r l a last f =
-      f first second _ l ∙ writing_sound s first second entries _ refl _ _ _ h (pick s.second_is_current)
+  looked_up = writing_sound s first second entries _ refl _ _ _ h (pick s.second_is_current)
     where
       pick : (flag : Bool)
           → updated first second entries value (oriented flag (λ current other. lookup s current other entries key) first second)
@@ -63,3 +40,19 @@ module _ (s : State) (first second entries : List ℕ) (key value : ℕ)
           (oriented flag (λ current other. updated current other entries value (lookup s current other entries key)) first second)
       pick false = refl
       pick true = updated_back first second entries value (lookup s second first entries key)
+
+  pub update_damaged : (r : Result (Unit {0}) Error) (x : Error) → Err x ≡ found_of (lookup_lent s first second entries key)
+      → IsErrAnd r (λ e. e ≡ x) → After.after r first second entries ≡ update s first second entries key value
+  unfolding updated
+  update_damaged r x e g = let p = err_from_is_err_and r g in rw (p.1, p.2) (held_damaged _ _ _ x e ∙ looked_up)
+
+  module _ (o : Option ℕ) (e : Ok o ≡ found_of (lookup_lent s first second entries key)) where
+    pub update_absent : (r : Result (Unit {0}) Error) (x : Error) → Err x ≡ ok_or o Error.Absent
+        → IsErrAnd r (λ e. e ≡ x) → After.after r first second entries ≡ update s first second entries key value
+    unfolding updated
+    update_absent r x a g = let p = err_from_is_err_and r g in rw (p.1, p.2) (held_absent _ _ _ o x e a ∙ looked_up)
+
+    pub update_held : (n : ℕ) (last : List ℕ) → Ok n ≡ ok_or o Error.Absent → last ≡ set_value entries n value
+        → After.after (Ok tt) first second last ≡ update s first second entries key value
+    unfolding updated
+    update_held n last a v = rw v (held_at _ _ _ o n e a ∙ looked_up)

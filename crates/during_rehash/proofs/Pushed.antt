@@ -9,8 +9,7 @@ use Rattle.model.specs.declared.Table.{Table}
 use Rattle.model.specs.declared.Lookup.{Lookup}
 use Rattle.model.specs.Memory.{size_of, buckets_of, keys_held}
 use Rattle.model.specs.Calls.{After, changed, both, lookup, takeable, target, added}
-use Rattle.search.specs.declared.found.Found.{Found}
-use Rattle.search.specs.Found.{found_of}
+use Rattle.search.specs.Found.{Found, found_of}
 use Rattle.search.specs.Tables.{searched_in}
 use Rattle.search.proofs.Lookups.{lookup_rehashing}
 use Rattle.during_rehash.specs.declared.push.Push.{Push}

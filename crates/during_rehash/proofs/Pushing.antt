@@ -10,8 +10,8 @@ use Rattle.model.specs.declared.Table.{Table}
 use Rattle.model.specs.declared.Error.{Error}
 use Rattle.model.specs.Keys.{bucket_of}
 use Rattle.model.specs.Memory.{link_of, set_entry}
-use Rattle.search.specs.declared.found.Found.{Found}
-use Rattle.search.specs.Found.{found_of}
+use Rattle.std.specs.Prelude.{Option, Ok}
+use Rattle.search.specs.Found.{Found, found_of}
 use Rattle.search.specs.Tables.{searched_in, Readable}
 use Rattle.during_rehash.specs.declared.push.Push.{Push}
 use Rattle.during_rehash.specs.Push.{Left, push_free, push_found}
@@ -53,6 +53,11 @@ module _ (buckets entries : List ℕ) (size capacity held free key value : ℕ) 
 pub found_by : (buckets entries : List ℕ) (absent r : Left) (at v : Found) → at ≡ v → r ≡ push_found buckets entries absent v
     → r ≡ push_found buckets entries absent at
 found_by buckets entries absent r at v e p = rw e p
+
+-- .. where no chain was damaged
+pub found_in : (buckets entries : List ℕ) (absent r : Left) (at : Found) (o w : Option ℕ) → at ≡ Ok o → o ≡ w
+    → r ≡ push_found buckets entries absent (Ok w) → r ≡ push_found buckets entries absent at
+found_in buckets entries absent r at o w e f p = rw (e, f) p
 
 -- in the only table, which counts as the old one
 pub found_one : (entries : List ℕ) (capacity used : ℕ) (buckets : List ℕ) (size key : ℕ) (absent r : Left) (at : Found)

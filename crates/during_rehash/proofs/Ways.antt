@@ -17,8 +17,7 @@ use Rattle.model.specs.Keys.{bucket_of}
 use Rattle.model.specs.Memory.{link_of, set_entry}
 use Rattle.model.specs.Calls.{After, both, moved_chain, ahead_of, step_taken, step_due}
 use Rattle.model.proofs.Soundness.{Sound}
-use Rattle.search.specs.declared.found.Found.{Found}
-use Rattle.search.specs.Found.{found_of}
+use Rattle.search.specs.Found.{Found, found_of}
 use Rattle.search.specs.Tables.{searched_in, Readable}
 use Rattle.dict_rehash.specs.declared.rehash.Progress.{Progress}
 use Rattle.dict_rehash.specs.Progress.{step_answer, step_room, old_chain, OldChain}

@@ -10,7 +10,7 @@ ghost use Rattle.during_rehash.specs.Push.Left.{left};
 use crate::entry::push_entry;
 use memory::entry::link_of;
 use model::{Error, State};
-use search::found::{Found, entry_in_both};
+use search::found::entry_in_both;
 
 // What happened to the buffers, in numbers: the public call makes the answer of it.
 #[derive(Clone, Copy)]
@@ -62,7 +62,7 @@ pub fn push_found(
     free: u32,
     key: u32,
     value: u32,
-    at: Found,
+    at: Result<Option<u32>, Error>,
 ) -> Push
     requires readable { Readable size (length buckets.old) capacity (length entries.old) }
     requires free_in_range { free ≤ capacity }
@@ -71,9 +71,9 @@ pub fn push_found(
         (push_free buckets.old entries.old size capacity held free key value) at }
 {
     match at {
-        Found::Damaged => Push::Refused(Error::Damaged),
-        Found::Absent => push_free(buckets, entries, size, capacity, held, free, key, value),
-        Found::At(_) => Push::Refused(Error::Present),
+        Err(e) => Push::Refused(e),
+        Ok(None) => push_free(buckets, entries, size, capacity, held, free, key, value),
+        Ok(Some(_)) => Push::Refused(Error::Present),
     }
 }
 

@@ -20,8 +20,8 @@ use Rattle.model.specs.Memory.{key_of, in_bucket, size_of}
 use Rattle.model.specs.Calls.{searched, first_with, both}
 use Rattle.model.proofs.Soundness.{Sound}
 use Rattle.model.proofs.Linked.{Linked, read_complete}
-use Rattle.search.specs.declared.found.Found.{Found}
-use Rattle.search.specs.Found.{found_of, as_found, both_found, found_is}
+use Rattle.std.specs.Prelude.{Ok, Err, Some, None}
+use Rattle.search.specs.Found.{Found, found_of, both_found, found_is}
 use Rattle.search.specs.Tables.{searched_in}
 use Rattle.model.proofs.Lists.{distinct_fits}
 use Rattle.model.specs.Repair.{met_at, met_all, first_met, is_kept}
@@ -31,7 +31,10 @@ use Rattle.model.proofs.Kept.{met, met_facts, met_distinct}
 use Rattle.model.proofs.FirstMet.{or_first, Positive, first_met_keys, key_below, met_for, first_resting, first_rehashing}
 use Rattle.repair_passes.specs.Passes.{found_for, finds_first}
 
--- what a search of a list finds
+-- what a search of a list finds, where 0 is no entry
+
+as_found : ℕ → Found
+as_found found = cond (eqb found 0) (Ok None) (Ok (Some found))
 
 found_first : (e : List ℕ) (key : ℕ) (t : Table) (before : ℕ) (ns : List ℕ) → Positive ns
     → found_of (first_with e key t before ns) ≡ as_found (first_met e key ns)
@@ -50,14 +53,17 @@ found_first e key t before (suc n ∷ ns) p =
 found_both : (a b : Lookup) → found_of (both a b) ≡ both_found (found_of a) (found_of b)
 unfolding found_of both both_found
 found_both Lookup.Damaged b = refl
-found_both Lookup.Absent b = refl
+found_both Lookup.Absent Lookup.Damaged = refl
+found_both Lookup.Absent Lookup.Absent = refl
+found_both Lookup.Absent (Lookup.At t before n) = refl
 found_both (Lookup.At t before n) Lookup.Damaged = refl
 found_both (Lookup.At t before n) Lookup.Absent = refl
 found_both (Lookup.At t before n) (Lookup.At t' before' n') = refl
 
 both_first : (x y : ℕ) → both_found (as_found x) (as_found y) ≡ as_found (or_first x y)
 unfolding both_found as_found or_first
-both_first zero y = refl
+both_first zero zero = refl
+both_first zero (suc y) = rw eqb-suc-zero
 both_first (suc x) zero = rw eqb-suc-zero
 both_first (suc x) (suc y) = rw (eqb-suc-zero, eqb-suc-zero)
 

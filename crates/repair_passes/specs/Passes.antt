@@ -7,8 +7,7 @@ use Rattle.model.specs.Memory.{link_of, key_of, set_link, set_entry, in_bucket, 
 use Rattle.model.specs.Calls.{After, both, state_of, old_new}
 use Rattle.model.specs.Iterators.{first_from}
 use Rattle.memory.specs.Length.{bucket_chain}
-use Rattle.search.specs.declared.found.Found.{Found}
-use Rattle.search.specs.Found.{found_of, found_is}
+use Rattle.search.specs.Found.{Found, found_of, found_is}
 use Rattle.search.specs.Tables.{searched_in}
 use Rattle.model.specs.Repair.{first_or0, or_else, repaired_state, repaired_buckets, repaired_entries}
 use Rattle.model.specs.declared.Error.{Error}

@@ -12,9 +12,8 @@ use Rattle.model.specs.Keys.{bucket_of}
 use Rattle.model.specs.Memory.{chain, in_bucket}
 use Rattle.model.specs.Calls.{oriented, searched, both, lookup}
 use Rattle.memory.specs.Length.{bucket_chain}
-use Rattle.search.specs.declared.found.Found.{Found}
 use Rattle.search.specs.Tables.{searched_in, lookup_lent}
-use Rattle.search.specs.Found.{found_of, both_found}
+use Rattle.search.specs.Found.{Found, found_of, both_found}
 use Rattle.search.proofs.Lookups.{looked_in, lookup_resting, lookup_rehashing}
 
 pub entry_in_one : (entries : List ℕ) (capacity used : ℕ) (buckets : List ℕ) (size key b : ℕ) (r : Found)
@@ -48,7 +47,9 @@ entry_from_head entries capacity used buckets size key b head r e d h =
 both_of : (a b : Lookup) → both_found (found_of a) (found_of b) ≡ found_of (both a b)
 unfolding both_found found_of both
 both_of Lookup.Damaged b = refl
-both_of Lookup.Absent b = refl
+both_of Lookup.Absent Lookup.Damaged = refl
+both_of Lookup.Absent Lookup.Absent = refl
+both_of Lookup.Absent (Lookup.At t n m) = refl
 both_of (Lookup.At t m n) Lookup.Damaged = refl
 both_of (Lookup.At t m n) Lookup.Absent = refl
 both_of (Lookup.At t m n) (Lookup.At t' m' n') = refl

@@ -16,16 +16,17 @@ use Rattle.model.proofs.Soundness.{Sound}
 use Rattle.model.proofs.Lookups.{found_some, found_fits}
 use Rattle.memory.specs.Lent.{sound_lent}
 use Rattle.memory.proofs.Tested.{lent_first, lent_second}
-use Rattle.search.specs.declared.found.Found.{Found}
 use Rattle.search.specs.Tables.{lookup_lent}
-use Rattle.search.specs.Found.{found_of, found_is, Inside}
+use Rattle.search.specs.Found.{Found, found_of, Inside}
+use Rattle.std.specs.Prelude.{Option, Some, None, Ok, Err}
+use Rattle.std.specs.Option.{ok_or}
 
 -- They ask for no more than the entry's number.
 
 held_as : {A : Type 0} → (Error → A) → (ℕ → A) → Found → A
-held_as refused call Found.Damaged = refused Error.Damaged
-held_as refused call Found.Absent = refused Error.Absent
-held_as refused call (Found.At n) = call n
+held_as refused call (Err e) = refused e
+held_as refused call (Ok None) = refused Error.Absent
+held_as refused call (Ok (Some n)) = call n
 
 module _ {A : Type 0} (refused : Error → A) (call : ℕ → A) where
   as_held : (l : Lookup) → held_as refused call (found_of l) ≡ held refused (λ t before n. call n) l
@@ -34,32 +35,36 @@ module _ {A : Type 0} (refused : Error → A) (call : ℕ → A) where
   as_held Lookup.Absent = refl
   as_held (Lookup.At t before n) = refl
 
-  module _ (l : Lookup) (r : Found) (e : r ≡ found_of l) where
-    by_entry : held_as refused call r ≡ held refused (λ t before n. call n) l
-    by_entry = rw e (as_held l)
+  module _ (l : Lookup) where
+    by_entry : (r : Found) → r ≡ found_of l → held_as refused call r ≡ held refused (λ t before n. call n) l
+    by_entry r e = rw e (as_held l)
 
-    pub held_damaged : r ≡ Found.Damaged → refused Error.Damaged ≡ held refused (λ t before n. call n) l
+    pub held_damaged : (x : Error) → Err x ≡ found_of l → refused x ≡ held refused (λ t before n. call n) l
     unfolding held_as
-    held_damaged d = rw d at by_entry
+    held_damaged x e = by_entry (Err x) e
 
-    pub held_absent : r ≡ Found.Absent → refused Error.Absent ≡ held refused (λ t before n. call n) l
+    pub held_absent : (found : Option ℕ) (x : Error) → Ok found ≡ found_of l → Err x ≡ ok_or found Error.Absent
+        → refused x ≡ held refused (λ t before n. call n) l
     unfolding held_as
-    held_absent d = rw d at by_entry
+    held_absent None x e a = let same : x ≡ Error.Absent = cc in rw same (by_entry (Ok None) e)
+    held_absent (Some n) x e a = let z : ◌≡◌ {A = ℕ} 0 1 = cc in absurd (omega arith)
 
-    pub held_at : (n : ℕ) → r ≡ Found.At n → call n ≡ held refused (λ t before n. call n) l
+    pub held_at : (found : Option ℕ) (n : ℕ) → Ok found ≡ found_of l → Ok n ≡ ok_or found Error.Absent
+        → call n ≡ held refused (λ t before n. call n) l
     unfolding held_as
-    held_at n d = rw d at by_entry
+    held_at None n e a = let z : ◌≡◌ {A = ℕ} 0 1 = cc in absurd (omega arith)
+    held_at (Some m) n e a = let same : n ≡ m = cc in rw same (by_entry (Ok (Some m)) e)
 
 -- The entry is one of the buffer's.
 
-at_lookup : (l : Lookup) (n : ℕ) → Found.At n ≡ found_of l → (t : Table) × (before : ℕ) × (l ≡ Lookup.At t before n)
+at_lookup : (l : Lookup) (n : ℕ) → Ok (Some n) ≡ found_of l → (t : Table) × (before : ℕ) × (l ≡ Lookup.At t before n)
 unfolding found_of
 at_lookup Lookup.Damaged n e = let z : ◌≡◌ {A = ℕ} 0 1 = cc in absurd (omega arith)
 at_lookup Lookup.Absent n e = let z : ◌≡◌ {A = ℕ} 0 1 = cc in absurd (omega arith)
 at_lookup (Lookup.At t before m) n e = (t, before, cc)
 
 module _ (s : State) (entries : List ℕ) (key : ℕ) where
-  in_buffer : (n : ℕ) (current other : List ℕ) → Found.At n ≡ found_of (lookup s current other entries key)
+  in_buffer : (n : ℕ) (current other : List ℕ) → Ok (Some n) ≡ found_of (lookup s current other entries key)
       → Sound s (length current) (length other) (length entries) → (0 < n) × (n * 3 ≤ length entries)
   in_buffer n current other e h =
       let (t, before, a) = at_lookup (lookup s current other entries key) n e in (
@@ -69,12 +74,12 @@ module _ (s : State) (entries : List ℕ) (key : ℕ) where
 
   module _ (first second : List ℕ) (r : Found) (l : r ≡ found_of (lookup_lent s first second entries key))
       (sound : sound_lent (length first) (length second) (length entries) s ≡ true) where
-    in_lent : (n : ℕ) → r ≡ Found.At n → (0 < n) × (n * 3 ≤ length entries)
+    in_lent : (n : ℕ) → r ≡ Ok (Some n) → (0 < n) × (n * 3 ≤ length entries)
     unfolding lookup_lent oriented
     in_lent n a = pick s.second_is_current refl (sym a ∙ l)
       where
         pick : (flag : Bool) → s.second_is_current ≡ flag
-            → Found.At n ≡ found_of (oriented flag (λ current other. lookup s current other entries key) first second)
+            → Ok (Some n) ≡ found_of (oriented flag (λ current other. lookup s current other entries key) first second)
             → (0 < n) × (n * 3 ≤ length entries)
         pick false f o = in_buffer n first second o (lent_first s (length first) (length second) (length entries) sound f)
         pick true f o = in_buffer n second first o (lent_second s (length first) (length second) (length entries) sound f)
@@ -82,14 +87,9 @@ module _ (s : State) (entries : List ℕ) (key : ℕ) where
     pub found_inside : Inside r (length entries)
     found_inside = record { some = λ n a. (in_lent n a).0; fits = λ n a. (in_lent n a).1 }
 
-module _ (entries n : ℕ) (r : Found) (i : Inside r entries) (a : r ≡ Found.At n) where
+module _ (entries n : ℕ) (r : Found) (i : Inside r entries) (a : r ≡ Ok (Some n)) where
   pub entry_some : 0 < n
   entry_some = i.some n a
 
   pub entry_fits : n * 3 ≤ entries
   entry_fits = i.fits n a
-
--- the answer of `found_is`, where an entry was found
-pub found_at : (found : Found) (m n : ℕ) → found ≡ Found.At m → eqb m n ≡ found_is found n
-unfolding found_is
-found_at found m n e = rw e

@@ -7,46 +7,18 @@ ghost use Rattle.model.specs.Memory.{chain, in_bucket};
 ghost use Rattle.model.specs.Calls.{searched, both};
 ghost use Rattle.memory.specs.Lent.{sound_lent};
 ghost use Rattle.search.specs.Tables.{searched_in, lookup_lent, Readable};
-ghost use Rattle.search.specs.Found.{found_of, found_is, first_of, as_found, both_found};
+ghost use Rattle.search.specs.Found.{found_of, found_is, both_found, Inside};
 
 use memory::entry::{key_of, link_of};
 use memory::state::bucket_index;
-use model::State;
-
-// A lookup's answer without the way to the entry.
-#[derive(Clone, Copy)]
-pub enum Found {
-    Damaged,
-    Absent,
-    At(u32),
-}
+use model::{Error, State};
 
 // Whether it is that entry.
-pub fn found_is(found: Found, n: u32) -> bool
+#[tactic(auto, unfolding(crate::specs::Found::found_is))]
+pub fn found_is(found: Result<Option<u32>, Error>, n: u32) -> bool
     ensures { result ≡ found_is found n }
 {
-    match found {
-        Found::Damaged => false,
-        Found::Absent => false,
-        Found::At(m) => m == n,
-    }
-}
-
-// An entry once it is found, and else the one that is met, if its key is the same. 0 is none.
-fn first_of(found: u32, same: bool, met: u32) -> u32
-    ensures { result ≡ first_of found same met }
-{
-    if (found == 0) & same { met } else { found }
-}
-
-fn as_found(found: u32) -> Found
-    ensures { result ≡ as_found found }
-{
-    if found == 0 {
-        Found::Absent
-    } else {
-        Found::At(found)
-    }
+    matches!(found, Ok(Some(m)) if m == n)
 }
 
 // The first entry with the key, on the chain of bucket b in a table of that size. One loop reads the whole chain: it must
@@ -59,28 +31,28 @@ fn search_entry(
     size: u32,
     b: usize,
     key: u32,
-) -> Found
+) -> Result<Option<u32>, Error>
     requires entries_fit { capacity * 3 ≤ length entries.now }
     requires legal { legal_size size ≡ true }
     ensures { (t : Table) → result ≡ found_of (searched entries.now key t 0
         (chain (in_bucket size b) entries.now capacity budget head)) }
 {
     let mut at = head;
-    let mut found = 0;
+    let mut found = None;
     let mut left = budget;
     while at != 0 {
         if (left == 0) | (capacity < at) {
-            return Found::Damaged;
+            return Err(Error::Damaged);
         }
         let met = key_of(entries, at);
         if bucket_index(met, size) != b {
-            return Found::Damaged;
+            return Err(Error::Damaged);
         }
         left -= 1;
-        found = first_of(found, met == key, at);
+        found = found.or((met == key).then_some(at));
         at = link_of(entries, at);
     }
-    as_found(found)
+    Ok(found)
 }
 
 // The key's entry in one table.
@@ -91,7 +63,7 @@ pub fn entry_in(
     buckets: &[u32],
     size: u32,
     key: u32,
-) -> Found
+) -> Result<Option<u32>, Error>
     requires { Readable size (length buckets.now) capacity (length entries.now) }
     ensures { (t : Table) → result ≡ found_of (searched_in entries.now capacity used buckets.now size key t) }
 {
@@ -101,18 +73,13 @@ pub fn entry_in(
 
 // Both chains must be sound, and the old table's entry comes first.
 #[tactic(auto, unfolding(crate::specs::Found::both_found))]
-fn both_found(old: Found, new: Found) -> Found
+fn both_found(
+    old: Result<Option<u32>, Error>,
+    new: Result<Option<u32>, Error>,
+) -> Result<Option<u32>, Error>
     ensures { result ≡ both_found old new }
 {
-    match old {
-        Found::Damaged => Found::Damaged,
-        Found::Absent => new,
-        Found::At(_) => match new {
-            Found::Damaged => Found::Damaged,
-            Found::Absent => old,
-            Found::At(_) => old,
-        },
-    }
+    Ok(old?.or(new?))
 }
 
 // The key's entry in both tables, during a rehash.
@@ -126,7 +93,7 @@ pub fn entry_in_both(
     old_size: u32,
     new_size: u32,
     key: u32,
-) -> Found
+) -> Result<Option<u32>, Error>
     requires old_readable { Readable old_size (length old.now) capacity (length entries.now) }
     requires new_readable { Readable new_size (length new.now) capacity (length entries.now) }
     ensures { result ≡ found_of (both
@@ -157,7 +124,7 @@ fn entry_lent(
     used: u32,
     size: u32,
     key: u32,
-) -> Found
+) -> Result<Option<u32>, Error>
     requires { Readable size (cond in_second (length second.now) (length first.now)) capacity (length entries.now) }
     ensures { (t : Table) → result ≡ found_of (searched_in entries.now capacity used
         (cond in_second second.now first.now) size key t) }
@@ -167,8 +134,8 @@ fn entry_lent(
     search_entry(entries, capacity, used, head, size, b, key)
 }
 
-// The key's entry with no rehash under way. It is small enough for the compiler to build it into find and into update.
-pub fn entry_resting(first: &[u32], second: &[u32], entries: &[u32], s: State, key: u32) -> Found
+// The key's entry with no rehash under way.
+fn entry_resting(first: &[u32], second: &[u32], entries: &[u32], s: State, key: u32) -> Result<Option<u32>, Error>
     requires sound { sound_lent (length first.now) (length second.now) (length entries.now) s ≡ true }
     requires resting { s.rehashing ≡ false }
     ensures { result ≡ found_of (lookup_lent s first.now second.now entries.now key) }
@@ -185,9 +152,9 @@ pub fn entry_resting(first: &[u32], second: &[u32], entries: &[u32], s: State, k
     )
 }
 
-// The key's entry during a rehash: the new table lies in the other buffer. Its two loops are too much to be built into two
-// calls, so that it stays a call of its own, off the quick path.
-pub fn entry_moving(first: &[u32], second: &[u32], entries: &[u32], s: State, key: u32) -> Found
+// The key's entry during a rehash: the new table lies in the other buffer. Its two loops stay off the quick path.
+#[inline(never)]
+fn entry_moving(first: &[u32], second: &[u32], entries: &[u32], s: State, key: u32) -> Result<Option<u32>, Error>
     requires sound { sound_lent (length first.now) (length second.now) (length entries.now) s ≡ true }
     requires rehashing { s.rehashing ≡ true }
     ensures { result ≡ found_of (lookup_lent s first.now second.now entries.now key) }
@@ -213,4 +180,24 @@ pub fn entry_moving(first: &[u32], second: &[u32], entries: &[u32], s: State, ke
         key,
     );
     both_found(in_old, in_new)
+}
+
+// The key's entry in the live tables: in the only one, or in both during a rehash.
+#[inline(always)]
+pub fn find_entry(
+    first: &[u32],
+    second: &[u32],
+    entries: &[u32],
+    s: State,
+    key: u32,
+) -> Result<Option<u32>, Error>
+    requires { sound_lent (length first.now) (length second.now) (length entries.now) s ≡ true }
+    ensures outcome { result ≡ found_of (lookup_lent s first.now second.now entries.now key) }
+    ensures inside { Inside result (length entries.now) }
+{
+    if s.rehashing {
+        entry_moving(first, second, entries, s, key)
+    } else {
+        entry_resting(first, second, entries, s, key)
+    }
 }

@@ -11,8 +11,7 @@ use Rattle.model.specs.declared.Lookup.{Lookup}
 use Rattle.model.specs.Memory.{key_of}
 use Rattle.model.specs.Calls.{both, lookup}
 use Rattle.model.specs.Verify.{finds, finds_itself, counted}
-use Rattle.search.specs.declared.found.Found.{Found}
-use Rattle.search.specs.Found.{found_of, found_is}
+use Rattle.search.specs.Found.{Found, found_of, found_is}
 use Rattle.search.specs.Tables.{searched_in}
 use Rattle.search.proofs.Lookups.{lookup_resting, lookup_rehashing}
 

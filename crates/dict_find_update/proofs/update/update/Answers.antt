@@ -1,22 +1,21 @@
--- `dict_find_update::update::update` meets its contract: a state that is not sound is refused.
+-- `dict_find_update::update::update` meets its contract: each way out is a case of the definition.
 use Rattle.model.specs.Calls.{update}
 use Rattle.memory.proofs.Orientation.{writing_bad_state}
-use Rattle.search.proofs.Held.{found_inside}
-use Rattle.dict_find_update.proofs.Updating.{update_sound}
+use Rattle.dict_find_update.proofs.Updating.{update_damaged, update_absent, update_held}
 use Rattle.dict_find_update.proofs.update.update.Goals as goal
-
-pub update_at-requires : goal.update_at-requires
-update_at-requires c = search (found_inside, c.in_ok-require_sound.ensures)
-
-pub update_at-requires-else-s : goal.update_at-requires-else-s
-update_at-requires-else-s c = search (found_inside, c.in_ok-require_sound.ensures)
-
-pub returns-then-s : goal.returns-then-s
-returns-then-s c = search (update_sound, c.in_ok-require_sound.ensures)
-
-pub returns-else-s : goal.returns-else-s
-returns-else-s c = search (update_sound, c.in_ok-require_sound.ensures)
 
 pub returns-in_err-require_sound : goal.returns-in_err-require_sound
 unfolding update
 returns-in_err-require_sound c = writing_bad_state _ _ _ _ _ _ c.from_residual.ensures.1 c.in_err-require_sound.ensures _
+
+pub returns-in_err-found : goal.returns-in_err-found
+returns-in_err-found c =
+    update_damaged _ _ _ _ _ _ c.in_ok-require_sound.ensures _ _ c.in_err-found.ensures.outcome c.from_residual-in_err-found.ensures.1
+
+pub returns-in_err-entry : goal.returns-in_err-entry
+returns-in_err-entry c =
+    update_absent _ _ _ _ _ _ c.in_ok-require_sound.ensures _ c.in_ok-found.ensures.outcome _ _ c.in_err-entry.ensures.value
+    c.from_residual-in_err-entry.ensures.1
+
+pub returns : goal.returns
+returns c = search (update_held, c.in_ok-require_sound.ensures, c.in_ok-found.ensures.outcome, c.in_ok-entry.ensures.value)

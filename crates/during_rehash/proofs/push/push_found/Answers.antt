@@ -1,16 +1,16 @@
 -- `during_rehash::push::push_found` meets its contract: what the search found decides.
 use borrow.Author.Rules.{rules}
 use Rattle.during_rehash.specs.Push.{push_found}
-use Rattle.during_rehash.proofs.Pushing.{found_by}
+use Rattle.during_rehash.proofs.Pushing.{found_by, found_in}
 use Rattle.during_rehash.proofs.push.push_found.Goals as goal
 
 pub push_free-requires : goal.push_free-requires
 unfolding push_found
 push_free-requires c = search rules
 
-pub returns-in-Damaged : goal.returns-in-Damaged
+pub returns-in-Err : goal.returns-in-Err
 unfolding push_found
-returns-in-Damaged c = search found_by
+returns-in-Err c = search found_by
 
 pub shape_of-buckets : goal.shape_of-buckets
 unfolding push_found
@@ -20,11 +20,11 @@ pub shape_of-entries : goal.shape_of-entries
 unfolding push_found
 shape_of-entries c = search rules
 
-pub returns-in-Absent : goal.returns-in-Absent
+pub returns-in-Ok-None : goal.returns-in-Ok-None
 unfolding push_found
-returns-in-Absent c = search found_by
+returns-in-Ok-None c = search found_in
 
 -- refused as present, and not as full
-pub returns-in-At : goal.returns-in-At
+pub returns-in-Ok-Some : goal.returns-in-Ok-Some
 unfolding push_found
-returns-in-At c = search found_by
+returns-in-Ok-Some c = search found_in

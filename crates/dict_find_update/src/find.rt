@@ -7,7 +7,13 @@ use memory::state::require_sound;
 use model::{Error, State};
 use search::found::find_entry;
 
-pub fn find(first: &[u32], second: &[u32], entries: &[u32], s: State, key: u32) -> Result<u32, Error>
+pub fn find(
+    first: &[u32],
+    second: &[u32],
+    entries: &[u32],
+    s: State,
+    key: u32,
+) -> Result<u32, Error>
     ensures { result ≡ calls.find s first.now second.now entries.now key }
 {
     require_sound(first.len(), second.len(), entries.len(), s)?;

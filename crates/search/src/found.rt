@@ -135,7 +135,13 @@ fn entry_lent(
 }
 
 // The key's entry with no rehash under way.
-fn entry_resting(first: &[u32], second: &[u32], entries: &[u32], s: State, key: u32) -> Result<Option<u32>, Error>
+fn entry_resting(
+    first: &[u32],
+    second: &[u32],
+    entries: &[u32],
+    s: State,
+    key: u32,
+) -> Result<Option<u32>, Error>
     requires sound { sound_lent (length first.now) (length second.now) (length entries.now) s ≡ true }
     requires resting { s.rehashing ≡ false }
     ensures { result ≡ found_of (lookup_lent s first.now second.now entries.now key) }
@@ -154,7 +160,13 @@ fn entry_resting(first: &[u32], second: &[u32], entries: &[u32], s: State, key: 
 
 // The key's entry during a rehash: the new table lies in the other buffer. Its two loops stay off the quick path.
 #[inline(never)]
-fn entry_moving(first: &[u32], second: &[u32], entries: &[u32], s: State, key: u32) -> Result<Option<u32>, Error>
+fn entry_moving(
+    first: &[u32],
+    second: &[u32],
+    entries: &[u32],
+    s: State,
+    key: u32,
+) -> Result<Option<u32>, Error>
     requires sound { sound_lent (length first.now) (length second.now) (length entries.now) s ≡ true }
     requires rehashing { s.rehashing ≡ true }
     ensures { result ≡ found_of (lookup_lent s first.now second.now entries.now key) }

@@ -1,5 +1,6 @@
 -- `during_rehash::push::push_found` meets its contract: what the search found decides.
 use borrow.Author.Rules.{rules}
+use mathlib.Core.Path.{refl}
 use Rattle.during_rehash.specs.Push.{push_found}
 use Rattle.during_rehash.proofs.Pushing.{found_by, found_in}
 use Rattle.during_rehash.proofs.push.push_found.Goals as goal
@@ -22,9 +23,9 @@ shape_of-entries c = search rules
 
 pub returns-in-Ok-None : goal.returns-in-Ok-None
 unfolding push_found
-returns-in-Ok-None c = search found_in
+returns-in-Ok-None c = found_in _ _ _ _ _ _ _ c.in-Ok-None.is (rw c.in-Ok-None.is at c.in-Ok-None.field-0-is) c.push_free.ensures
 
 -- refused as present, and not as full
 pub returns-in-Ok-Some : goal.returns-in-Ok-Some
 unfolding push_found
-returns-in-Ok-Some c = search found_in
+returns-in-Ok-Some c = found_in _ _ _ _ _ _ _ c.in-Ok-Some.is (rw c.in-Ok-Some.is at c.in-Ok-Some.field-0-is) refl

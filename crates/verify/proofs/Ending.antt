@@ -1,56 +1,72 @@
 -- The free list to its end, one entry a turn.
 -- Assumes nothing.
-use Prim.Native.Nat.{ℕ, zero, suc, ◌-◌, ◌<◌}
-use mathlib.Core.Path.{◌≡◌, refl, sym, ap, ◌∙◌}
-use mathlib.Core.Bool.{true, false, ◌||◌}
-use mathlib.Core.List.{List, ◌∷◌}
-use mathlib.Core.Option.{Option, none, some, map}
+use Rattle.std.proofs.Common.{◌≡◌, ℕ, zero, suc, ◌+◌, ◌-◌, ◌<◌, ◌≤◌, false, ◌||◌, eqb, ltb, List, [], ◌∷◌, refl, sym, ap, ◌∙◌, arith, Ok, Err, Some, None}
+use Rattle.std.proofs.lemmas.Bool.{lt-ltb, le-ltb, ne_eqb}
+use Rattle.std.specs.Prelude as Prelude
 use native.Mathlib.Numerals.{sub-one}
-use native.Mathlib.Omega.{arith}
-use lib.Dec.{eqb, ltb, eqb-suc-suc}
-use borrow.Author.Tests.{ne_eqb}
+use lib.Dec.{eqb-suc-suc, eqb-suc-zero}
+use mathlib.Core.Logic.{inl, inr, ◌⊎◌}
+use mathlib.Core.Option.{Option, none, some, map}
+use Rattle.model.specs.declared.Error.{Error}
 use Rattle.model.specs.Memory.{link_of, chain, any_key, last_or}
 use Rattle.model.proofs.Chains.{chain_end, chain_bad, chain_good}
-use Rattle.verify.specs.declared.free.FreeEnd.{FreeEnd}
-use Rattle.verify.specs.Checked.{end_from}
+use Rattle.verify.specs.Checked.{last_of, end_from}
 
 -- the end from here is the end from the head
-pub record Ending (entries : List ℕ) (capacity count head at left last : ℕ) : Type 0 where
-  pub same : end_from last left (chain any_key entries capacity left at) ≡ end_from 0 count (chain any_key entries capacity count head)
+pub record Ending (entries : List ℕ) (capacity count head at i : ℕ) (last : Prelude.Option ℕ) : Type 0 where
+  pub same : end_from last (count - i) (chain any_key entries capacity (count - i) at) ≡ end_from None count (chain any_key entries capacity count head)
 
-one_more : (last left at : ℕ) (o : Option (List ℕ)) → 0 < left
-    → end_from at (left - 1) o ≡ end_from last left (map (λ ns. at ∷ ns) o)
-unfolding end_from last_or
+one_more : (last : Prelude.Option ℕ) (left at : ℕ) (o : Option (List ℕ)) → 0 < left
+    → end_from (Some at) (left - 1) o ≡ end_from last left (map (λ ns. at ∷ ns) o)
+unfolding end_from last_of last_or
 one_more last zero at o l = absurd (omega arith)
 one_more last (suc left) at none l = refl
-one_more last (suc left) at (some ns) l = rw (sub-one, eqb-suc-suc)
+one_more last (suc left) at (some []) l = rw (sub-one, eqb-suc-suc)
+one_more last (suc left) at (some (n ∷ ns)) l = rw (sub-one, eqb-suc-suc)
 
 module _ (entries : List ℕ) (capacity count head : ℕ) where
-  pub ending_start : Ending entries capacity count head head count 0
-  ending_start = record { same = refl }
+  pub ending_start : Ending entries capacity count head head 0 None
+  ending_start = record { same = ap (λ (k : ℕ). end_from None k (chain any_key entries capacity k head)) (omega arith) }
 
-  module _ (at left last : ℕ) (h : Ending entries capacity count head at left last) where
-    pub ending_out : (at ≡ 0 → ⊥) → (eqb left 0 || ltb capacity at) ≡ true
-        → FreeEnd.Unsound ≡ end_from 0 count (chain any_key entries capacity count head)
+  module _ (at i : ℕ) (last : Prelude.Option ℕ) (h : Ending entries capacity count head at i last) where
+    -- the list ends early, or a number is out of range
+    pub ending_out : (at ≡ 0) ⊎ ((at ≡ 0 → ⊥) × (capacity < at)) → i < count
+        → Err Error.Damaged ≡ end_from None count (chain any_key entries capacity count head)
     unfolding end_from
-    ending_out f t = rw (chain_bad any_key entries capacity left at f t) at h.same
+    ending_out t l = by (count - i) (omega arith) t ∙ h.same
+      where
+        by : (k : ℕ) → 0 < k → (at ≡ 0) ⊎ ((at ≡ 0 → ⊥) × (capacity < at)) → Err Error.Damaged ≡ end_from last k (chain any_key entries capacity k at)
+        by zero p t = absurd (omega arith)
+        by (suc k) p (inl z) = rw (chain_end any_key entries capacity (suc k) at z, ne_eqb 0 (suc k) (λ e. omega arith))
+        by (suc k) p (inr (f, m)) =
+            rw (chain_bad any_key entries capacity (suc k) at f (rw (eqb-suc-zero k) (lt-ltb capacity at m)))
 
-    pub ending_next : (next : ℕ) → (at ≡ 0 → ⊥) → (eqb left 0 || ltb capacity at) ≡ false → 0 < left → next ≡ link_of entries at
-        → Ending entries capacity count head next (left - 1) at
+    pub ending_next : (next : ℕ) → (at ≡ 0 → ⊥) → at ≤ capacity → i < count → next ≡ link_of entries at
+        → Ending entries capacity count head next (i + 1) (Some at)
     unfolding any_key
-    ending_next next f t l e =
-        record {
-          same =
-              rw e
-              (one_more last left at (chain any_key entries capacity (left - 1) (link_of entries at)) l
-              ∙ ap (end_from last left) (sym (chain_good any_key entries capacity left at f t refl))
-              ∙ h.same);
-        }
+    ending_next next f m l e = record { same = rw (e, fewer) (one ∙ h.same) }
+      where
+        fewer : count - (i + 1) ≡ count - i - 1
+        fewer = omega arith
 
-    pub ending_full : at ≡ 0 → left ≡ 0 → FreeEnd.Last last ≡ end_from 0 count (chain any_key entries capacity count head)
-    unfolding end_from last_or
-    ending_full e z = (rw (chain_end any_key entries capacity left at e, z) at h.same)
+        in_reach : (k : ℕ) → 0 < k → (eqb k 0 || ltb capacity at) ≡ false
+        in_reach zero p = absurd (omega arith)
+        in_reach (suc k) p = rw (eqb-suc-zero k) (le-ltb capacity at m)
 
-    pub ending_few : at ≡ 0 → (left ≡ 0 → ⊥) → FreeEnd.Unsound ≡ end_from 0 count (chain any_key entries capacity count head)
-    unfolding end_from last_or
-    ending_few e z = (rw (chain_end any_key entries capacity left at e, ne_eqb 0 left (λ g. z (sym g))) at h.same)
+        one : end_from (Some at) (count - i - 1) (chain any_key entries capacity (count - i - 1) (link_of entries at))
+            ≡ end_from last (count - i) (chain any_key entries capacity (count - i) at)
+        one =
+            one_more last (count - i) at (chain any_key entries capacity (count - i - 1) (link_of entries at)) (omega arith)
+            ∙ ap (end_from last (count - i)) (sym (chain_good any_key entries capacity (count - i) at f (in_reach (count - i) (omega arith)) refl))
+
+    none_left : count ≤ i → count - i ≡ 0
+    none_left l = omega arith
+
+    pub ending_full : count ≤ i → at ≡ 0 → Ok last ≡ end_from None count (chain any_key entries capacity count head)
+    unfolding end_from last_of
+    ending_full l e = rw (none_left l, chain_end any_key entries capacity 0 at e) at h.same
+
+    pub ending_long : count ≤ i → (at ≡ 0 → ⊥)
+        → Err Error.Damaged ≡ end_from None count (chain any_key entries capacity count head)
+    unfolding end_from
+    ending_long l f = rw (none_left l, chain_bad any_key entries capacity 0 at f refl) at h.same

@@ -1,10 +1,11 @@
 -- Which entries find themselves, one a turn.
 -- Assumes nothing.
-use Prim.Native.Nat.{ℕ, suc, ◌+◌, ◌≤◌, ◌<◌}
-use mathlib.Core.Path.{◌≡◌, refl, ap, subst, ◌∙◌}
+use Prim.Native.Nat.{ℕ, zero, suc, ◌+◌, ◌-◌, ◌≤◌, ◌<◌}
+use mathlib.Core.Path.{◌≡◌, refl, ap, ◌∙◌}
 use mathlib.Core.Bool.{Bool, true, false, cond}
 use mathlib.Core.List.{List}
 use native.Mathlib.Omega.{arith}
+use mir.Val.{bool_byte}
 use Rattle.model.specs.declared.State.{State}
 use Rattle.model.specs.declared.Table.{Table}
 use Rattle.model.specs.declared.Lookup.{Lookup}
@@ -20,6 +21,10 @@ unfolding found_is found_of finds
 finds_found Lookup.Damaged n = refl
 finds_found Lookup.Absent n = refl
 finds_found (Lookup.At t before m) n = refl
+
+byte : (t : Bool) → bool_byte t ≡ cond t 1 0
+byte true = refl
+byte false = refl
 
 one : (t : Bool) → cond t 1 0 ≤ 1
 one true = omega arith
@@ -46,25 +51,31 @@ module _ (s : State) (current other entries : List ℕ) where
         → r ≡ finds_itself s current other entries n
     itself_rehashing f g = of_lookup (g ∙ ap found_of (lookup_rehashing s current other entries key f))
 
-  -- the count so far
+  -- the count before entry n
   pub record Counting (n count : ℕ) : Type 0 where
-    pub same : count ≡ counted (finds_itself s current other entries) n
-    pub few : count ≤ n
-    pub within : n ≤ s.capacity
+    pub same : count ≡ counted (finds_itself s current other entries) (n - 1)
+    pub few : count < n
 
-  pub counting_start : Counting 0 0
+  pub counting_start : Counting 1 0
   unfolding counted
-  counting_start = record { same = refl; few = omega arith; within = omega arith }
+  counting_start = record { same = refl; few = omega arith }
 
-  pub counting_next : (n count m : ℕ) (t : Bool) → Counting n count → n < s.capacity
-      → t ≡ finds_itself s current other entries (n + 1) → m ≡ cond t 1 0 → Counting (n + 1) (count + m)
+  -- one more entry
+  counted_one : (n count m : ℕ) (t : Bool) → Counting n count → t ≡ finds_itself s current other entries n → m ≡ bool_byte t
+      → (count + m ≡ counted (finds_itself s current other entries) n) × (count + m ≤ n)
   unfolding counted
-  counting_next n count m t h l te me =
-      let next : n + 1 ≡ suc n = omega arith in
-      let this : t ≡ finds_itself s current other entries (suc n) = rw next at te in
-      rw next
-      (record { same = rw (← this, ← me, ← h.same); few = omega (arith, h.few, one t); within = omega arith })
+  counted_one zero count m t h te me = absurd (let k = h.few in omega arith)
+  counted_one (suc n) count m t h te me =
+      let before : suc n - 1 ≡ n = omega arith in
+      (rw (← te, me, byte t) (ap (λ (k : ℕ). k + cond t 1 0) (rw before at h.same)), omega (arith, h.few, one t, me, byte t))
 
-  pub counting_end : (n count : ℕ) → Counting n count → s.capacity ≤ n
-      → count ≡ counted (finds_itself s current other entries) s.capacity
-  counting_end n count h l = let e : n ≡ s.capacity = omega (arith, h.within) in subst (λ (k : ℕ). count ≡ counted (finds_itself s current other entries) k) e h.same
+  pub counting_next : (n count m : ℕ) (t : Bool) → Counting n count → t ≡ finds_itself s current other entries n → m ≡ bool_byte t
+      → Counting (n + 1) (count + m)
+  counting_next n count m t h te me =
+      let (same, few) = counted_one n count m t h te me in
+      let this : n + 1 - 1 ≡ n = omega arith in
+      record { same = rw this same; few = omega arith }
+
+  pub counting_end : (n count m : ℕ) (t : Bool) → Counting n count → t ≡ finds_itself s current other entries n → m ≡ bool_byte t
+      → n ≡ s.capacity → count + m ≡ counted (finds_itself s current other entries) s.capacity
+  counting_end n count m t h te me e = rw e at (counted_one n count m t h te me).0

@@ -3,20 +3,23 @@
 use Prim.Native.Nat.{ℕ, zero, suc, ◌+◌, ◌-◌, ◌≤◌, ◌<◌}
 use mathlib.Core.Path.{◌≡◌, refl, sym, ap, subst, ◌∙◌}
 use mathlib.Core.Bool.{Bool, true, false, ◌&&◌}
-use mathlib.Core.List.{List}
+use mathlib.Core.List.{List, [], ◌∷◌}
 use mathlib.Core.Option.{Option, none, some}
 use native.Mathlib.Decide.{dec_lt}
 use native.Mathlib.Omega.{arith}
-use lib.ListN.{length, get_or}
+use lib.ListN.{length, get_or, take}
+use lib.Seq.{take-suc}
 use lib.Dec.{eqb, eqb-suc-zero}
+use Rattle.std.specs.List.{list_all}
+use Rattle.std.proofs.lemmas.List.{get_or-take, length-take}
+use Rattle.std.proofs.lemmas.List.Folds.{list_all-append}
 use borrow.Author.Tests.{eqb-true, eq-eqb, ne_eqb}
-use Rattle.model.specs.Limits.{legal_size}
 use Rattle.model.specs.Memory.{chain, in_bucket, listed, sum}
 use Rattle.model.proofs.Linked.{read_sound, read_complete, chain_wider}
 use Rattle.memory.specs.Length.{bucket_chain, length_of}
 use Rattle.memory.proofs.Counted.{counted, uncounted}
 use Rattle.model.specs.Verify.{is_sound, all_sound, all_empty}
-use Rattle.verify.specs.Checked.{Tabled, table_checked}
+use Rattle.verify.specs.Checked.{table_checked}
 use Rattle.model.proofs.Sums.{sum_first}
 use Rattle.std.specs.Prelude.{Result, Ok, Err}
 use Rattle.model.specs.declared.Error.{Error}
@@ -61,11 +64,16 @@ module _ (entries : List ℕ) (capacity used : ℕ) (buckets : List ℕ) (size :
   tabling_start = record { all = refl; rest = omega arith; within = omega arith }
 
   module _ (left b : ℕ) (h : Tabling entries capacity used buckets size left b) where
+    -- the head, read in the front of the buffer that the table has
+    head_in : b < length (take size buckets) → (b < size) × (get_or (take size buckets) b 0 ≡ get_or buckets b 0)
+    head_in l =
+        let k : b < size = omega (arith, length-take size buckets) in (k, get_or-take size buckets b 0 k)
+
     -- a chain that has more entries than are left, or is not sound
-    pub tabling_out : (r : Result ℕ Error) (x : Error) → b < size → r ≡ length_of (chain (in_bucket size b) entries capacity left (get_or buckets b 0))
+    out : (r : Result ℕ Error) (x : Error) → b < size → r ≡ length_of (chain (in_bucket size b) entries capacity left (get_or buckets b 0))
         → r ≡ Err x → false ≡ table_checked entries capacity used buckets size
     unfolding table_checked sum
-    tabling_out r x l e u =
+    out r x l e u =
         not_true_false _
         (λ t.
         let (all, same) = both_true _ _ t in
@@ -86,18 +94,23 @@ module _ (entries : List ℕ) (capacity used : ℕ) (buckets : List ℕ) (size :
         fits : eqb used (sum f size) ≡ true → f b ≤ left
         fits same = omega (arith, eqb-true used (sum f size) same, sum_first f (suc b) size (omega arith), h.rest)
 
-    pub tabling_fits : (r : Result ℕ Error) (n : ℕ) → r ≡ length_of (chain (in_bucket size b) entries capacity left (get_or buckets b 0))
+    pub tabling_out : (r : Result ℕ Error) (x : Error) → b < length (take size buckets)
+        → r ≡ length_of (chain (in_bucket size b) entries capacity left (get_or (take size buckets) b 0))
+        → r ≡ Err x → false ≡ table_checked entries capacity used buckets size
+    tabling_out r x l e u = let (k, i) = head_in l in out r x k (rw i at e) u
+
+    pub tabling_fits : (r : Result ℕ Error) (n head : ℕ) → r ≡ length_of (chain (in_bucket size b) entries capacity left head)
         → r ≡ Ok n → n ≤ left
-    tabling_fits r n e u =
+    tabling_fits r n head e u =
         let (read, long) = counted r n _ u e in
-        let (linked, short, passing) = read_sound (in_bucket size b) entries capacity left (get_or buckets b 0) _ read in
+        let (linked, short, passing) = read_sound (in_bucket size b) entries capacity left head _ read in
         omega arith
 
-    pub tabling_next : (r : Result ℕ Error) (n : ℕ) → b < size
+    next : (r : Result ℕ Error) (n : ℕ) → b < size
         → r ≡ length_of (chain (in_bucket size b) entries capacity left (get_or buckets b 0)) → r ≡ Ok n
         → Tabling entries capacity used buckets size (left - n) (b + 1)
     unfolding all_sound is_sound sum listed
-    tabling_next r n l e u = turn (counted r n _ u e) (tabling_fits r n e u)
+    next r n l e u = turn (counted r n _ u e) (tabling_fits r n (get_or buckets b 0) e u)
       where
         turn : (chain (in_bucket size b) entries capacity left (get_or buckets b 0)
             ≡ some (listed (chain (in_bucket size b) entries capacity left (get_or buckets b 0))))
@@ -116,10 +129,15 @@ module _ (entries : List ℕ) (capacity used : ℕ) (buckets : List ℕ) (size :
               within = omega arith;
             })
 
-    pub tabling_end : size ≤ b → eqb left 0 ≡ table_checked entries capacity used buckets size
+    pub tabling_next : (r : Result ℕ Error) (n : ℕ) → b < length (take size buckets)
+        → r ≡ length_of (chain (in_bucket size b) entries capacity left (get_or (take size buckets) b 0)) → r ≡ Ok n
+        → Tabling entries capacity used buckets size (left - n) (b + 1)
+    tabling_next r n l e u = let (k, i) = head_in l in next r n k (rw i at e) u
+
+    pub tabling_end : size ≤ length buckets → length (take size buckets) ≤ b → eqb left 0 ≡ table_checked entries capacity used buckets size
     unfolding table_checked
-    tabling_end l =
-        let e : b ≡ size = omega (arith, h.within) in
+    tabling_end fits l =
+        let e : b ≡ size = omega (arith, h.within, length-take size buckets) in
         let all = subst (λ (k : ℕ). all_sound (bucket_chain size entries capacity used buckets) k ≡ true) e h.all in
         let rest =
         subst (λ (k : ℕ). left + sum (λ i. length (listed (bucket_chain size entries capacity used buckets i))) k ≡ used) e h.rest in
@@ -127,41 +145,16 @@ module _ (entries : List ℕ) (capacity used : ℕ) (buckets : List ℕ) (size :
 
 -- empty buckets
 
-pub record Emptying (buckets : List ℕ) (count b : ℕ) : Type 0 where
-  pub all : all_empty buckets b ≡ true
-  pub within : b ≤ count
-
-one_filled : (buckets : List ℕ) (b : ℕ) → (get_or buckets b 0 ≡ 0 → ⊥) → (n : ℕ) → b < n → false ≡ all_empty buckets n
+-- by the library's word, over the front of that length
+pub all_empty_front : (buckets : List ℕ) (count : ℕ) → count ≤ length buckets
+    → list_all (λ (head : ℕ). eqb head 0) (take count buckets) ≡ all_empty buckets count
 unfolding all_empty
-one_filled buckets b f zero l = absurd (omega arith)
-one_filled buckets b f (suc n) l =
-    elim (dec_lt b n) [
-      | yes k ↦ rw (← one_filled buckets b f n k)
-      | no k ↦ let e : b ≡ n = omega arith in rw (ne_eqb (get_or buckets n 0) 0 (λ g. f (rw e g))) (last (all_empty buckets n))
-    ]
+all_empty_front buckets zero l = refl
+all_empty_front buckets (suc count) l =
+    ap (list_all (λ (head : ℕ). eqb head 0)) (take-suc buckets count 0 l)
+    ∙ list_all-append (λ (head : ℕ). eqb head 0) (take count buckets) (get_or buckets count 0 ∷ [])
+    ∙ rw (all_empty_front buckets count (omega arith)) (one (all_empty buckets count) (eqb (get_or buckets count 0) 0))
   where
-    last : (t : Bool) → false ≡ (t && false)
-    last true = refl
-    last false = refl
-
-module _ (buckets : List ℕ) (count : ℕ) where
-  pub emptying_start : Emptying buckets count 0
-  unfolding all_empty
-  emptying_start = record { all = refl; within = omega arith }
-
-  module _ (b : ℕ) (h : Emptying buckets count b) where
-    pub emptying_out : b < count → (get_or buckets b 0 ≡ 0 → ⊥) → false ≡ all_empty buckets count
-    emptying_out l f = one_filled buckets b f count l
-
-    pub emptying_next : b < count → get_or buckets b 0 ≡ 0 → Emptying buckets count (b + 1)
-    unfolding all_empty
-    emptying_next l e =
-        let next : b + 1 ≡ suc b = omega arith in
-        rw next (record { all = rw (h.all, e); within = omega arith })
-
-    pub emptying_end : count ≤ b → true ≡ all_empty buckets count
-    emptying_end l = let e : b ≡ count = omega (arith, h.within) in rw (← e) (sym h.all)
-
--- a table with a bucket has a legal size
-pub table_legal : (size buckets capacity entries b : ℕ) → Tabled size buckets capacity entries → b < size → legal_size size ≡ true
-table_legal size buckets capacity entries b h l = h.size_legal b l
+    one : (s t : Bool) → (s && (t && true)) ≡ (s && t)
+    one s true = refl
+    one s false = refl

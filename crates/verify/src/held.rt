@@ -1,17 +1,19 @@
 // Which entries are held: those that find themselves when their own key is looked up.
-ghost use Rattle.std.specs.Prelude.{◌≡◌, cond, ◌-◌, ◌≤◌, ◌<◌, length};
+ghost use Rattle.std.specs.Prelude.{◌≡◌, ◌-◌, ◌≤◌, ◌<◌, length};
 ghost use Rattle.model.specs.Memory.{Place, chain_at, keys_held};
 ghost use Rattle.model.proofs.Soundness.{Sound};
 ghost use Rattle.model.specs.Verify.{finds_itself, counted, free_verified};
+ghost use Rattle.verify.specs.Checked.{Searchable};
 
-use crate::free::{FreeEnd, free_end};
+use crate::free::free_end;
 use memory::entry::key_of;
 use model::State;
 use search::found::{entry_in, entry_in_both, found_is};
 
-// By the entry's number alone, as find has it: the way to an entry would go through memory.
-fn finds_itself(current: &[u32], other: &[u32], entries: &[u32], s: State, n: u32) -> bool
-    requires sound { Sound s (length current.now) (length other.now) (length entries.now) }
+// Whether an entry is the first one with its key. It is told by its number alone, as find has it: the way to an entry would go
+// through memory. The state's counts are no more than the budgets of the searches: the repair has the capacity in their place.
+pub fn finds_itself(current: &[u32], other: &[u32], entries: &[u32], s: State, n: u32) -> bool
+    requires searchable { Searchable s (length current.now) (length other.now) (length entries.now) }
     requires is_entry { (0 < n) × (n ≤ s.capacity) }
     ensures { result ≡ finds_itself s current.now other.now entries.now n }
 {
@@ -28,23 +30,14 @@ fn finds_itself(current: &[u32], other: &[u32], entries: &[u32], s: State, n: u3
     }
 }
 
-fn one_if(flag: bool) -> u32
-    ensures { (result ≡ cond flag 1 0) × (result ≤ 1) }
-{
-    if flag { 1 } else { 0 }
-}
-
 // How many entries are held.
 pub fn count_held(current: &[u32], other: &[u32], entries: &[u32], s: State) -> u32
     requires { Sound s (length current.now) (length other.now) (length entries.now) }
     ensures { result ≡ counted (finds_itself s current.now other.now entries.now) s.capacity }
 {
-    let capacity = s.capacity;
-    let mut n = 0;
     let mut count = 0;
-    while n < capacity {
-        n += 1;
-        count += one_if(finds_itself(current, other, entries, s, n));
+    for n in 1..=s.capacity {
+        count += u32::from(finds_itself(current, other, entries, s, n));
     }
     count
 }
@@ -57,15 +50,9 @@ pub fn free_verified(current: &[u32], other: &[u32], entries: &[u32], s: State) 
         (s.capacity - keys_held s) (chain_at s current.now other.now entries.now Place.free) }
 {
     let free = s.capacity - (s.old_used + s.new_used);
-    let end = free_end(entries, s.capacity, free, s.free_head);
-    match end {
-        FreeEnd::Unsound => false,
-        FreeEnd::Last(last) => {
-            if last == 0 {
-                true
-            } else {
-                !finds_itself(current, other, entries, s, last)
-            }
-        }
+    match free_end(entries, s.capacity, free, s.free_head) {
+        Ok(Some(last)) => !finds_itself(current, other, entries, s, last),
+        Ok(None) => true,
+        Err(_) => false,
     }
 }

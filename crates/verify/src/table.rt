@@ -11,16 +11,12 @@ pub fn table_checked(buckets: &[u32], entries: &[u32], capacity: u32, used: u32,
     requires { Tabled size (length buckets.now) capacity (length entries.now) }
     ensures { result ≡ table_checked entries.now capacity used buckets.now size }
 {
-    let end = size as usize;
     let mut left = used;
-    let mut b = 0;
-    while b < end {
-        let length = chain_length(entries, capacity, left, buckets[b], size, b);
-        match length {
-            Err(_) => return false,
-            Ok(n) => left -= n,
-        }
-        b += 1;
+    for (b, head) in buckets[..size as usize].iter().enumerate() {
+        let Ok(n) = chain_length(entries, capacity, left, *head, size, b) else {
+            return false;
+        };
+        left -= n;
     }
     left == 0
 }
@@ -30,13 +26,5 @@ pub fn all_empty(buckets: &[u32], count: u32) -> bool
     requires { count ≤ length buckets.now }
     ensures { result ≡ all_empty buckets.now count }
 {
-    let end = count as usize;
-    let mut b = 0;
-    while b < end {
-        if buckets[b] != 0 {
-            return false;
-        }
-        b += 1;
-    }
-    true
+    buckets[..count as usize].iter().all(|head| *head == 0)
 }

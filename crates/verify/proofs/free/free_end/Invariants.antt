@@ -2,8 +2,5 @@
 use Rattle.verify.proofs.Ending.{Ending}
 use Rattle.verify.proofs.free.free_end.Given as goal
 
-abbrev pub invariant-loop-at : goal.invariant-loop-at
-invariant-loop-at l = Ending l.entries l.capacity l.count l.head l.at l.left l.last
-
-abbrev pub decreases-loop-at : goal.decreases-loop-at
-decreases-loop-at l = l.left
+abbrev pub invariant-loop : goal.invariant-loop
+invariant-loop l = Ending l.entries l.capacity l.count l.head l.at l.counter l.last

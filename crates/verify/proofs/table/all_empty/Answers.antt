@@ -1,15 +1,12 @@
--- The goals of `all_empty` that the search leaves.
-use Rattle.verify.proofs.Tabling.{emptying_start, emptying_out, emptying_next, emptying_end}
+-- `verify::table::all_empty` meets its contract: what the library says of `all` is the definition.
+use Rattle.std.proofs.Common.{ℕ, eqb, take, ◌∙◌, rules}
+use Rattle.std.proofs.lemmas.Iterator.{YieldsList-from_slice}
+use Rattle.std.proofs.lemmas.Iterator.Search.{all_from_yields_List}
+use Rattle.verify.proofs.Tabling.{all_empty_front}
 use Rattle.verify.proofs.table.all_empty.Goals as goal
 
-pub loop-b-init : goal.loop-b-init
-loop-b-init c = search emptying_start
-
-pub returns-then-buckets-b-ne0 : goal.returns-then-buckets-b-ne0
-returns-then-buckets-b-ne0 c = search emptying_out
-
-pub loop-b-preserved : goal.loop-b-preserved
-loop-b-preserved c = search emptying_next
-
 pub returns : goal.returns
-returns c = search emptying_end
+returns c =
+    all_from_yields_List (λ (head : ℕ). eqb head 0) _ _ _ c.all.ensures.ran
+    (YieldsList-from_slice (take c.args.count c.args.buckets.now) cc) (λ x b q k. search rules)
+    ∙ all_empty_front c.args.buckets.now c.args.count c.requires

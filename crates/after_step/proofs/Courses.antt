@@ -24,68 +24,85 @@ use Rattle.memory.specs.Lent.{sound_lent}
 use Rattle.memory.proofs.Orientation.{read_first, read_second, written_first, written_second, writing_sound}
 use Rattle.search.specs.Found.{Found, found_of}
 use Rattle.search.specs.Tables.{searched_in}
-use Rattle.dict_rehash.specs.declared.rehash.Progress.{Progress}
-use Rattle.dict_rehash.specs.Progress.{step_answer, old_chain, chains, ChainOf}
+use Rattle.dict_rehash.specs.Progress.{step_answer, did, old_chain, chains, ChainOf}
 use Rattle.dict_rehash.proofs.Due.{due_stepped}
 use Rattle.dict_rehash.proofs.Stepping.{old_linked, chain_of_lem, next_end, next_empty, step_finished, step_moved}
-use Rattle.after_step.specs.declared.presence.Presence.{Presence}
 use Rattle.after_step.specs.declared.presence.Survey.{Survey}
 use Rattle.after_step.specs.declared.course.ChainSight.{ChainSight}
 use Rattle.after_step.specs.Presence.{presence_after, presence_then, entries_after}
 use Rattle.after_step.specs.Told.{among, surveyed, found_presence, tables_then, Moves}
 use Rattle.after_step.specs.Links.{LinkMoved}
-use Rattle.after_step.specs.Course.{Course, Foresight, sight, chain_sight, GoesChain, Goes, Foreseen}
+use Rattle.after_step.specs.Course.{Course, Foresight, sight, GoesChain, Goes, Foreseen, ForeseenChain}
 use Rattle.after_step.proofs.Surveying.{surveyed_none, surveyed_some}
-use Rattle.after_step.proofs.Deciding.{moving_unsound, moving_sound, ahead_end, ahead_empty, step_ended}
-use Rattle.std.specs.Prelude.{Result, Err}
+use Rattle.after_step.proofs.Deciding.{exit_is, moving_unsound, moving_sound, ahead_end, ahead_empty, step_ended}
+use Rattle.std.specs.Prelude.{Result, Ok, Err}
+use Rattle.std.specs.Result.{IsErrAnd}
 
 -- ---- the chain of bucket b of the old table
 
-module _ (s : State) (current other entries : List ℕ) (b key c n : ℕ) (r : Survey)
-    (e : r ≡ surveyed entries s.new_size c key n (old_chain s current entries b)) where
-  abbrev step : After (Result (ℕ × State) Error)
-  step = moved_chain s current other entries b (old_chain s current entries b)
+module _ (s : State) (current other entries : List ℕ) (b key c n : ℕ) where
+  pub foreseen_unsound : (r : Result ChainSight Error) (x : Error) → IsErrAnd r (λ e. e ≡ x)
+      → Err x ≡ surveyed entries s.new_size c key n (old_chain s current entries b)
+      → ForeseenChain s current other entries key n (moved_chain s current other entries b (old_chain s current entries b)) b r
+  unfolding ForeseenChain Goes moved_chain step_answer
+  foreseen_unsound r x h e =
+      let (no_chain, damaged) = surveyed_none entries s.new_size c key n x (old_chain s current entries b) e in
+      rw (exit_is r x h) (
+        Course.Refused,
+        record { told = moving_unsound s current other entries b key c n x e; goes = rw no_chain },
+      )
 
-  pub foreseen_unsound : r ≡ Survey.Unsound → Foreseen s current other entries key n
-      (moved_chain s current other entries b (old_chain s current entries b)) (chain_sight b ChainSight.Unsound)
-  unfolding chain_sight Goes moved_chain step_answer
-  foreseen_unsound u =
-      record {
-        told = moving_unsound s current other entries b key c n r e u;
-        goes = rw (surveyed_none r entries s.new_size c key n (old_chain s current entries b) e u);
-      }
+  module _ (v : Survey) (e : Ok v ≡ surveyed entries s.new_size c key n (old_chain s current entries b)) (ce : c ≡ bucket_of key s.new_size)
+      (moves : Moves s current other entries b) where
+    abbrev then : Result Bool Error
+    then = tables_then s current other entries b key (s.old_used - v.count) (s.new_used + v.count - v.joining) v.last v.held
 
-  pub foreseen_moving : (count last joining : ℕ) (held meets : Bool) → r ≡ Survey.Sound count last joining held meets
-      → c ≡ bucket_of key s.new_size → Moves s current other entries b → (x : Presence)
-      → x ≡ tables_then s current other entries b key (s.old_used - count) (s.new_used + count - joining) last held
-      → Foreseen s current other entries key n (moved_chain s current other entries b (old_chain s current entries b))
-      (chain_sight b (ChainSight.Sound x count meets))
-  unfolding chain_sight Goes
-  foreseen_moving count last joining held meets t ce moves x xe =
-      let (ns, read, k, l, m, h, g) =
-      surveyed_some r entries s.new_size c key n (old_chain s current entries b) e count last joining held meets t in
-      record {
-        told = moving_sound s current other entries b key c n r e count last joining held meets t ce moves x xe;
-        goes =
-            record {
-              below = moves.below;
-              chain = record { ns = ns; read = read; counted = sym k };
-              step = refl;
-              met = g;
-            };
-      }
+    abbrev sees : Bool → ChainSight
+    sees held = record { bucket = b; count = v.count; held = held; meets = v.meets }
 
-module _ (s : State) (current other entries : List ℕ) (key n b : ℕ) (a : After (Result (ℕ × State) Error)) (r : ChainSight)
-    (h : Foreseen s current other entries key n a (chain_sight b r)) where
-  pub chain_unsound : r ≡ ChainSight.Unsound
-      → Foreseen s current other entries key n a (sight Presence.Damaged Course.Refused)
-  unfolding chain_sight
-  chain_unsound e = rw e at h
+    chain_goes : (held : Bool)
+        → GoesChain s current other entries n (moved_chain s current other entries b (old_chain s current entries b)) (sees held)
+    chain_goes held =
+        let (ns, read, k, l, m, h, g) = surveyed_some entries s.new_size c key n v (old_chain s current entries b) e in
+        record {
+          below = moves.below;
+          chain = record { ns = ns; read = read; counted = sym k };
+          step = refl;
+          met = g;
+        }
 
-  pub chain_sound : (v : Presence) (count : ℕ) (meets : Bool) → r ≡ ChainSight.Sound v count meets
-      → Foreseen s current other entries key n a (sight v (Course.Moving b count meets))
-  unfolding chain_sight
-  chain_sound v count meets e = rw e at h
+    -- a chain that a lookup reads after the move is not sound
+    pub foreseen_damaged : (r : Result ChainSight Error) (x : Error) → IsErrAnd r (λ e. e ≡ x)
+        → Err x ≡ tables_then s current other entries b key (s.old_used - v.count) (s.new_used + v.count - v.joining) v.last v.held
+        → ForeseenChain s current other entries key n (moved_chain s current other entries b (old_chain s current entries b)) b r
+    unfolding ForeseenChain Goes
+    foreseen_damaged r x h f =
+        rw (exit_is r x h) (
+          Course.Moving (sees false),
+          record { told = moving_sound s current other entries b key c n v e ce moves (Err x) f; goes = chain_goes false },
+        )
+
+    pub foreseen_moving : (held : Bool)
+        → Ok held ≡ tables_then s current other entries b key (s.old_used - v.count) (s.new_used + v.count - v.joining) v.last v.held
+        → ForeseenChain s current other entries key n (moved_chain s current other entries b (old_chain s current entries b)) b
+        (Ok (record { bucket = b; count = v.count; held = held; meets = v.meets }))
+    unfolding ForeseenChain Goes
+    foreseen_moving held f = (
+      refl,
+      record { told = moving_sound s current other entries b key c n v e ce moves (Ok held) f; goes = chain_goes held },
+    )
+
+-- the same of the step that moves that chain
+
+module _ (s : State) (current other entries : List ℕ) (key n b : ℕ) (a : After (Result (ℕ × State) Error)) where
+  pub chain_damaged : (e : Error) → ForeseenChain s current other entries key n a b (Err e) → Err e ≡ presence_then key s.second_is_current a
+  unfolding ForeseenChain
+  chain_damaged e h = h.1.told
+
+  pub chain_sound : (c : ChainSight) → ForeseenChain s current other entries key n a b (Ok c)
+      → Foreseen s current other entries key n a (sight (Ok c.held) (Course.Moving c))
+  unfolding ForeseenChain
+  chain_sound c h = h.1
 
 -- ---- what comes from the next bucket on, and the step
 
@@ -97,12 +114,12 @@ module _ (s : State) (current other entries : List ℕ) (key n : ℕ) where
 
   module _ (r o : Ahead) (f : r ≡ o) where
     pub foreseen_end : r ≡ Ahead.End
-        → Foreseen s current other entries key n (moved_from s current other entries o) (sight Presence.Damaged Course.Refused)
+        → Foreseen s current other entries key n (moved_from s current other entries o) (sight (Err Error.Damaged) Course.Refused)
     unfolding Goes
     foreseen_end e =
         record { told = ahead_end s key current other entries r o f e; goes = next_end s current other entries r o f e }
 
-    pub foreseen_empty : (b : ℕ) → r ≡ Ahead.Empty b → 0 < s.old_used → (y : Found) (x : Presence)
+    pub foreseen_empty : (b : ℕ) → r ≡ Ahead.Empty b → 0 < s.old_used → (y : Found) (x : Result Bool Error)
         → y ≡ found_of (both
         (searched_in entries s.capacity s.old_used current s.old_size key Table.Old)
         (searched_in entries s.capacity s.new_used other s.new_size key Table.New))
@@ -115,7 +132,7 @@ module _ (s : State) (current other entries : List ℕ) (key n : ℕ) where
           goes = next_empty s current other entries r o f b e;
         }
 
-  pub foreseen_ended : s.old_used ≡ 0 → (y : Found) (x : Presence)
+  pub foreseen_ended : s.old_used ≡ 0 → (y : Found) (x : Result Bool Error)
       → ((t : Table) → y ≡ found_of (searched_in entries s.capacity s.new_used other s.new_size key t))
       → x ≡ found_presence y
       → Foreseen s current other entries key n (step_taken s current other entries) (sight x (Course.Still s.rehash_index))
@@ -144,19 +161,19 @@ not_among n (m ∷ ns) e (inr i) = not_among n ns (behind (eqb m n) (among n ns)
     behind true u f = let z : ◌≡◌ {A = ℕ} 0 1 = cc in absurd (omega arith)
 
 module _ (s : State) (current other entries : List ℕ) (n : ℕ) (a : After (Result (ℕ × State) Error)) where
-  module _ (b count : ℕ) (meets : Bool) (k : GoesChain s current other entries n a b count meets) where
-    pub goes_counted : Sound s (length current) (length other) (length entries) → ChainOf entries (get_or current b 0) count
-    goes_counted h = chain_of_lem s current entries b count k.chain h.entries_fit
+  module _ (c : ChainSight) (k : GoesChain s current other entries n a c) where
+    pub goes_counted : Sound s (length current) (length other) (length entries) → ChainOf entries (get_or current c.bucket 0) c.count
+    goes_counted h = chain_of_lem s current entries c.bucket c.count k.chain h.entries_fit
 
     -- the entry is on the chain
     pub link_met : (link : ℕ) → Sound s (length current) (length other) (length entries)
-        → LinkMoved s.new_size (get_or current b 0) n link (chains other entries) → link ≡ link_of (entries_after a) n
+        → LinkMoved s.new_size (get_or current c.bucket 0) n link (chains other entries) → link ≡ link_of (entries_after a) n
     unfolding entries_after moved_chain
     link_met link h m =
-        rw (← k.step, k.chain.read) (m.each k.chain.ns (old_linked s current entries b count k.chain h.entries_fit))
+        rw (← k.step, k.chain.read) (m.each k.chain.ns (old_linked s current entries c.bucket c.count k.chain h.entries_fit))
 
     -- it is not, and keeps its link
-    pub link_kept : (link : ℕ) → meets ≡ false → link ≡ link_of entries n → link ≡ link_of (entries_after a) n
+    pub link_kept : (link : ℕ) → c.meets ≡ false → link ≡ link_of entries n → link ≡ link_of (entries_after a) n
     unfolding entries_after moved_chain
     link_kept link f l =
         rw (← k.step, k.chain.read)
@@ -164,7 +181,7 @@ module _ (s : State) (current other entries : List ℕ) (n : ℕ) (a : After (Re
 
   module _ (course : Course) (g : Goes s current other entries n a course) where
     pub goes_still : (next : ℕ) → course ≡ Course.Still next
-        → After.after (step_answer s (Progress.Moved 0 next)) current other entries ≡ a
+        → After.after (step_answer s (did 0 next)) current other entries ≡ a
     unfolding Goes
     goes_still next e = rw e at g
 
@@ -196,7 +213,7 @@ module _ (s : State) (first second entries : List ℕ) (h : sound_lent (length f
 
   -- what a lookup answers after it
   told_lent : (key : ℕ) (current other : List ℕ) → step_on current other ≡ oriented s.second_is_current step_on first second
-      → (x : Presence) → x ≡ presence_then key s.second_is_current (step_taken s current other entries)
+      → (x : Result Bool Error) → x ≡ presence_then key s.second_is_current (step_taken s current other entries)
       → x ≡ presence_after key (rehash_step s first second entries)
   unfolding presence_then rehash_step
   told_lent key current other o x e =
@@ -205,12 +222,12 @@ module _ (s : State) (first second entries : List ℕ) (h : sound_lent (length f
       ∙ ap (presence_after key)
       (writing_sound s first second entries true (sym h) (Err Error.BadState) step_on _ refl refl)
 
-  pub told_first : (key : ℕ) (x : Presence) → s.second_is_current ≡ false
+  pub told_first : (key : ℕ) (x : Result Bool Error) → s.second_is_current ≡ false
       → x ≡ presence_then key s.second_is_current (step_taken s first second entries)
       → x ≡ presence_after key (rehash_step s first second entries)
   told_first key x f e = told_lent key first second (read_first _ step_on first second _ f refl) x e
 
-  pub told_second : (key : ℕ) (x : Presence) → s.second_is_current ≡ true
+  pub told_second : (key : ℕ) (x : Result Bool Error) → s.second_is_current ≡ true
       → x ≡ presence_then key s.second_is_current (step_taken s second first entries)
       → x ≡ presence_after key (rehash_step s first second entries)
   told_second key x f e = told_lent key second first (read_second _ step_on first second _ f refl) x e

@@ -25,20 +25,19 @@ use Rattle.memory.proofs.Orientation.{read_first, read_second}
 use Rattle.search.specs.Tables.{searched_in, lookup_lent}
 use Rattle.search.proofs.Lookups.{lookup_resting, lookup_rehashing}
 use Rattle.dict_rehash.specs.Progress.{chains}
-use Rattle.after_step.specs.declared.presence.Presence.{Presence}
 use Rattle.after_step.specs.Presence.{presence, presence_after, presence_then}
-use Rattle.after_step.specs.Told.{of_bucket, how_many, has, held_if, either, new_then, old_then, tables_then, Moves}
+use Rattle.after_step.specs.Told.{of_bucket, how_many, has, either, new_then, old_then, tables_then, Moves}
 use Rattle.model.proofs.Moved.{moved_key}
 use Rattle.after_step.proofs.Stacking.{stacked}
 use Rattle.after_step.proofs.ChainsAfter.{unless_last, old_chain_kept, old_chain_emptied, new_chain_after}
 use Rattle.after_step.proofs.Presences.{seen, seen_kept, presence_both, presence_in, has_stacked}
-use Rattle.std.specs.Prelude.{Ok, Err}
+use Rattle.std.specs.Prelude.{Result, Ok, Err}
 
 -- ---- on the current and the other buffer, by the flag of the state before the step
 
 module _ (key : ℕ) (current other entries : List ℕ) where
   pub then_refused : (second : Bool) (e : Error)
-      → presence_then key second (After.after (Err e) current other entries) ≡ Presence.Damaged
+      → presence_then key second (After.after (Err e) current other entries) ≡ (Err Error.Damaged)
   unfolding presence_then presence_after back
   then_refused false e = refl
   then_refused true e = refl
@@ -64,7 +63,7 @@ module _ (key : ℕ) (current other entries : List ℕ) where
 pub then_done : (s : State) (count next key : ℕ) (current other entries : List ℕ)
     → presence_then key s.second_is_current (After.after (step_done s count next) current other entries)
     ≡ either
-    (cond (eqb (s.old_used - count) 0) Presence.Absent
+    (cond (eqb (s.old_used - count) 0) (Ok false)
     (presence (searched_in entries s.capacity (s.old_used - count) current s.old_size key Table.Old)))
     (presence (searched_in entries s.capacity (s.new_used + count) other s.new_size key Table.New))
 unfolding step_done settled finished advanced retabled state_of old_new size_of
@@ -73,16 +72,16 @@ then_done s count next key current other entries = by (eqb (s.old_used - count) 
     t : State
     t = advanced s count next
 
-    old : Presence
+    old : Result Bool Error
     old = presence (searched_in entries s.capacity (s.old_used - count) current s.old_size key Table.Old)
 
-    new : Table → Presence
+    new : Table → Result Bool Error
     new u = presence (searched_in entries s.capacity (s.new_used + count) other s.new_size key u)
 
     by : (over : Bool)
         → presence_then key s.second_is_current
         (After.after (Ok (count, (cond over (finished (advanced s count next)) (advanced s count next)))) current other entries)
-        ≡ either (cond over Presence.Absent old) (new Table.New)
+        ≡ either (cond over (Ok false) old) (new Table.New)
     by true =
         then_over key current other entries count (finished t) s.second_is_current refl
         ∙ ap presence (sym (lookup_resting (finished t) other current entries key refl))
@@ -111,15 +110,15 @@ module _ (old new capacity used b : ℕ) (current other entries ns : List ℕ)
 
   -- the old table's chain, with so many keys left
   pub old_after : (left : ℕ)
-      → cond (eqb left 0) Presence.Absent
+      → cond (eqb left 0) (Ok false)
       (presence (searched_in (moved new ns (chains other entries)).entries capacity left (set current b 0) old key Table.Old))
       ≡ old_then entries capacity left current old b key
   unfolding old_then in_bucket seen has
   old_after left = by (eqb left 0) (in_bucket old b key) refl
     where
       by : (gone t : Bool) → in_bucket old b key ≡ t
-          → cond gone Presence.Absent (presence (searched_in entries' capacity left (set current b 0) old key Table.Old))
-          ≡ cond (gone || t) Presence.Absent (presence (searched_in entries capacity left current old key Table.Old))
+          → cond gone (Ok false) (presence (searched_in entries' capacity left (set current b 0) old key Table.Old))
+          ≡ cond (gone || t) (Ok false) (presence (searched_in entries capacity left current old key Table.Old))
       by true t e = refl
       by false true e =
           told left (set current b 0) old Table.Old (some [])
@@ -152,9 +151,9 @@ module _ (old new capacity used b : ℕ) (current other entries ns : List ℕ)
       all ms = stacked (of_bucket new (bucket_of key new) entries) ns ms
 
       ends : (ms : List ℕ) (t : Bool)
-          → seen entries key (cond t none (some (all ms))) ≡ cond t Presence.Damaged (held_if (has entries key ns || has entries key ms))
+          → seen entries key (cond t none (some (all ms))) ≡ cond t (Err Error.Damaged) (Ok (has entries key ns || has entries key ms))
       ends ms true = refl
-      ends ms false = ap held_if (has_stacked entries key new ns ms)
+      ends ms false = ap Ok (has_stacked entries key new ns ms)
 
       by : (o : Option (List ℕ))
           → seen entries key (unless_last (last_or 0 ns) all o) ≡ new_then entries key (last_or 0 ns) (has entries key ns) o
@@ -168,9 +167,9 @@ unfolding legal_size
 legal_some n h = legal_pos largest_exponent n h
 
 module _ (s : State) (key : ℕ) (current other entries : List ℕ) where
-  abbrev in_tables : Bool → ℕ → ℕ → Presence
+  abbrev in_tables : Bool → ℕ → ℕ → Result Bool Error
   in_tables gone left more =
-      either (cond gone Presence.Absent (presence (searched_in entries s.capacity left current s.old_size key Table.Old)))
+      either (cond gone (Ok false) (presence (searched_in entries s.capacity left current s.old_size key Table.Old)))
       (presence (searched_in entries s.capacity more other s.new_size key Table.New))
 
   -- no key moves ..

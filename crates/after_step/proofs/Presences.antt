@@ -16,10 +16,11 @@ use Rattle.model.specs.Calls.{first_with, searched, both}
 use Rattle.memory.specs.Length.{bucket_chain}
 use Rattle.search.specs.Found.{found_of}
 use Rattle.search.specs.Tables.{searched_in}
-use Rattle.after_step.specs.declared.presence.Presence.{Presence}
 use Rattle.after_step.specs.Presence.{presence}
-use Rattle.after_step.specs.Told.{of_bucket, has, found_presence, held_if, either}
+use Rattle.after_step.specs.Told.{of_bucket, has, found_presence, either}
 use Rattle.after_step.proofs.Stacking.{stacked}
+use Rattle.model.specs.declared.Error.{Error}
+use Rattle.std.specs.Prelude.{Result, Ok, Err}
 
 pub presence_both : (l m : Lookup) → presence (both l m) ≡ either (presence l) (presence m)
 unfolding both presence
@@ -36,18 +37,18 @@ presence_found Lookup.Absent = refl
 presence_found (Lookup.At t before n) = refl
 
 -- on a chain, as it is read
-unfoldable pub seen : List ℕ → ℕ → Option (List ℕ) → Presence
-seen entries key none = Presence.Damaged
-seen entries key (some ns) = held_if (has entries key ns)
+unfoldable pub seen : List ℕ → ℕ → Option (List ℕ) → Result Bool Error
+seen entries key none = (Err Error.Damaged)
+seen entries key (some ns) = Ok (has entries key ns)
 
 module _ (entries : List ℕ) (key : ℕ) where
-  presence_first : (t : Table) (before : ℕ) (ns : List ℕ) → presence (first_with entries key t before ns) ≡ held_if (has entries key ns)
+  presence_first : (t : Table) (before : ℕ) (ns : List ℕ) → presence (first_with entries key t before ns) ≡ Ok (has entries key ns)
   unfolding presence first_with has
   presence_first t before [] = refl
   presence_first t before (n ∷ ns) = by (eqb (key_of entries n) key) (presence_first t n ns)
     where
-      by : (u : Bool) → presence (first_with entries key t n ns) ≡ held_if (has entries key ns)
-          → presence (cond u (Lookup.At t before n) (first_with entries key t n ns)) ≡ held_if (u || has entries key ns)
+      by : (u : Bool) → presence (first_with entries key t n ns) ≡ Ok (has entries key ns)
+          → presence (cond u (Lookup.At t before n) (first_with entries key t n ns)) ≡ Ok (u || has entries key ns)
       by true h = refl
       by false h = h
 
@@ -93,4 +94,4 @@ module _ (e e' : List ℕ) (keys : (n : ℕ) → key_of e' n ≡ key_of e n) (ke
   pub seen_kept : (o : Option (List ℕ)) → seen e' key o ≡ seen e key o
   unfolding seen
   seen_kept none = refl
-  seen_kept (some ns) = ap held_if (has_kept ns)
+  seen_kept (some ns) = ap Ok (has_kept ns)

@@ -17,8 +17,7 @@ use Rattle.memory.specs.Lent.{sound_lent}
 use Rattle.memory.proofs.Orientation.{lent_oriented, writing_refused, writing_sound}
 use Rattle.search.specs.Tables.{lookup_lent}
 use Rattle.dict_rehash.proofs.Due.{due_rehashing, due_unpaused}
-use Rattle.after_step.specs.declared.presence.Presence.{Presence}
-use Rattle.after_step.specs.Presence.{presence, presence_after, entries_after}
+use Rattle.after_step.specs.Presence.{presence, presence_after, presence_then, entries_after}
 use Rattle.after_step.specs.Planned.{Planned}
 use Rattle.std.specs.Prelude.{Result, Ok, Err}
 
@@ -49,23 +48,41 @@ answer_by {A = A} s x y z key refusal call meant each h =
 
 -- what was told of a key says what its lookup finds
 
-pub is_damaged : (l : Lookup) → Presence.Damaged ≡ presence l → l ≡ Lookup.Damaged
+pub is_damaged : (l : Lookup) → (Err Error.Damaged) ≡ presence l → l ≡ Lookup.Damaged
 unfolding presence
 is_damaged Lookup.Damaged e = refl
 is_damaged Lookup.Absent e = let z : ◌≡◌ {A = ℕ} 0 1 = cc in absurd (omega arith)
 is_damaged (Lookup.At t before n) e = let z : ◌≡◌ {A = ℕ} 0 1 = cc in absurd (omega arith)
 
-pub is_absent : (l : Lookup) → Presence.Absent ≡ presence l → l ≡ Lookup.Absent
+pub is_absent : (l : Lookup) → (Ok false) ≡ presence l → l ≡ Lookup.Absent
 unfolding presence
 is_absent Lookup.Damaged e = let z : ◌≡◌ {A = ℕ} 0 1 = cc in absurd (omega arith)
 is_absent Lookup.Absent e = refl
 is_absent (Lookup.At t before n) e = let z : ◌≡◌ {A = ℕ} 0 1 = cc in absurd (omega arith)
 
-pub is_held : (l : Lookup) → Presence.Held ≡ presence l → (t : Table) × (before : ℕ) × (n : ℕ) × (l ≡ Lookup.At t before n)
+pub is_held : (l : Lookup) → (Ok true) ≡ presence l → (t : Table) × (before : ℕ) × (n : ℕ) × (l ≡ Lookup.At t before n)
 unfolding presence
 is_held Lookup.Damaged e = let z : ◌≡◌ {A = ℕ} 0 1 = cc in absurd (omega arith)
 is_held Lookup.Absent e = let z : ◌≡◌ {A = ℕ} 0 1 = cc in absurd (omega arith)
 is_held (Lookup.At t before n) e = (t, before, n, refl)
+
+-- an error is damage
+
+only_damage : (l : Lookup) (e : Error) → Err e ≡ presence l → e ≡ Error.Damaged
+unfolding presence
+only_damage Lookup.Damaged e h = cc
+only_damage Lookup.Absent e h = let z : ◌≡◌ {A = ℕ} 0 1 = cc in absurd (omega arith)
+only_damage (Lookup.At t before n) e h = let z : ◌≡◌ {A = ℕ} 0 1 = cc in absurd (omega arith)
+
+pub damage_after : (key : ℕ) (a : After (Result (ℕ × State) Error)) (e : Error) → Err e ≡ presence_after key a → e ≡ Error.Damaged
+unfolding presence_after
+damage_after key (After.after (Err x) c o z) e h = cc
+damage_after key (After.after (Ok (count, t)) c o z) e h = only_damage (lookup_lent t c o z key) e h
+
+pub damage_then : (key : ℕ) (second : Bool) (a : After (Result (ℕ × State) Error)) (e : Error) → Err e ≡ presence_then key second a
+    → e ≡ Error.Damaged
+unfolding presence_then
+damage_then key second a e h = damage_after key (back second a) e h
 
 -- ---- the world after an answered step
 
@@ -91,16 +108,16 @@ module _ (s : State) (first second entries : List ℕ) (h : sound_lent (length f
         k.3
 
 -- that world to a call that knew as much before the step
-pub record StepTaken (s : State) (first second entries : List ℕ) (key : ℕ) (v : Presence) (count : ℕ) (t : State) (x y z : List ℕ) : Type 0 where
+pub record StepTaken (s : State) (first second entries : List ℕ) (key : ℕ) (v : Result Bool Error) (count : ℕ) (t : State) (x y z : List ℕ) : Type 0 where
   pub step : After.after (Ok (count, t)) x y z ≡ rehash_step s first second entries
   pub sound : sound_lent (length x) (length y) (length z) t ≡ true
   pub follows : Follows s t
   pub told : v ≡ presence (lookup_lent t x y z key)
 
-module _ (s : State) (first second entries : List ℕ) (key : ℕ) (v : Presence) (p : Planned s first second entries key v)
+module _ (s : State) (first second entries : List ℕ) (key : ℕ) (v : Result Bool Error) (p : Planned s first second entries key v)
     (r : Result (ℕ × State) Error) (x y z : List ℕ) (e : After.after r x y z ≡ rehash_step s first second entries) where
   -- no step is refused but where damage was told
-  pub then_damaged : (error : Error) → r ≡ Err error → v ≡ Presence.Damaged
+  pub then_damaged : (error : Error) → r ≡ Err error → v ≡ (Err Error.Damaged)
   unfolding presence_after
   then_damaged error d = p.told ∙ ap (presence_after key) (sym (rw d at e))
 
@@ -154,10 +171,10 @@ module _ {A : Type 0} (refused : Error → A) (done : A → Bool) (call : State 
     first_done count t x y z a p q w r h d = (rw (← r, ← h, d) refl) ∙ stepping_first refused done call s first second entries e
 
     -- what is told of the key decides: no answered step leads to an answered call
-    pub first_refused : (key : ℕ) (v : Presence) (answer : A)
+    pub first_refused : (key : ℕ) (v : Result Bool Error) (answer : A)
         → sound_lent (length first) (length second) (length entries) s ≡ true
         → v ≡ presence_after key (rehash_step s first second entries)
-        → (v ≡ Presence.Damaged → answer ≡ refused Error.Damaged) → done answer ≡ false
+        → (v ≡ (Err Error.Damaged) → answer ≡ refused Error.Damaged) → done answer ≡ false
         → ((t : State) (x y z : List ℕ) → sound_lent (length x) (length y) (length z) t ≡ true → Follows s t
         → z ≡ entries_after (rehash_step s first second entries) → v ≡ presence (lookup_lent t x y z key)
         → answer_of (call t x y z) ≡ answer)

@@ -14,17 +14,25 @@ use Rattle.model.specs.Keys.{bucket_of}
 use Rattle.model.specs.Memory.{link_of, key_of, chain, in_bucket, last_or}
 use Rattle.model.proofs.Chains.{chain_end, chain_bad, chain_stray, chain_good, budget_left}
 use Rattle.after_step.specs.declared.presence.Survey.{Survey}
+use Rattle.model.specs.declared.Error.{Error}
+use Rattle.std.specs.Prelude.{Result, Ok, Err}
 use Rattle.after_step.specs.Told.{of_bucket, how_many, has, among, surveyed}
 
 -- ---- the loop
 
 -- what a survey says, with that many entries met before the chain, the last of them, how many of the bucket asked for, whether
 -- one has the key, and whether one is the entry asked for
-pub onward : List ℕ → (size c key n count last joining : ℕ) → Bool → Bool → Option (List ℕ) → Survey
-onward entries size c key n count last joining held meets none = Survey.Unsound
+pub onward : List ℕ → (size c key n count last joining : ℕ) → Bool → Bool → Option (List ℕ) → Result Survey Error
+onward entries size c key n count last joining held meets none = Err Error.Damaged
 onward entries size c key n count last joining held meets (some ns) =
-    Survey.Sound (count + length ns) (last_or last ns) (joining + how_many (of_bucket size c entries) ns) (held || has entries key ns)
-    (meets || among n ns)
+    Ok
+    (record {
+      count = count + length ns;
+      last = last_or last ns;
+      joining = joining + how_many (of_bucket size c entries) ns;
+      held = held || has entries key ns;
+      meets = meets || among n ns;
+    })
 
 module _ (entries : List ℕ) (size c key n : ℕ) where
   onward_start : (count : ℕ) (o : Option (List ℕ)) → count ≡ 0
@@ -70,24 +78,25 @@ module _ (test : ℕ → Bool) (entries : List ℕ) (capacity budget head size c
   module _ (at left last joining : ℕ) (held meets : Bool)
       (h : Surveying test entries capacity budget head size c key n at left last joining held meets) where
     pub surveying_out : (at ≡ 0 → ⊥) → (eqb left 0 || ltb capacity at) ≡ true
-        → Survey.Unsound ≡ surveyed entries size c key n (chain test entries capacity budget head)
+        → Err Error.Damaged ≡ surveyed entries size c key n (chain test entries capacity budget head)
     unfolding onward
     surveying_out f t = rw (chain_bad test entries capacity left at f t) at h.same
 
     pub surveying_stray : (k : ℕ) → (at ≡ 0 → ⊥) → (eqb left 0 || ltb capacity at) ≡ false → k ≡ key_of entries at
-        → test k ≡ false → Survey.Unsound ≡ surveyed entries size c key n (chain test entries capacity budget head)
+        → test k ≡ false → Err Error.Damaged ≡ surveyed entries size c key n (chain test entries capacity budget head)
     unfolding onward
     surveying_stray k f t ke p = rw (chain_stray test entries capacity left at f t (rw ke at p)) at h.same
 
-    pub surveying_fits : (eqb left 0 || ltb capacity at) ≡ false → Fits w32 budget → (t : Bool) → Fits w32 (joining + bool_byte t)
-    surveying_fits t f u = omega (arith, budget_left capacity left at t, h.few, at_most_one u)
+    pub surveying_fits : (eqb left 0 || ltb capacity at) ≡ false → Fits w32 budget → (more : ℕ) (t : Bool) → more ≡ bool_byte t
+        → Fits w32 (joining + more)
+    surveying_fits t f more u e = omega (arith, budget_left capacity left at t, h.few, at_most_one u)
 
-    pub surveying_next : (k i next joining' : ℕ) (held' meets' : Bool) → (at ≡ 0 → ⊥) → (eqb left 0 || ltb capacity at) ≡ false
-        → k ≡ key_of entries at → test k ≡ true → i ≡ bucket_of k size → next ≡ link_of entries at → joining' ≡ joining + bool_byte (eqb i c)
-        → held' ≡ (held || eqb k key) → meets' ≡ (meets || eqb at n)
-        → Surveying test entries capacity budget head size c key n next (left - 1) at joining' held' meets'
+    pub surveying_next : (k i next more : ℕ) → (at ≡ 0 → ⊥) → (eqb left 0 || ltb capacity at) ≡ false → k ≡ key_of entries at
+        → test k ≡ true → i ≡ bucket_of k size → next ≡ link_of entries at → more ≡ bool_byte (eqb i c)
+        → Surveying test entries capacity budget head size c key n next (left - 1) at (joining + more) (held || eqb k key)
+        (meets || eqb at n)
     unfolding in_bucket
-    surveying_next k i next joining' held' meets' f t ke p ie ne me he te =
+    surveying_next k i next more f t ke p ie ne me =
         let l = budget_left capacity left at t in
         let w = h.within in
         let w' = h.few in
@@ -95,7 +104,7 @@ module _ (test : ℕ → Bool) (entries : List ℕ) (capacity budget head size c
           within = omega arith;
           few = omega (arith, me, at_most_one (eqb i c));
           same =
-              rw (me, he, te, ie, ke, ne)
+              rw (me, ie, ke, ne)
               (onward_one entries size c key n (budget - left) (budget - (left - 1)) last joining at held meets
               (chain test entries capacity (left - 1) (link_of entries at)) (omega arith)
               ∙ ap (onward entries size c key n (budget - left) last joining held meets) (sym (chain_good test entries capacity left at f t (rw ke at p)))
@@ -103,7 +112,8 @@ module _ (test : ℕ → Bool) (entries : List ℕ) (capacity budget head size c
         }
 
     pub surveying_end : at ≡ 0
-        → Survey.Sound (budget - left) last joining held meets ≡ surveyed entries size c key n (chain test entries capacity budget head)
+        → Ok (record { count = budget - left; last = last; joining = joining; held = held; meets = meets })
+        ≡ surveyed entries size c key n (chain test entries capacity budget head)
     unfolding onward last_or how_many has among
     surveying_end e =
         let a : budget - left ≡ budget - left + 0 = omega arith in
@@ -120,20 +130,28 @@ unfolding how_many
 how_many_fits test [] = omega arith
 how_many_fits test (n ∷ ns) = omega (arith, at_most_one (test n), how_many_fits test ns)
 
-module _ (r : Survey) (entries : List ℕ) (size c key n : ℕ) where
-  pub surveyed_none : (o : Option (List ℕ)) → r ≡ surveyed entries size c key n o → r ≡ Survey.Unsound → o ≡ none
+module _ (entries : List ℕ) (size c key n : ℕ) where
+  -- an error: it is not sound, and that is damage
+  pub surveyed_none : (x : Error) (o : Option (List ℕ)) → Err x ≡ surveyed entries size c key n o → (o ≡ none) × (x ≡ Error.Damaged)
   unfolding surveyed
-  surveyed_none none e u = refl
-  surveyed_none (some ns) e u = let z : ◌≡◌ {A = ℕ} 0 1 = cc in absurd (omega arith)
+  surveyed_none x none e = (refl, cc)
+  surveyed_none x (some ns) e = let z : ◌≡◌ {A = ℕ} 0 1 = cc in absurd (omega arith)
 
-  pub surveyed_some : (o : Option (List ℕ)) → r ≡ surveyed entries size c key n o → (count last joining : ℕ) (held meets : Bool)
-      → r ≡ Survey.Sound count last joining held meets
-      → (ns : List ℕ) × (o ≡ some ns) × (count ≡ length ns) × (last ≡ last_or 0 ns) × (joining ≡ how_many (of_bucket size c entries) ns)
-      × (held ≡ has entries key ns) × (meets ≡ among n ns)
+  pub surveyed_some : (v : Survey) (o : Option (List ℕ)) → Ok v ≡ surveyed entries size c key n o
+      → (ns : List ℕ) × (o ≡ some ns) × (v.count ≡ length ns) × (v.last ≡ last_or 0 ns) × (v.joining ≡ how_many (of_bucket size c entries) ns)
+      × (v.held ≡ has entries key ns) × (v.meets ≡ among n ns)
   unfolding surveyed
-  surveyed_some none e count last joining held meets s = let z : ◌≡◌ {A = ℕ} 0 1 = cc in absurd (omega arith)
-  surveyed_some (some ns) e count last joining held meets s = (ns, refl, cc, cc, cc, cc, cc)
+  surveyed_some v none e = let z : ◌≡◌ {A = ℕ} 0 1 = cc in absurd (omega arith)
+  surveyed_some v (some ns) e =
+      let same : v ≡ record {
+        count = length ns;
+        last = last_or 0 ns;
+        joining = how_many (of_bucket size c entries) ns;
+        held = has entries key ns;
+        meets = among n ns;
+      } = cc in
+      (ns, refl, ap (λ (u : Survey). u.count) same, ap (λ (u : Survey). u.last) same, ap (λ (u : Survey). u.joining) same, ap (λ (u : Survey). u.held) same, ap (λ (u : Survey). u.meets) same)
 
-pub survey_at : (r : Survey) (entries : List ℕ) (size c c' key n : ℕ) (o : Option (List ℕ)) → c ≡ c' → r ≡ surveyed entries size c key n o
-    → r ≡ surveyed entries size c' key n o
+pub survey_at : (r : Result Survey Error) (entries : List ℕ) (size c c' key n : ℕ) (o : Option (List ℕ)) → c ≡ c'
+    → r ≡ surveyed entries size c key n o → r ≡ surveyed entries size c' key n o
 survey_at r entries size c c' key n o e h = h ∙ ap (λ (i : ℕ). surveyed entries size i key n o) e

@@ -1,18 +1,18 @@
 -- What the code reads before a step, and what it tells of the memory after it.
-use Rattle.std.specs.Prelude.{ℕ, ◌+◌, ◌<◌, ◌≡◌, Bool, true, false, cond, ◌||◌, List, [], ◌∷◌, length, get_or, eqb, Ok, Err, Some, None}
+use Rattle.std.specs.Prelude.{ℕ, ◌+◌, ◌<◌, ◌≡◌, Bool, true, false, cond, ◌||◌, List, [], ◌∷◌, length, get_or, eqb, Result, Ok, Err, Some, None}
 use Rattle.std.proofs.Math.Option.{Option, none, some}
 use mir.Val.{bool_byte}
 use Rattle.model.specs.declared.State.{State}
 use Rattle.model.specs.declared.Table.{Table}
+use Rattle.model.specs.declared.Error.{Error}
 use Rattle.model.specs.Keys.{bucket_of}
 use Rattle.model.specs.Memory.{key_of, in_bucket, last_or}
 use Rattle.model.proofs.Soundness.{Sound}
 use Rattle.memory.specs.Length.{bucket_chain}
+use Rattle.search.specs.Found.{Found}
 use Rattle.search.specs.Tables.{searched_in}
-use Rattle.after_step.specs.declared.presence.Presence.{Presence}
 use Rattle.after_step.specs.declared.presence.Survey.{Survey}
 use Rattle.after_step.specs.Presence.{presence}
-use Rattle.search.specs.Found.{Found}
 
 -- One pass over a chain. `bool_byte` is 1 of true and 0 of false.
 
@@ -34,44 +34,47 @@ unfoldable pub among : ℕ → List ℕ → Bool
 among n [] = false
 among n (m ∷ ms) = eqb m n || among n ms
 
-unfoldable pub surveyed : List ℕ → (size c key n : ℕ) → Option (List ℕ) → Survey
-surveyed entries size c key n none = Survey.Unsound
+unfoldable pub surveyed : List ℕ → (size c key n : ℕ) → Option (List ℕ) → Result Survey Error
+surveyed entries size c key n none = Err Error.Damaged
 surveyed entries size c key n (some ns) =
-    Survey.Sound (length ns) (last_or 0 ns) (how_many (of_bucket size c entries) ns) (has entries key ns) (among n ns)
+    Ok
+    (record {
+      count = length ns;
+      last = last_or 0 ns;
+      joining = how_many (of_bucket size c entries) ns;
+      held = has entries key ns;
+      meets = among n ns;
+    })
 
--- Presences.
+-- Whether a key is held.
 
-abbrev pub found_presence : Found → Presence
-found_presence (Err e) = Presence.Damaged
-found_presence (Ok None) = Presence.Absent
-found_presence (Ok (Some n)) = Presence.Held
-
-abbrev pub held_if : Bool → Presence
-held_if t = cond t Presence.Held Presence.Absent
+abbrev pub found_presence : Found → Result Bool Error
+found_presence (Err e) = Err e
+found_presence (Ok None) = Ok false
+found_presence (Ok (Some n)) = Ok true
 
 -- in two tables: neither may be damaged
-abbrev pub either : Presence → Presence → Presence
-either Presence.Damaged b = Presence.Damaged
-either Presence.Absent b = b
-either Presence.Held Presence.Damaged = Presence.Damaged
-either Presence.Held Presence.Absent = Presence.Held
-either Presence.Held Presence.Held = Presence.Held
+abbrev pub either : Result Bool Error → Result Bool Error → Result Bool Error
+either (Err e) b = Err e
+either (Ok false) b = b
+either (Ok true) (Err e) = Err e
+either (Ok true) (Ok held) = Ok true
 
 -- in the new table, from the key's chain there as it is: the chain that moves ends in `last`, and has the key or not. A
 -- chain that ends in the same entry shares entries with it, and will not be sound.
-unfoldable pub new_then : List ℕ → ℕ → ℕ → Bool → Option (List ℕ) → Presence
-new_then entries key last moves none = Presence.Damaged
+unfoldable pub new_then : List ℕ → ℕ → ℕ → Bool → Option (List ℕ) → Result Bool Error
+new_then entries key last moves none = Err Error.Damaged
 new_then entries key last moves (some ns) =
-    cond (eqb (last_or 0 ns) last) Presence.Damaged (held_if (moves || has entries key ns))
+    cond (eqb (last_or 0 ns) last) (Err Error.Damaged) (Ok (moves || has entries key ns))
 
 -- in the old table, once the chain of bucket b has left it, and so many keys are left: with none the table is gone, and
 -- bucket b is empty
-unfoldable pub old_then : List ℕ → ℕ → ℕ → List ℕ → ℕ → ℕ → ℕ → Presence
+unfoldable pub old_then : List ℕ → ℕ → ℕ → List ℕ → ℕ → ℕ → ℕ → Result Bool Error
 old_then entries capacity left buckets size b key =
-    cond (eqb left 0 || in_bucket size b key) Presence.Absent (presence (searched_in entries capacity left buckets size key Table.Old))
+    cond (eqb left 0 || in_bucket size b key) (Ok false) (presence (searched_in entries capacity left buckets size key Table.Old))
 
 -- in both
-unfoldable pub tables_then : State → List ℕ → List ℕ → List ℕ → ℕ → ℕ → ℕ → ℕ → ℕ → Bool → Presence
+unfoldable pub tables_then : State → List ℕ → List ℕ → List ℕ → ℕ → ℕ → ℕ → ℕ → ℕ → Bool → Result Bool Error
 tables_then s current other entries b key left budget last moves =
     either (old_then entries s.capacity left current s.old_size b key)
     (new_then entries key last moves (bucket_chain s.new_size entries s.capacity budget other (bucket_of key s.new_size)))

@@ -10,31 +10,36 @@ ghost use Rattle.model.proofs.Soundness.{Sound};
 ghost use Rattle.dict_rehash.specs.Progress.{old_chain};
 ghost use Rattle.after_step.specs.Presence.{entries_after};
 ghost use Rattle.after_step.specs.Told.{surveyed, Moves};
-ghost use Rattle.after_step.specs.Course.{chain_sight, GoesChain, Foreseen};
+ghost use Rattle.after_step.specs.Course.{GoesChain, ForeseenChain};
 
 use crate::link::link_moved;
-use crate::presence::{Presence, Survey, survey_chain, tables_then};
+use crate::presence::{Survey, survey_chain, tables_then};
 use memory::entry::link_of;
 use memory::state::bucket_index;
-use model::State;
+use model::{Error, State};
 
-// What is known of a chain that is to move.
+// What is known of a chain of the old table that is to move.
 #[derive(Clone, Copy)]
-pub enum ChainSight {
-    // The step is refused.
-    Unsound,
-    Sound {
-        // What a lookup would answer after the step.
-        presence: Presence,
-        // How many entries.
-        count: u32,
-        // Whether one is the entry asked for.
-        meets: bool,
-    },
+pub struct ChainSight {
+    // The bucket that it is in.
+    pub bucket: u32,
+    // How many entries it has.
+    pub count: u32,
+    // Whether the key is held after the step.
+    pub held: bool,
+    // Whether one of the entries is the one asked for.
+    pub meets: bool,
 }
 
 // The chain of bucket b of the old table, for the key's bucket in the new one and the entry asked for.
-fn survey_bucket(current: &[u32], entries: &[u32], s: State, b: u32, key: u32, n: u32) -> Survey
+fn survey_bucket(
+    current: &[u32],
+    entries: &[u32],
+    s: State,
+    b: u32,
+    key: u32,
+    n: u32,
+) -> Result<Survey, Error>
     requires entries_fit { (s.capacity * 3 ≤ length entries.now) × (s.old_size ≤ length current.now) }
     requires legal { (legal_size s.old_size ≡ true) × (legal_size s.new_size ≡ true) × (b < s.old_size) }
     ensures { result ≡ surveyed entries.now s.new_size (bucket_of key s.new_size) key n
@@ -66,34 +71,33 @@ pub fn foresee_chain(
     b: u32,
     key: u32,
     n: u32,
-) -> ChainSight
+) -> Result<ChainSight, Error>
     requires { Moves s current.now other.now entries.now b }
-    ensures { Foreseen s current.now other.now entries.now key n
+    ensures { ForeseenChain s current.now other.now entries.now key n
         (calls.moved_chain s current.now other.now entries.now b
-        (old_chain s current.now entries.now b)) (chain_sight b result) }
+        (old_chain s current.now entries.now b)) b result }
 {
-    let moving = survey_bucket(current, entries, s, b, key, n);
-    match moving {
-        Survey::Unsound => ChainSight::Unsound,
-        Survey::Sound {
-            count,
-            last,
-            joining,
-            held,
-            meets,
-        } => {
-            let left = s.old_used - count;
-            let budget = s.new_used + count - joining;
-            let presence = tables_then(
-                current, other, entries, s, b as usize, key, left, budget, last, held,
-            );
-            ChainSight::Sound {
-                presence,
-                count,
-                meets,
-            }
-        }
-    }
+    let moving = survey_bucket(current, entries, s, b, key, n)?;
+    let left = s.old_used - moving.count;
+    let budget = s.new_used + moving.count - moving.joining;
+    let held = tables_then(
+        current,
+        other,
+        entries,
+        s,
+        b as usize,
+        key,
+        left,
+        budget,
+        moving.last,
+        moving.held,
+    )?;
+    Ok(ChainSight {
+        bucket: b,
+        count: moving.count,
+        held,
+        meets: moving.meets,
+    })
 }
 
 // The link of the entry asked for, as that chain's move leaves it: as it is, unless the entry is on the chain.
@@ -102,20 +106,19 @@ pub fn link_beside(
     other: &[u32],
     entries: &[u32],
     s: State,
-    b: u32,
-    count: u32,
-    meets: bool,
+    chain: ChainSight,
     n: u32,
 ) -> u32
     requires sound { Sound s (length current.now) (length other.now) (length entries.now) }
     requires rehashing { (s.rehashing ≡ true) × (0 < n) × (n ≤ s.capacity) }
     requires goes_chain { GoesChain s current.now other.now entries.now n
-        (calls.step_taken s current.now other.now entries.now) b count meets }
+        (calls.step_taken s current.now other.now entries.now) chain }
     ensures { result ≡ link_of (entries_after
         (calls.step_taken s current.now other.now entries.now)) n }
 {
-    if meets {
-        link_moved(other, entries, s.new_size, current[b as usize], count, n)
+    if chain.meets {
+        let head = current[chain.bucket as usize];
+        link_moved(other, entries, s.new_size, head, chain.count, n)
     } else {
         link_of(entries, n)
     }

@@ -1,18 +1,11 @@
 // An entry's link as it will be once a rehash step has moved a chain. In damaged memory the entry may lie on that very chain.
-ghost use Rattle.std.specs.Prelude.{◌≡◌, true, cond, ◌*◌, ◌≤◌, ◌<◌, length};
+ghost use Rattle.std.specs.Prelude.{◌≡◌, true, ◌*◌, ◌≤◌, ◌<◌, length};
 ghost use Rattle.model.specs.Limits.{legal_size};
 ghost use Rattle.dict_rehash.specs.Progress.{chains, ChainOf};
 ghost use Rattle.after_step.specs.Links.{LinkMoved};
 
 use memory::entry::{key_of, link_of};
 use memory::state::bucket_index;
-
-// The head of a bucket once the entry that is met has moved: the entry, if that bucket is its own.
-fn head_then(own: bool, met: u32, head: u32) -> u32
-    ensures { result ≡ cond own met head }
-{
-    if own { met } else { head }
-}
 
 // The link of entry n once the chain of that many entries has moved to a table of that size. The entries go to the heads of
 // their buckets in turn, so entry n is linked to what then heads its own.
@@ -30,7 +23,7 @@ pub fn link_moved(buckets: &[u32], entries: &[u32], size: u32, head: u32, count:
             return link;
         }
         let b = bucket_index(key_of(entries, at), size);
-        link = head_then(b == own, at, link);
+        link = if b == own { at } else { link };
         at = link_of(entries, at);
     }
     link_of(entries, n)

@@ -7,40 +7,26 @@ ghost use Rattle.model.specs.Memory.{chain, in_bucket};
 ghost use Rattle.model.proofs.Soundness.{Sound};
 ghost use Rattle.memory.specs.Length.{bucket_chain};
 ghost use Rattle.search.specs.Tables.{Readable};
-ghost use Rattle.after_step.specs.Told.{surveyed, found_presence, held_if, either, new_then, old_then, tables_then};
+ghost use Rattle.after_step.specs.Told.{surveyed, found_presence, new_then, old_then, tables_then};
 
 use memory::entry::{key_of, link_of};
 use memory::state::bucket_index;
 use model::{Error, State};
 use search::found::entry_in;
 
-// What a lookup would answer, without the entry.
+// What one pass over a sound chain tells.
 #[derive(Clone, Copy)]
-pub enum Presence {
-    // A chain is not sound, or the step is refused.
-    Damaged,
-    // The chains are sound, and the key is on none.
-    Absent,
-    // An entry has the key.
-    Held,
-}
-
-// What one pass over a chain tells.
-#[derive(Clone, Copy)]
-pub enum Survey {
-    Unsound,
-    Sound {
-        // How many entries.
-        count: u32,
-        // The last of them, 0 if there is none.
-        last: u32,
-        // How many have a key of the bucket asked for.
-        joining: u32,
-        // Whether one has the key.
-        held: bool,
-        // Whether one is the entry asked for.
-        meets: bool,
-    },
+pub struct Survey {
+    // How many entries.
+    pub count: u32,
+    // The last of them, 0 if there is none.
+    pub last: u32,
+    // How many have a key of the bucket asked for.
+    pub joining: u32,
+    // Whether one has the key.
+    pub held: bool,
+    // Whether one is the entry asked for.
+    pub meets: bool,
 }
 
 // The chain of bucket b in a table of that size, read to its end as every chain is. The bucket asked for is bucket c in a
@@ -56,7 +42,7 @@ pub fn survey_chain(
     c: usize,
     key: u32,
     n: u32,
-) -> Survey
+) -> Result<Survey, Error>
     requires entries_fit { capacity * 3 ≤ length entries.now }
     requires legal { (legal_size size ≡ true) × (legal_size new_size ≡ true) }
     ensures { result ≡ surveyed entries.now new_size c key n
@@ -70,57 +56,33 @@ pub fn survey_chain(
     let mut meets = false;
     while at != 0 {
         if (left == 0) | (capacity < at) {
-            return Survey::Unsound;
+            return Err(Error::Damaged);
         }
         let met = key_of(entries, at);
         if bucket_index(met, size) != b {
-            return Survey::Unsound;
+            return Err(Error::Damaged);
         }
         left -= 1;
         last = at;
-        joining += (bucket_index(met, new_size) == c) as u32;
-        held = held | (met == key);
-        meets = meets | (at == n);
+        joining += u32::from(bucket_index(met, new_size) == c);
+        held |= met == key;
+        meets |= at == n;
         at = link_of(entries, at);
     }
-    Survey::Sound {
+    Ok(Survey {
         count: budget - left,
         last,
         joining,
         held,
         meets,
-    }
+    })
 }
 
-fn held_if(t: bool) -> Presence
-    ensures { result ≡ held_if t }
-{
-    if t { Presence::Held } else { Presence::Absent }
-}
-
-pub fn presence_of(found: Result<Option<u32>, Error>) -> Presence
+// Whether the key is held, without the entry that the search found.
+pub fn presence_of(found: Result<Option<u32>, Error>) -> Result<bool, Error>
     ensures { result ≡ found_presence found }
 {
-    match found {
-        Err(_) => Presence::Damaged,
-        Ok(None) => Presence::Absent,
-        Ok(Some(_)) => Presence::Held,
-    }
-}
-
-// In two tables: neither may be damaged.
-fn either_of(old: Presence, new: Presence) -> Presence
-    ensures { result ≡ either old new }
-{
-    match old {
-        Presence::Damaged => Presence::Damaged,
-        Presence::Absent => new,
-        Presence::Held => match new {
-            Presence::Damaged => Presence::Damaged,
-            Presence::Absent => Presence::Held,
-            Presence::Held => Presence::Held,
-        },
-    }
+    Ok(found?.is_some())
 }
 
 // In the new table then, from the key's chain there as it is. The chain that moves ends in `last`, and has the key or not.
@@ -134,7 +96,7 @@ fn new_then(
     key: u32,
     last: u32,
     moves: bool,
-) -> Presence
+) -> Result<bool, Error>
     requires { Readable size (length buckets.now) capacity (length entries.now) }
     ensures { result ≡ new_then entries.now key last moves
         (bucket_chain size entries.now capacity budget buckets.now (bucket_of key size)) }
@@ -143,23 +105,11 @@ fn new_then(
     // No entry is numbered 0.
     let there = survey_chain(
         entries, capacity, budget, buckets[b], size, b, size, b, key, 0,
-    );
-    match there {
-        Survey::Unsound => Presence::Damaged,
-        Survey::Sound {
-            count: _,
-            last: end,
-            joining: _,
-            held,
-            meets: _,
-        } => {
-            if end == last {
-                Presence::Damaged
-            } else {
-                held_if(moves | held)
-            }
-        }
+    )?;
+    if there.last == last {
+        return Err(Error::Damaged);
     }
+    Ok(moves | there.held)
 }
 
 // In the old table then, once the chain of bucket b has left it, and so many keys are left. With none left the table is
@@ -172,12 +122,12 @@ fn old_then(
     size: u32,
     b: usize,
     key: u32,
-) -> Presence
+) -> Result<bool, Error>
     requires { Readable size (length buckets.now) capacity (length entries.now) }
     ensures { result ≡ old_then entries.now capacity left buckets.now size b key }
 {
     if (left == 0) | (bucket_index(key, size) == b) {
-        Presence::Absent
+        Ok(false)
     } else {
         presence_of(entry_in(entries, capacity, left, buckets, size, key))
     }
@@ -195,14 +145,14 @@ pub fn tables_then(
     budget: u32,
     last: u32,
     moves: bool,
-) -> Presence
+) -> Result<bool, Error>
     requires sound { Sound s (length current.now) (length other.now) (length entries.now) }
     requires rehashing { s.rehashing ≡ true }
     ensures { result ≡ tables_then s current.now other.now entries.now b key left budget last moves }
 {
+    let old = old_then(entries, s.capacity, left, current, s.old_size, b, key)?;
     let new = new_then(
         entries, s.capacity, budget, other, s.new_size, key, last, moves,
-    );
-    let old = old_then(entries, s.capacity, left, current, s.old_size, b, key);
-    either_of(old, new)
+    )?;
+    Ok(old | new)
 }

@@ -16,9 +16,8 @@ use Rattle.memory.specs.Lent.{sound_lent}
 use Rattle.dict_rehash.specs.Progress.{step_answer, step_room}
 use Rattle.memory.proofs.Orientation.{written_first, written_second, writing_refused, writing_sound}
 use Rattle.search.specs.Tables.{lookup_lent}
-use Rattle.after_step.specs.declared.presence.Presence.{Presence}
 use Rattle.after_step.specs.Presence.{presence, presence_after}
-use Rattle.after_step.proofs.StepFirst.{answer_of, answer_by, is_damaged, is_absent, is_held, StepTaken, step_taken_lem, first_alone, first_unsound, first_done, first_refused}
+use Rattle.after_step.proofs.StepFirst.{answer_of, answer_by, is_damaged, is_absent, is_held, damage_after, StepTaken, step_taken_lem, first_alone, first_unsound, first_done, first_refused}
 use Rattle.after_step.proofs.Courses.{taken_first, taken_second, told_first, told_second}
 use Rattle.during_rehash.specs.declared.moving.Taken.{Taken}
 use Rattle.during_rehash.specs.declared.moving.Purpose.{Purpose}
@@ -65,15 +64,15 @@ module _ (s : State) (x y z : List ℕ) (key : ℕ) where
 
 -- what was told of the key says as much
 
-told_damaged : (s : State) (l : Lookup) → Presence.Damaged ≡ presence l → delete_answer s l ≡ Err Error.Damaged
+told_damaged : (s : State) (l : Lookup) → Err Error.Damaged ≡ presence l → delete_answer s l ≡ Err Error.Damaged
 unfolding delete_answer held
 told_damaged s l e = ap (delete_answer s) (is_damaged l e)
 
-told_absent : (s : State) (l : Lookup) → Presence.Absent ≡ presence l → delete_answer s l ≡ Err Error.Absent
+told_absent : (s : State) (l : Lookup) → Ok false ≡ presence l → delete_answer s l ≡ Err Error.Absent
 unfolding delete_answer held
 told_absent s l e = ap (delete_answer s) (is_absent l e)
 
-told_held : (s : State) (l : Lookup) → Presence.Held ≡ presence l → is_deleted (delete_answer s l) ≡ true
+told_held : (s : State) (l : Lookup) → Ok true ≡ presence l → is_deleted (delete_answer s l) ≡ true
 unfolding delete_answer held is_deleted
 told_held s l e = ap (λ (k : Lookup). is_deleted (delete_answer s k)) (is_held l e).3
 
@@ -94,17 +93,18 @@ module _ (s : State) (first second entries : List ℕ) (key : ℕ) where
   delete_now r f h =
       first_alone Err is_deleted (λ t x y z. delete_alone t x y z key) s first second entries r f h
 
-  module _ (h : sound_lent (length first) (length second) (length entries) s ≡ true) (f : step_due s ≡ true) (v : Presence)
+  module _ (h : sound_lent (length first) (length second) (length entries) s ≡ true) (f : step_due s ≡ true) (v : Result Bool Error)
       (k : v ≡ presence_after key (rehash_step s first second entries)) where
-    pub delete_damaged : v ≡ Presence.Damaged
-        → After.after (Err Error.Damaged) first second entries ≡ delete s first second entries key
+    pub delete_damaged : (x : Error) → v ≡ Err x → After.after (Err x) first second entries ≡ delete s first second entries key
     unfolding delete is_deleted
-    delete_damaged d =
+    delete_damaged x d =
+        let damaged = damage_after key (rehash_step s first second entries) x (sym d ∙ k) in
         first_refused Err is_deleted (λ t x y z. delete_alone t x y z key) s first second entries f key v
-        (Err Error.Damaged) h k (λ e. refl) refl
-        (λ t x y z p o e w. alone_answer t x y z key p ∙ told_damaged t (lookup_lent t x y z key) (sym d ∙ w))
+        (Err x) h k (λ e. ap Err damaged) refl
+        (λ t p q z u o e w.
+        alone_answer t p q z key u ∙ told_damaged t (lookup_lent t p q z key) (ap Err (sym damaged) ∙ sym d ∙ w) ∙ ap Err (sym damaged))
 
-    pub delete_absent : v ≡ Presence.Absent
+    pub delete_absent : v ≡ (Ok false)
         → After.after (Err Error.Absent) first second entries ≡ delete s first second entries key
     unfolding delete is_deleted
     delete_absent d =
@@ -113,13 +113,13 @@ module _ (s : State) (first second entries : List ℕ) (key : ℕ) where
         (λ t x y z p o e w. alone_answer t x y z key p ∙ told_absent t (lookup_lent t x y z key) (sym d ∙ w))
 
   -- refused for what was told
-  delete_refused_for : (v : Presence) → v ≡ presence_after key (rehash_step s first second entries) → (error : Error)
+  delete_refused_for : (v : Result Bool Error) → v ≡ presence_after key (rehash_step s first second entries) → (error : Error)
       → RefusedFor v error → sound_lent (length first) (length second) (length entries) s ≡ true → step_due s ≡ true
       → After.after (Err error) first second entries ≡ delete s first second entries key
   unfolding RefusedFor
-  delete_refused_for Presence.Damaged k error e h f = rw e (delete_damaged h f Presence.Damaged k refl)
-  delete_refused_for Presence.Absent k error e h f = rw e (delete_absent h f Presence.Absent k refl)
-  delete_refused_for Presence.Held k error e h f = absurd e
+  delete_refused_for (Err x) k error e h f = rw e (delete_damaged h f (Err x) k x refl)
+  delete_refused_for (Ok false) k error e h f = rw e (delete_absent h f (Ok false) k refl)
+  delete_refused_for (Ok true) k error e h f = absurd e
 
   -- the state that the step leaves
 
@@ -163,14 +163,14 @@ module _ (s : State) (first second entries : List ℕ) (key : ℕ) where
         rw (g.first_same, g.second_same, g.entries_same) (delete_refused_for _ refl error g.told h f)
 
     module _ (count : ℕ) (t : State) (e : r ≡ Ok (count, t)) where
-      told_and_taken : (Presence.Held ≡ presence_after key (rehash_step s first second entries))
+      told_and_taken : (Ok true ≡ presence_after key (rehash_step s first second entries))
           × (After.after (Ok (count, t)) x y z ≡ rehash_step s first second entries)
       unfolding SteppedBefore
       told_and_taken = rw e at k
 
-      then : StepTaken s first second entries key Presence.Held count t x y z
+      then : StepTaken s first second entries key (Ok true) count t x y z
       then =
-          step_taken_lem s first second entries key Presence.Held
+          step_taken_lem s first second entries key (Ok true)
           record { sound = h; due = f; told = told_and_taken.0 }
           (Ok (count, t)) x y z told_and_taken.1 count t refl
 
@@ -189,7 +189,7 @@ module _ (s : State) (first second entries : List ℕ) (key : ℕ) where
 -- From the current and the other buffer to the lent ones.
 
 -- what is left to a delete, said of another step that comes to the same in other places
-elsewhere : (s : State) (v w : Presence) (a b : After (Result (ℕ × State) Error)) (c o p q entries : List ℕ) (x y x' y' z : List ℕ) → v ≡ w
+elsewhere : (s : State) (v w : Result Bool Error) (a b : After (Result (ℕ × State) Error)) (c o p q entries : List ℕ) (x y x' y' z : List ℕ) → v ≡ w
     → ((m : Result (ℕ × State) Error) → After.after m x y z ≡ a → After.after m x' y' z ≡ b)
     → (x ≡ c → y ≡ o → (x' ≡ p) × (y' ≡ q)) → (r : Taken)
     → Prepared s v a c o entries r x y z → Prepared s w b p q entries r x' y' z
@@ -197,7 +197,7 @@ unfolding Prepared
 elsewhere s v w a b c o p q entries x y x' y' z e there same (Taken.Refused error) k =
     let (l, m) = same k.first_same k.second_same in
     record {
-      told = subst (λ (u : Presence). RefusedFor u error) e k.told;
+      told = subst (λ (u : Result Bool Error). RefusedFor u error) e k.told;
       first_same = l;
       second_same = m;
       entries_same = k.entries_same;

@@ -1,8 +1,7 @@
 -- What is left to a delete where a step comes first, on the lent buffers.
-use Rattle.std.specs.Prelude.{ℕ, ◌≡◌, List, Result, Ok, Err}
+use Rattle.std.specs.Prelude.{ℕ, ◌≡◌, true, List, Result, Ok, Err}
 use Rattle.model.specs.declared.State.{State}
 use Rattle.model.specs.Calls.{After, rehash_step}
-use Rattle.after_step.specs.declared.presence.Presence.{Presence}
 use Rattle.after_step.specs.Presence.{presence_after}
 use Rattle.during_rehash.specs.declared.moving.Taken.{Taken}
 use Rattle.during_rehash.specs.Moving.{Stopped, Prepared}
@@ -18,5 +17,5 @@ unfoldable pub SteppedBefore : State → (first second entries : List ℕ) → �
 SteppedBefore s first second entries key (Err error) x y z =
     Stopped (presence_after key (rehash_step s first second entries)) first second entries error x y z
 SteppedBefore s first second entries key (Ok (count, t)) x y z =
-    (Presence.Held ≡ presence_after key (rehash_step s first second entries))
+    (Ok true ≡ presence_after key (rehash_step s first second entries))
     × (After.after (Ok (count, t)) x y z ≡ rehash_step s first second entries)

@@ -1,7 +1,7 @@
 -- What a rehash step comes to, from its tests and the functions that it calls.
 -- Assumes nothing.
 use Prim.Native.Nat.{ℕ, ◌+◌, ◌*◌, ◌-◌, ◌≤◌, ◌<◌}
-use mathlib.Core.Path.{◌≡◌, sym, ◌∙◌}
+use mathlib.Core.Path.{◌≡◌, refl, sym, ◌∙◌}
 use mathlib.Core.Bool.{Bool, true, false}
 use mathlib.Core.List.{List}
 use mathlib.Core.Option.{Option, some}
@@ -16,16 +16,30 @@ use Rattle.model.specs.declared.Error.{Error}
 use Rattle.model.specs.declared.Ahead.{Ahead}
 use Rattle.model.specs.Limits.{legal_size}
 use Rattle.model.specs.Memory.{size_of, used_of, buckets_of, chain, head_at, budget_at, belongs, chain_at, listed}
-use Rattle.model.specs.Calls.{After, Chains, state_of, old_new, retabled, moved, advanced, finished, settled, step_done, moved_chain, moved_from, ahead, ahead_of, step_taken, stepped}
+use Rattle.model.specs.Calls.{After, Chains, state_of, old_new, retabled, moved, advanced, finished, settled, step_done, moved_chain, moved_from, ahead, ahead_of, step_taken, stepped, rehash_step}
 use Rattle.model.proofs.Soundness.{Sound}
 use Rattle.model.proofs.StepAhead.{filled_below}
 use Rattle.model.proofs.Linked.{Linked, room, read_sound, linked_wider}
 use Rattle.memory.specs.Length.{length_of}
+use Rattle.memory.specs.Lent.{sound_lent}
+use Rattle.memory.proofs.Orientation.{written_first, written_second, writing_sound}
 use Rattle.memory.proofs.Counted.{counted, uncounted}
-use Rattle.dict_rehash.specs.declared.rehash.Progress.{Progress}
-use Rattle.dict_rehash.specs.Progress.{step_answer, step_room, old_chain, OldChain, chains, ChainOf, ChainMoved}
+use Rattle.dict_rehash.specs.declared.rehash.Moved.{Moved}
+use Rattle.dict_rehash.specs.Progress.{step_answer, step_room, did, old_chain, OldChain, chains, ChainOf, ChainMoved}
 use Rattle.dict_rehash.proofs.Due.{is_paused, due_of, stepped_by, due_stepped}
 use Rattle.std.specs.Prelude.{Result, Ok, Err}
+use Rattle.std.specs.Result.{IsErrAnd}
+use Rattle.std.proofs.lemmas.Result.{err_from_is_err_and}
+
+-- ---- the exit of a `?`
+
+module _ (r : Result Moved Error) (x : Error) (h : IsErrAnd r (λ e. e ≡ x)) where
+  exit_is : r ≡ Err x
+  exit_is = let p = err_from_is_err_and r h in rw (p.1, p.2)
+
+  pub exit_room : (s : State) → step_room s r
+  unfolding step_room
+  exit_room s = rw exit_is tt
 
 -- what a sound state says of the two tables during a rehash
 module _ (s : State) (current other entries : ℕ) (h : Sound s current other entries) (e : s.rehashing ≡ true) where
@@ -48,12 +62,11 @@ read_linked test entries capacity budget head ns e fits =
     linked_wider entries capacity (room entries) head ns (omega arith) (read_sound test entries capacity budget head ns e).0
 
 -- the chain of a bucket of the old table, once its entries were counted
--- (the count stands first: where a search has no such count, it ends there)
-pub old_counted : (r : Result ℕ Error) (count : ℕ) → r ≡ Ok count → (s : State) (current entries : List ℕ) (b : ℕ)
-    → r ≡ length_of (old_chain s current entries b) → OldChain s current entries b count
-old_counted r count c s current entries b e =
+pub old_counted : (count : ℕ) (s : State) (current entries : List ℕ) (b : ℕ) → Ok count ≡ length_of (old_chain s current entries b)
+    → OldChain s current entries b count
+old_counted count s current entries b e =
     let o = old_chain s current entries b in
-    let (read, n) = counted r count o c e in
+    let (read, n) = counted (Ok count) count o refl e in
     record { ns = listed o; read = read; counted = n }
 
 module _ (s : State) (current entries : List ℕ) (b count : ℕ) (k : OldChain s current entries b count) where
@@ -71,27 +84,29 @@ module _ (s : State) (current entries : List ℕ) (b count : ℕ) (k : OldChain 
 module _ (s : State) (current other entries : List ℕ) (b : ℕ) where
   moved_by : (c : Option (List ℕ)) (ns : List ℕ) (count : ℕ) (then : Chains) → c ≡ some ns → length ns ≡ count
       → then ≡ moved s.new_size ns (chains other entries)
-      → After.after (step_answer s (Progress.Moved count (b + 1))) (set current b 0) then.buckets then.entries
+      → After.after (step_answer s (did count (b + 1))) (set current b 0) then.buckets then.entries
       ≡ moved_chain s current other entries b c
   unfolding moved_chain step_answer
   moved_by c ns count then ce n t = rw (ce, t, ← n, add-one)
 
-  pub bucket_unsound : (r : Result ℕ Error) (x : Error) → r ≡ length_of (old_chain s current entries b) → r ≡ Err x
-      → After.after (step_answer s (Progress.Refused Error.Damaged)) current other entries
+  pub bucket_unsound : (r : Result Moved Error) (x : Error) → IsErrAnd r (λ e. e ≡ x) → Err x ≡ length_of (old_chain s current entries b)
+      → After.after (step_answer s r) current other entries
       ≡ moved_chain s current other entries b (old_chain s current entries b)
   unfolding moved_chain step_answer
-  bucket_unsound r x e u = rw (uncounted r x (old_chain s current entries b) u e).0
+  bucket_unsound r x h e =
+      let (none_read, damaged) = uncounted (Err x) x (old_chain s current entries b) refl e in
+      rw (none_read, exit_is r x h, damaged)
 
   module _ (count : ℕ) (k : OldChain s current entries b count) (h : Sound s (length current) (length other) (length entries)) where
     pub bucket_moved : (other' entries' : List ℕ)
         → ChainMoved s.new_size (get_or current b 0) (chains other entries) (chains other' entries')
-        → After.after (step_answer s (Progress.Moved count (b + 1))) (set current b 0) other' entries'
+        → After.after (step_answer s (did count (b + 1))) (set current b 0) other' entries'
         ≡ moved_chain s current other entries b (old_chain s current entries b)
     bucket_moved other' entries' m =
         moved_by (old_chain s current entries b) k.ns count (chains other' entries') k.read k.counted
         (m.each k.ns (old_linked s current entries b count k h.entries_fit))
 
-    pub bucket_room : (next : ℕ) → step_room s (Progress.Moved count next)
+    pub bucket_room : (next : ℕ) → step_room s (did count next)
     unfolding step_room
     bucket_room next = let short = count_fits s current entries b count k in (short, omega (arith, h.used_fits))
 
@@ -103,7 +118,7 @@ module _ (s : State) (current other entries : List ℕ) (b : ℕ) where
 
 -- no key has moved
 pub none_moved : (s : State) (current other entries : ℕ) → Sound s current other entries → (next : ℕ)
-    → step_room s (Progress.Moved 0 next)
+    → step_room s (did 0 next)
 unfolding step_room
 none_moved s current other entries h next = (omega arith, omega (arith, h.used_fits))
 
@@ -115,12 +130,12 @@ next_below r buckets from size visits e l b f =
 
 module _ (s : State) (current other entries : List ℕ) (r o : Ahead) (f : r ≡ o) where
   pub next_end : r ≡ Ahead.End
-      → After.after (step_answer s (Progress.Refused Error.Damaged)) current other entries ≡ moved_from s current other entries o
+      → After.after (step_answer s (Err Error.Damaged)) current other entries ≡ moved_from s current other entries o
   unfolding moved_from step_answer
   next_end e = rw (← f, e)
 
   pub next_empty : (b : ℕ) → r ≡ Ahead.Empty b
-      → After.after (step_answer s (Progress.Moved 0 b)) current other entries ≡ moved_from s current other entries o
+      → After.after (step_answer s (did 0 b)) current other entries ≡ moved_from s current other entries o
   unfolding moved_from step_answer
   next_empty b e = rw (← f, e)
 
@@ -133,7 +148,7 @@ module _ (s : State) (current other entries : List ℕ) (r o : Ahead) (f : r ≡
 
 module _ (s : State) (current other entries : List ℕ) where
   pub step_finished : s.old_used ≡ 0
-      → After.after (step_answer s (Progress.Moved 0 s.rehash_index)) current other entries ≡ step_taken s current other entries
+      → After.after (step_answer s (did 0 s.rehash_index)) current other entries ≡ step_taken s current other entries
   unfolding step_taken step_answer
   step_finished z = rw (eq-eqb s.old_used 0 z)
 
@@ -146,13 +161,13 @@ module _ (s : State) (current other entries : List ℕ) where
 
 module _ (s : State) (current other entries : List ℕ) where
   pub step_resting : s.rehashing ≡ false
-      → After.after (step_answer s (Progress.Refused Error.NotRehashing)) current other entries
+      → After.after (step_answer s (Err Error.NotRehashing)) current other entries
       ≡ stepped s current other entries s.rehashing
   unfolding stepped step_answer
   step_resting p = rw p
 
   pub step_paused : s.rehashing ≡ true → (s.safe_iterators ≡ 0 → ⊥)
-      → After.after (step_answer s (Progress.Refused Error.Paused)) current other entries
+      → After.after (step_answer s (Err Error.Paused)) current other entries
       ≡ stepped s current other entries s.rehashing
   unfolding step_answer
   step_paused p i = stepped_by s current other entries p true (is_paused s i)
@@ -160,6 +175,20 @@ module _ (s : State) (current other entries : List ℕ) where
   pub step_due_lem : (a : After (Result (ℕ × State) Error)) → s.rehashing ≡ true → s.safe_iterators ≡ 0 → a ≡ step_taken s current other entries
       → a ≡ stepped s current other entries s.rehashing
   step_due_lem a p i d = d ∙ due_stepped s (due_of s p i) current other entries
+
+-- ---- on the lent buffers
+
+module _ (s : State) (first second entries : List ℕ) (h : sound_lent (length first) (length second) (length entries) s ≡ true)
+    (m : Result (ℕ × State) Error) (x y e : List ℕ) where
+  pub step_first : s.second_is_current ≡ false → After.after m x y e ≡ stepped s first second entries s.rehashing
+      → After.after m x y e ≡ rehash_step s first second entries
+  unfolding rehash_step
+  step_first f d = writing_sound s first second entries true (sym h) _ _ _ refl (written_first _ _ first second m x y e f d)
+
+  pub step_second : s.second_is_current ≡ true → After.after m x y e ≡ stepped s second first entries s.rehashing
+      → After.after m y x e ≡ rehash_step s first second entries
+  unfolding rehash_step
+  step_second f d = writing_sound s first second entries true (sym h) _ _ _ refl (written_second _ _ first second m x y e f d)
 
 -- ---- the state then
 
@@ -175,25 +204,22 @@ module _ (s : State) (count next : ℕ) where
 
 -- ---- the answer, once it is known what happened
 
-module _ (s : State) (m : Progress) (x y e : List ℕ) (meant : After (Result (ℕ × State) Error))
-    (d : After.after (step_answer s m) x y e ≡ meant) where
-  pub answered_refused : (error : Error) → m ≡ Progress.Refused error
-      → After.after (Err error) x y e ≡ meant
+module _ (s : State) (x y e : List ℕ) (meant : After (Result (ℕ × State) Error)) where
+  pub answered_refused : (r : Result (ℕ × State) Error) (error : Error) → IsErrAnd r (λ e. e ≡ error)
+      → After.after (step_answer s (Err error)) x y e ≡ meant → After.after r x y e ≡ meant
   unfolding step_answer
-  answered_refused error h = rw (← d, h)
+  answered_refused r error h d = let p = err_from_is_err_and r h in rw (p.1, p.2) d
 
-  pub answered_moved : (count next : ℕ) (t : State) → m ≡ Progress.Moved count next → t ≡ settled (advanced s count next)
-      → After.after (Ok (count, t)) x y e ≡ meant
+  pub answered_moved : (v : Moved) (t : State) → After.after (step_answer s (Ok v)) x y e ≡ meant
+      → t ≡ settled (advanced s v.count v.next) → After.after (Ok (v.count, t)) x y e ≡ meant
   unfolding step_answer step_done
-  answered_moved count next t h k = rw (← d, h, k)
+  answered_moved v t d k = rw k d
 
-module _ (s : State) (m : Progress) (count next : ℕ) (h : m ≡ Progress.Moved count next) (r : step_room s m) where
-  moved_room : (count ≤ s.old_used) × (s.new_used + count ≤ s.capacity)
+module _ (s : State) (v : Moved) (r : step_room s (Ok v)) where
+  pub moved_old : v.count ≤ s.old_used
   unfolding step_room
-  moved_room = rw h at r
+  moved_old = r.0
 
-  pub moved_old : count ≤ s.old_used
-  moved_old = moved_room.0
-
-  pub moved_new : s.new_used + count ≤ s.capacity
-  moved_new = moved_room.1
+  pub moved_new : s.new_used + v.count ≤ s.capacity
+  unfolding step_room
+  moved_new = r.1

@@ -1,5 +1,5 @@
 -- The answer of a rehash step, from what happened to the buffers.
-use Rattle.std.specs.Prelude.{ℕ, ◌+◌, ◌≤◌, ◌≡◌, List, length, Result, Err}
+use Rattle.std.specs.Prelude.{ℕ, ◌+◌, ◌≤◌, ◌≡◌, List, length, Result, Ok, Err}
 use Rattle.std.proofs.Math.Option.{Option, some}
 use Rattle.model.specs.declared.State.{State}
 use Rattle.model.specs.Keys.{bucket_of}
@@ -7,17 +7,21 @@ use Rattle.model.specs.Memory.{link_of, key_of}
 use Rattle.model.specs.Calls.{Chains, push, moved, step_done}
 use Rattle.model.proofs.Linked.{Linked, room}
 use Rattle.memory.specs.Length.{bucket_chain}
-use Rattle.dict_rehash.specs.declared.rehash.Progress.{Progress}
+use Rattle.dict_rehash.specs.declared.rehash.Moved.{Moved}
 use Rattle.model.specs.declared.Error.{Error}
 
-unfoldable pub step_answer : State → Progress → Result (ℕ × State) Error
-step_answer s (Progress.Refused e) = Err e
-step_answer s (Progress.Moved count next) = step_done s count next
+unfoldable pub step_answer : State → Result Moved Error → Result (ℕ × State) Error
+step_answer s (Err e) = Err e
+step_answer s (Ok m) = step_done s m.count m.next
 
 -- the counts that change stay in range
-unfoldable pub step_room : State → Progress → Type 0
-step_room s (Progress.Refused e) = Unit {0}
-step_room s (Progress.Moved count next) = (count ≤ s.old_used) × (s.new_used + count ≤ s.capacity)
+unfoldable pub step_room : State → Result Moved Error → Type 0
+step_room s (Err e) = Unit {0}
+step_room s (Ok m) = (m.count ≤ s.old_used) × (s.new_used + m.count ≤ s.capacity)
+
+-- so many keys have moved, and that bucket is the next one
+abbrev pub did : ℕ → ℕ → Result Moved Error
+did count next = Ok (record { count = count; next = next })
 
 -- the chain of bucket b of the old table
 abbrev pub old_chain : State → List ℕ → List ℕ → ℕ → Option (List ℕ)

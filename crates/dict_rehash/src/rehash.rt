@@ -1,23 +1,24 @@
 // One step of a rehash (SPECIFICATION, "Step").
-ghost use Rattle.std.specs.Prelude.{◌≡◌, true, ◌+◌, ◌-◌, ◌*◌, ◌≤◌, ◌<◌, length, Err};
-ghost use Rattle.model.specs.declared.Error.TheVariants as why;
+ghost use Rattle.std.specs.Prelude.{◌≡◌, true, ◌+◌, ◌-◌, ◌*◌, ◌≤◌, ◌<◌, length, Ok};
 ghost use Rattle.model.specs.Limits.{legal_size, empty_visits};
 ghost use Rattle.model.specs.Calls as calls;
 ghost use Rattle.model.specs.Calls.After.{after};
 ghost use Rattle.model.proofs.Soundness.{Sound};
+ghost use Rattle.memory.specs.Lent.{sound_lent};
 ghost use Rattle.dict_rehash.specs.Progress.{step_answer, step_room, old_chain, chains, OldChain, ChainOf, ChainMoved, EntryMoved};
 
 use memory::chain::chain_length;
 use memory::entry::{key_of, link_of, set_link};
-use memory::state::{bucket_index, is_sound};
+use memory::state::{bucket_index, require_sound};
 use model::{Ahead, EMPTY_VISITS, Error, State};
 
-// What happened to the buffers, in numbers: the public call makes the answer of it, and a call that takes a step first its own.
+// What a step did to the buffers, in numbers: the public call makes its answer of it, and a call that takes a step first its own.
 #[derive(Clone, Copy)]
-pub enum Progress {
-    Refused(Error),
-    // So many keys have moved, and this bucket is the next one.
-    Moved(u32, u32),
+pub struct Moved {
+    // How many keys have moved.
+    pub count: u32,
+    // The bucket of the old table that is the next one.
+    pub next: u32,
 }
 
 // What comes from that bucket on in a table of that size: a step passes only so many empty buckets, and must then see one
@@ -26,20 +27,14 @@ pub fn look_ahead(buckets: &[u32], from: u32, size: u32) -> Ahead
     requires { (from ≤ size) × (size ≤ length buckets.now) }
     ensures { result ≡ calls.ahead buckets.now from (size - from) empty_visits }
 {
-    let mut b = from;
-    for _ in 0..EMPTY_VISITS {
-        if b >= size {
-            return Ahead::End;
-        }
-        if buckets[b as usize] != 0 {
-            return Ahead::Filled(b);
-        }
-        b += 1;
-    }
-    if b < size {
-        Ahead::Empty(b)
-    } else {
-        Ahead::End
+    let end = from + EMPTY_VISITS.min(size - from);
+    match buckets[from as usize..end as usize]
+        .iter()
+        .position(|head| *head != 0)
+    {
+        Some(passed) => Ahead::Filled(from + passed as u32),
+        None if end < size => Ahead::Empty(end),
+        None => Ahead::End,
     }
 }
 
@@ -81,21 +76,19 @@ pub fn move_counted(
     s: State,
     b: u32,
     count: u32,
-) -> Progress
+) -> Moved
     requires sound { Sound s (length current.old) (length other.old) (length entries.old) }
     requires rehashing { (s.rehashing ≡ true) × (b < s.old_size) }
     requires old_chain { OldChain s current.old entries.old b count }
-    ensures outcome { after (step_answer s result) current.new other.new entries.new
+    ensures outcome { after (step_answer s (Ok result)) current.new other.new entries.new
         ≡ calls.moved_chain s current.old other.old entries.old b
         (old_chain s current.old entries.old b) }
-    ensures step_room { step_room s result }
+    ensures step_room { step_room s (Ok result) }
 {
     let index = b as usize;
-    let head = current[index];
-    move_chain(other, entries, s.new_size, head, count);
+    move_chain(other, entries, s.new_size, current[index], count);
     current[index] = 0;
-    let next = b + 1;
-    Progress::Moved(count, next)
+    Moved { count, next: b + 1 }
 }
 
 // The chain of bucket b of the old table. It is read once to test it, so that a refusal leaves the buffers as they were, and
@@ -106,7 +99,7 @@ fn move_bucket(
     entries: &mut [u32],
     s: State,
     b: u32,
-) -> Progress
+) -> Result<Moved, Error>
     requires sound { Sound s (length current.old) (length other.old) (length entries.old) }
     requires rehashing { (s.rehashing ≡ true) × (b < s.old_size) }
     ensures outcome { after (step_answer s result) current.new other.new entries.new
@@ -116,16 +109,18 @@ fn move_bucket(
 {
     let index = b as usize;
     let head = current[index];
-    let length = chain_length(entries, s.capacity, s.old_used, head, s.old_size, index);
-    match length {
-        Err(_) => Progress::Refused(Error::Damaged),
-        Ok(count) => move_counted(current, other, entries, s, b, count),
-    }
+    let count = chain_length(entries, s.capacity, s.old_used, head, s.old_size, index)?;
+    Ok(move_counted(current, other, entries, s, b, count))
 }
 
 // The first filled bucket from the next one on is the one that moves, unless as many empty ones come first as a step passes.
 // The old table holds keys, so if its end comes first it is damaged.
-fn move_next(current: &mut [u32], other: &mut [u32], entries: &mut [u32], s: State) -> Progress
+fn move_next(
+    current: &mut [u32],
+    other: &mut [u32],
+    entries: &mut [u32],
+    s: State,
+) -> Result<Moved, Error>
     requires sound { Sound s (length current.old) (length other.old) (length entries.old) }
     requires rehashing { s.rehashing ≡ true }
     ensures outcome { after (step_answer s result) current.new other.new entries.new
@@ -133,16 +128,20 @@ fn move_next(current: &mut [u32], other: &mut [u32], entries: &mut [u32], s: Sta
         (calls.ahead_of s current.old) }
     ensures step_room { step_room s result }
 {
-    let ahead = look_ahead(current, s.rehash_index, s.old_size);
-    match ahead {
+    match look_ahead(current, s.rehash_index, s.old_size) {
         Ahead::Filled(b) => move_bucket(current, other, entries, s, b),
-        Ahead::Empty(b) => Progress::Moved(0, b),
-        Ahead::End => Progress::Refused(Error::Damaged),
+        Ahead::Empty(b) => Ok(Moved { count: 0, next: b }),
+        Ahead::End => Err(Error::Damaged),
     }
 }
 
 // During a rehash that no safe iterator holds up. With no keys in the old table the step only ends the rehash.
-fn take_step(current: &mut [u32], other: &mut [u32], entries: &mut [u32], s: State) -> Progress
+fn take_step(
+    current: &mut [u32],
+    other: &mut [u32],
+    entries: &mut [u32],
+    s: State,
+) -> Result<Moved, Error>
     requires sound { Sound s (length current.old) (length other.old) (length entries.old) }
     requires rehashing { s.rehashing ≡ true }
     ensures outcome { after (step_answer s result) current.new other.new entries.new
@@ -150,36 +149,44 @@ fn take_step(current: &mut [u32], other: &mut [u32], entries: &mut [u32], s: Sta
     ensures step_room { step_room s result }
 {
     if s.old_used == 0 {
-        Progress::Moved(0, s.rehash_index)
+        Ok(Moved {
+            count: 0,
+            next: s.rehash_index,
+        })
     } else {
         move_next(current, other, entries, s)
     }
 }
 
-// On the current and the other bucket buffer: the tests in the order of the answers.
-fn step_in(current: &mut [u32], other: &mut [u32], entries: &mut [u32], s: State) -> Progress
+// On the current and the other bucket buffer of a sound state: the tests in the order of the answers.
+fn step_in(
+    current: &mut [u32],
+    other: &mut [u32],
+    entries: &mut [u32],
+    s: State,
+) -> Result<Moved, Error>
+    requires { Sound s (length current.old) (length other.old) (length entries.old) }
     ensures outcome { after (step_answer s result) current.new other.new entries.new
-        ≡ calls.checked s entries.old (λ c o. after (Err why.BadState) c o entries.old)
-        (λ c o. calls.stepped s c o entries.old s.rehashing) current.old other.old }
+        ≡ calls.stepped s current.old other.old entries.old s.rehashing }
     ensures step_room { step_room s result }
 {
-    if is_sound(current.len(), other.len(), entries.len(), s) {
-        if s.rehashing {
-            if s.safe_iterators == 0 {
-                take_step(current, other, entries, s)
-            } else {
-                Progress::Refused(Error::Paused)
-            }
-        } else {
-            Progress::Refused(Error::NotRehashing)
-        }
-    } else {
-        Progress::Refused(Error::BadState)
+    if !s.rehashing {
+        return Err(Error::NotRehashing);
     }
+    if s.safe_iterators != 0 {
+        return Err(Error::Paused);
+    }
+    take_step(current, other, entries, s)
 }
 
 // The state says which of the lent buffers is the current one.
-fn step_oriented(first: &mut [u32], second: &mut [u32], entries: &mut [u32], s: State) -> Progress
+fn step_oriented(
+    first: &mut [u32],
+    second: &mut [u32],
+    entries: &mut [u32],
+    s: State,
+) -> Result<Moved, Error>
+    requires { sound_lent (length first.old) (length second.old) (length entries.old) s ≡ true }
     ensures outcome { after (step_answer s result) first.new second.new entries.new
         ≡ calls.rehash_step s first.old second.old entries.old }
     ensures step_room { step_room s result }
@@ -227,9 +234,7 @@ pub fn rehash_step(
     ensures { after result first.new second.new entries.new
         ≡ calls.rehash_step s first.old second.old entries.old }
 {
-    let progress = step_oriented(first, second, entries, s);
-    match progress {
-        Progress::Refused(e) => Err(e),
-        Progress::Moved(count, next) => Ok((count, state_after(s, count, next))),
-    }
+    require_sound(first.len(), second.len(), entries.len(), s)?;
+    let Moved { count, next } = step_oriented(first, second, entries, s)?;
+    Ok((count, state_after(s, count, next)))
 }

@@ -19,15 +19,14 @@ use Rattle.model.proofs.StepLeaves.{Follows, StepLeaves, step_leaves}
 use Rattle.memory.specs.Lent.{sound_lent}
 use Rattle.memory.proofs.Orientation.{writing_sound}
 use Rattle.search.specs.Tables.{lookup_lent, Readable}
-use Rattle.dict_rehash.specs.declared.rehash.Progress.{Progress}
 use Rattle.dict_rehash.specs.Progress.{step_answer, step_room}
+use Rattle.dict_rehash.specs.declared.rehash.Moved.{Moved}
 use Rattle.dict_rehash.proofs.Due.{due_rehashing, due_unpaused, due_stepped}
 use Rattle.dict_rehash.proofs.Stepping.{moved_old, moved_new}
-use Rattle.after_step.specs.declared.presence.Presence.{Presence}
 use Rattle.after_step.specs.Presence.{presence, presence_after, presence_then, entries_after}
 use Rattle.after_step.specs.Course.{Course}
 use Rattle.after_step.specs.Planned.{Planned}
-use Rattle.after_step.proofs.StepFirst.{is_absent, StepTaken, then_damaged, step_taken_lem, first_done, first_refused}
+use Rattle.after_step.proofs.StepFirst.{is_absent, damage_then, StepTaken, step_taken_lem, first_done, first_refused}
 use Rattle.during_rehash.specs.Counts.{one_more}
 use Rattle.during_rehash.specs.declared.moving.Taken.{Taken}
 use Rattle.during_rehash.specs.Moving.{first_of, second_of, add_moving, moved_state, taken_answer, taken_room, Comes, Plan, Room, Takes}
@@ -109,9 +108,9 @@ room_then s room t o e = room (sym o.keys ∙ e ∙ o.capacity)
 
 module _ (s : State) (current other entries : List ℕ) (key value : ℕ) where
   -- the number that the call alone gives on what any answered step leaves
-  refuses_with : (h : Sound s (length current) (length other) (length entries)) → step_due s ≡ true → (v : Presence)
+  refuses_with : (h : Sound s (length current) (length other) (length entries)) → step_due s ≡ true → (v : Result Bool Error)
       → v ≡ presence_then key s.second_is_current (step_taken s current other entries) → (error : Error)
-      → (v ≡ Presence.Damaged → error ≡ Error.Damaged)
+      → (v ≡ (Err Error.Damaged) → error ≡ Error.Damaged)
       → ((t : State) (z : List ℕ) (l : Lookup) → Follows s t → z ≡ entries_after (step_taken s current other entries) → v ≡ presence l
       → add_answer t z l ≡ Err error)
       → Comes s current other entries key value (Taken.Refused error) current other entries
@@ -129,13 +128,14 @@ module _ (s : State) (current other entries : List ℕ) (key value : ℕ) where
         room = tt;
       }
 
-  module _ (h : Sound s (length current) (length other) (length entries)) (e : step_due s ≡ true) (v : Presence)
+  module _ (h : Sound s (length current) (length other) (length entries)) (e : step_due s ≡ true) (v : Result Bool Error)
       (k : v ≡ presence_then key s.second_is_current (step_taken s current other entries)) where
-    pub add_damaged : v ≡ Presence.Damaged
-        → Comes s current other entries key value (Taken.Refused Error.Damaged) current other entries
-    add_damaged d = refuses_with h e v k Error.Damaged (λ f. refl) (λ t z l o q w. told_damaged t z l (sym d ∙ w))
+    pub add_damaged : (x : Error) → v ≡ Err x → Comes s current other entries key value (Taken.Refused x) current other entries
+    add_damaged x d =
+        let damaged = damage_then key s.second_is_current (step_taken s current other entries) x (sym d ∙ k) in
+        refuses_with h e v k x (λ f. damaged) (λ t z l o q w. told_damaged t z l (ap Err (sym damaged) ∙ sym d ∙ w) ∙ ap Err (sym damaged))
 
-    pub add_present : v ≡ Presence.Held
+    pub add_present : v ≡ (Ok true)
         → Comes s current other entries key value (Taken.Refused Error.Present) current other entries
     add_present d =
         refuses_with h e v k Error.Present (λ f. let z : ◌≡◌ {A = ℕ} 0 1 = cc in absurd (omega arith))
@@ -148,7 +148,7 @@ module _ (s : State) (current other entries : List ℕ) (key value : ℕ) where
         → add_answer t (entries_after (step_taken s current other entries)) Lookup.Absent ≡ Err error)
         → Comes s current other entries key value (Taken.Refused error) current other entries
     refuses error each =
-        refuses_with k.sound k.due Presence.Absent k.absent error
+        refuses_with k.sound k.due (Ok false) k.absent error
         (λ f. let z : ◌≡◌ {A = ℕ} 0 1 = cc in absurd (omega arith))
         (λ t z l o q w.
         ap (add_answer t z) (is_absent l w) ∙ ap (λ (y : List ℕ). add_answer t y Lookup.Absent) q ∙ each t o)
@@ -249,8 +249,8 @@ counts_then s count next t h l e = subst Counted (sym e) (by (eqb (advanced s co
     by false = record { held_fit = omega (arith, h.held_fit); capacity_limit = h.capacity_limit }
 
 module _ (s : State) (current other entries : List ℕ) (key value link : ℕ) (course : Course)
-    (k : Takes s current other entries key course link) (r : Progress) (c o z : List ℕ)
-    (Taken_step : After.after (step_answer s r) c o z ≡ step_taken s current other entries) where
+    (k : Takes s current other entries key course link) (r : Moved) (c o z : List ℕ)
+    (Taken_step : After.after (step_answer s (Ok r)) c o z ≡ step_taken s current other entries) where
   abbrev plan : Plan s current other entries key course
   plan = k.room.plan
 
@@ -262,7 +262,7 @@ module _ (s : State) (current other entries : List ℕ) (key value link : ℕ) (
   abbrev y : List ℕ
   y = second_of s.second_is_current c o
 
-  planned : Planned s (first s current other entries) (second s current other entries) entries key Presence.Absent
+  planned : Planned s (first s current other entries) (second s current other entries) entries key (Ok false)
   unfolding presence_then
   planned =
       record {
@@ -271,81 +271,70 @@ module _ (s : State) (current other entries : List ℕ) (key value link : ℕ) (
         told = plan.absent ∙ ap (presence_after key) (lent_step s current other entries plan.sound plan.due);
       }
 
-  lent_taken : After.after (step_answer s r) x y z ≡ rehash_step s (first s current other entries) (second s current other entries) entries
+  lent_taken : After.after (step_answer s (Ok r)) x y z ≡ rehash_step s (first s current other entries) (second s current other entries) entries
   lent_taken =
-      sym (lent_of s.second_is_current (step_answer s r) c o z)
+      sym (lent_of s.second_is_current (step_answer s (Ok r)) c o z)
       ∙ ap (back s.second_is_current) Taken_step
       ∙ lent_step s current other entries plan.sound plan.due
 
-  -- no step refuses a key that was told to be absent
-  pub add_stopped : (error : Error) → r ≡ Progress.Refused error → ⊥
-  unfolding step_answer
-  add_stopped error d =
-      let none =
-      then_damaged s (first s current other entries) (second s current other entries) entries key Presence.Absent planned
-      (step_answer s r) x y z lent_taken error (ap (step_answer s) d) in
-      let z : ◌≡◌ {A = ℕ} 0 1 = cc in
-      omega arith
+  pub other_readable : Readable s.new_size (length o) s.free_head (length z)
+  unfolding StepLeaves step_answer step_done
+  other_readable =
+      let then : StepLeaves s current other entries (After.after (step_answer s (Ok r)) c o z) =
+      subst (StepLeaves s current other entries) (sym Taken_step)
+      (taken_leaves s current other entries plan.sound plan.due) in
+      let new = plan.sound.rehashing (due_rehashing s plan.due) in
+      record {
+        size_legal = new.new_legal;
+        buckets_fit = omega (arith, then.1);
+        entries_fit = omega (arith, then.2, plan.sound.entries_fit, plan.sound.free_fits);
+      }
 
-  module _ (count next : ℕ) (d : r ≡ Progress.Moved count next) where
-    pub other_readable : Readable s.new_size (length o) s.free_head (length z)
-    unfolding StepLeaves step_answer step_done
-    other_readable =
-        let then : StepLeaves s current other entries (After.after (step_answer s (Progress.Moved count next)) c o z) =
-        subst (StepLeaves s current other entries) (sym (rw d at Taken_step))
-        (taken_leaves s current other entries plan.sound plan.due) in
-        let new = plan.sound.rehashing (due_rehashing s plan.due) in
-        record {
-          size_legal = new.new_legal;
-          buckets_fit = omega (arith, then.1);
-          entries_fit = omega (arith, then.2, plan.sound.entries_fit, plan.sound.free_fits);
-        }
+  abbrev t : State
+  t = settled (advanced s r.count r.next)
 
-    abbrev t : State
-    t = settled (advanced s count next)
+  answered : step_answer s (Ok r) ≡ Ok (r.count, t)
+  unfolding step_answer step_done
+  answered = refl
 
-    answered : step_answer s r ≡ Ok (count, t)
-    unfolding step_answer step_done
-    answered = rw d
+  world : StepTaken s (first s current other entries) (second s current other entries) entries key (Ok false) r.count t x y z
+  world =
+      step_taken_lem s (first s current other entries) (second s current other entries) entries key (Ok false) planned
+      (step_answer s (Ok r)) x y z lent_taken r.count t answered
 
-    world : StepTaken s (first s current other entries) (second s current other entries) entries key Presence.Absent count t x y z
-    world =
-        step_taken_lem s (first s current other entries) (second s current other entries) entries key Presence.Absent planned
-        (step_answer s r) x y z lent_taken count t answered
+  link_then : link ≡ link_of z t.free_head
+  unfolding entries_after
+  link_then = rw (world.follows.free, ap entries_after Taken_step) k.link_then
 
-    link_then : link ≡ link_of z t.free_head
-    unfolding entries_after
-    link_then = rw (world.follows.free, ap entries_after Taken_step) k.link_then
+  takes : takeable t z ≡ true
+  takes =
+      let free = world.follows.free in
+      let some = k.room.some_free in
+      good_link t z (omega arith) (rw (← link_then, world.follows.capacity) k.link_fits)
 
-    takes : takeable t z ≡ true
-    takes =
-        let free = world.follows.free in
-        let some = k.room.some_free in
-        good_link t z (omega arith) (rw (← link_then, world.follows.capacity) k.link_fits)
+  -- an add alone there takes the entry
+  alone : pushed_lent t x y z key value ≡ add_alone t x y z key value
+  alone =
+      alone_pushes t x y z key value world.sound (is_absent (lookup_lent t x y z key) world.told)
+      (room_then s k.room.not_full t world.follows) takes
 
-    -- an add alone there takes the entry
-    alone : pushed_lent t x y z key value ≡ add_alone t x y z key value
-    alone =
-        alone_pushes t x y z key value world.sound (is_absent (lookup_lent t x y z key) world.told)
-        (room_then s k.room.not_full t world.follows) takes
-
-    pub add_taken : step_room s r → (b w : List ℕ) → b ≡ set o (bucket_of key s.new_size) s.free_head
-        → w ≡ set_entry z s.free_head (get_or o (bucket_of key s.new_size) 0) key value
-        → Comes s current other entries key value (Taken.Stepped count next link) c b w
-    unfolding taken_answer taken_room add_moving moved_state add_after_step is_added
-    add_taken fits b w be we =
-        let f = s.second_is_current in
-        let a = Ok (moved_state s count next link) in
-        let here : After.after a c b w ≡ back f (pushed_lent t x y z key value) =
-        rw (be, we)
-        (pushed_with t c o z key value f s.new_size s.free_head link (settled_targets s count next) (sym world.follows.free) link_then) in
-        let there = sym (lent_of f a c b w) ∙ ap (back f) here ∙ twice_back f (pushed_lent t x y z key value) in
-        record {
-          same =
-              lent_back f a c b w
-              ∙ ap (back f)
-              (first_done Err is_added (λ t x y z. add_alone t x y z key value) s (first s current other entries)
-              (second s current other entries) entries plan.due count t x y z a (first_of f c b) (second_of f c b) w world.step
-              (there ∙ alone) refl);
-          room = (moved_old s r count next d fits, moved_new s r count next d fits);
-        }
+  pub add_taken : step_room s (Ok r) → (b w : List ℕ) → b ≡ set o (bucket_of key s.new_size) s.free_head
+      → w ≡ set_entry z s.free_head (get_or o (bucket_of key s.new_size) 0) key value
+      → Comes s current other entries key value (Taken.Stepped r.count r.next link) c b w
+  unfolding taken_answer taken_room add_moving moved_state add_after_step is_added
+  add_taken fits b w be we =
+      let f = s.second_is_current in
+      let a = Ok (moved_state s r.count r.next link) in
+      let here : After.after a c b w ≡ back f (pushed_lent t x y z key value) =
+      rw (be, we)
+      (pushed_with t c o z key value f s.new_size s.free_head link (settled_targets s r.count r.next) (sym world.follows.free) link_then) in
+      let there = sym (lent_of f a c b w) ∙ ap (back f) here ∙ twice_back f (pushed_lent t x y z key value) in
+      record {
+        same =
+            lent_back f a c b w
+            ∙ ap (back f)
+            (first_done Err is_added (λ t x y z. add_alone t x y z key value) s (first s current other entries)
+            (second s current other entries) entries plan.due r.count t x y z a (first_of f c b) (second_of f c b) w world.step
+            (there ∙ alone) refl);
+        room = (moved_old s r fits, moved_new s r fits);
+      }

@@ -17,7 +17,6 @@ use Rattle.model.specs.Calls.{After, oriented, back, changed, lookup, pushed, ta
 use Rattle.memory.specs.Lent.{sound_lent}
 use Rattle.memory.proofs.Orientation.{writing_sound}
 use Rattle.search.specs.Tables.{lookup_lent}
-use Rattle.after_step.specs.declared.presence.Presence.{Presence}
 use Rattle.after_step.specs.Presence.{presence}
 use Rattle.after_step.proofs.StepFirst.{answer_of, answer_by, is_damaged, is_held}
 use Rattle.during_rehash.specs.Counts.{one_more}
@@ -57,12 +56,12 @@ module _ (s : State) (x y z : List ℕ) (key value : ℕ) where
 
 -- what was told of the key says as much
 
-pub told_damaged : (s : State) (z : List ℕ) (l : Lookup) → Presence.Damaged ≡ presence l
+pub told_damaged : (s : State) (z : List ℕ) (l : Lookup) → (Err Error.Damaged) ≡ presence l
     → add_answer s z l ≡ Err Error.Damaged
 unfolding add_answer
 told_damaged s z l e = ap (add_answer s z) (is_damaged l e)
 
-pub told_held : (s : State) (z : List ℕ) (l : Lookup) → Presence.Held ≡ presence l
+pub told_held : (s : State) (z : List ℕ) (l : Lookup) → (Ok true) ≡ presence l
     → add_answer s z l ≡ Err Error.Present
 unfolding add_answer
 told_held s z l e = ap (add_answer s z) (is_held l e).3

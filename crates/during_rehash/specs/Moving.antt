@@ -1,14 +1,12 @@
 -- Add and delete during a rehash, as the functions below the public calls promise them: on the current and the other bucket
 -- buffer. And what is known where a step and the call behind it are answered.
-use Rattle.std.specs.Prelude.{ℕ, ◌+◌, ◌≤◌, ◌<◌, ◌≡◌, Bool, true, cond, List, length, eqb, Result, Ok, Err}
+use Rattle.std.specs.Prelude.{ℕ, ◌+◌, ◌≤◌, ◌<◌, ◌≡◌, Bool, true, false, cond, List, length, eqb, Result, Ok, Err}
 use Rattle.model.specs.declared.State.{State}
 use Rattle.model.specs.declared.Error.{Error}
 use Rattle.model.specs.Memory.{link_of}
 use Rattle.model.specs.Calls.{After, oriented, back, target, advanced, settled, moved_chain, step_taken, step_due, add_after_step}
 use Rattle.model.proofs.Soundness.{Sound}
-use Rattle.dict_rehash.specs.declared.rehash.Progress.{Progress}
-use Rattle.dict_rehash.specs.Progress.{step_answer, step_room, old_chain}
-use Rattle.after_step.specs.declared.presence.Presence.{Presence}
+use Rattle.dict_rehash.specs.Progress.{step_answer, step_room, did, old_chain}
 use Rattle.after_step.specs.Course.{Course}
 use Rattle.after_step.specs.Presence.{presence_then, entries_after}
 use Rattle.after_step.specs.Told.{Moves}
@@ -54,26 +52,26 @@ pub record Comes (s : State) (current other entries : List ℕ) (key value : ℕ
   pub room : taken_room s r
 
 -- what a delete is refused for, by what a lookup answers once the step is taken
-unfoldable pub RefusedFor : Presence → Error → Type 0
-RefusedFor Presence.Damaged error = error ≡ Error.Damaged
-RefusedFor Presence.Absent error = error ≡ Error.Absent
-RefusedFor Presence.Held error = ⊥
+unfoldable pub RefusedFor : Result Bool Error → Error → Type 0
+RefusedFor (Err e) error = error ≡ e
+RefusedFor (Ok false) error = error ≡ Error.Absent
+RefusedFor (Ok true) error = ⊥
 
 -- What is left to a delete, where the step is `a` and a lookup answers `v` once it is taken: it is refused for that, and all is as
 -- it was ..
-pub record Stopped (v : Presence) (first second entries : List ℕ) (error : Error) (x y z : List ℕ) : Type 0 where
+pub record Stopped (v : Result Bool Error) (first second entries : List ℕ) (error : Error) (x y z : List ℕ) : Type 0 where
   pub told : RefusedFor v error
   pub first_same : x ≡ first
   pub second_same : y ≡ second
   pub entries_same : z ≡ entries
 
 -- .. or the key is held then, and the step is taken
-pub record Ready (s : State) (v : Presence) (a : After (Result (ℕ × State) Error)) (count next : ℕ) (x y z : List ℕ) : Type 0 where
-  pub told : Presence.Held ≡ v
-  pub step : After.after (step_answer s (Progress.Moved count next)) x y z ≡ a
-  pub room : step_room s (Progress.Moved count next)
+pub record Ready (s : State) (v : Result Bool Error) (a : After (Result (ℕ × State) Error)) (count next : ℕ) (x y z : List ℕ) : Type 0 where
+  pub told : Ok true ≡ v
+  pub step : After.after (step_answer s (did count next)) x y z ≡ a
+  pub room : step_room s (did count next)
 
-unfoldable pub Prepared : State → Presence → After (Result (ℕ × State) Error) → (first second entries : List ℕ) → Taken → (x y z : List ℕ) → Type 0
+unfoldable pub Prepared : State → Result Bool Error → After (Result (ℕ × State) Error) → (first second entries : List ℕ) → Taken → (x y z : List ℕ) → Type 0
 Prepared s v a first second entries (Taken.Refused error) x y z = Stopped v first second entries error x y z
 Prepared s v a first second entries (Taken.Pushed free) x y z = ⊥
 Prepared s v a first second entries (Taken.Stepped count next free) x y z = Ready s v a count next x y z
@@ -89,11 +87,10 @@ unfoldable pub Meets : State → (current other entries : List ℕ) → ℕ → 
 Meets s current other entries key (Purpose.Add value) r x y z = Comes s current other entries key value r x y z
 Meets s current other entries key Purpose.Delete r x y z = step_due s ≡ true → PreparedIn s current other entries key r x y z
 
--- whether the first free entry may be taken, by what a lookup answers once the step is taken
-unfoldable pub verdict_of : State → Presence → Verdict
-verdict_of s Presence.Damaged = Verdict.Refused Error.Damaged
-verdict_of s Presence.Held = Verdict.Refused Error.Present
-verdict_of s Presence.Absent =
+-- whether the first free entry may be taken, by whether the key is held once the step is taken
+unfoldable pub verdict_of : State → Bool → Verdict
+verdict_of s true = Verdict.Refused Error.Present
+verdict_of s false =
     cond (eqb (s.old_used + s.new_used) s.capacity) (Verdict.Refused Error.Full)
     (cond (eqb s.free_head 0) (Verdict.Refused Error.Damaged) Verdict.Room)
 
@@ -107,7 +104,7 @@ pub record FilledFirst (s : State) (current other entries : List ℕ) (b : ℕ) 
 pub record Plan (s : State) (current other entries : List ℕ) (key : ℕ) (course : Course) : Type 0 where
   pub sound : Sound s (length current) (length other) (length entries)
   pub due : step_due s ≡ true
-  pub absent : Presence.Absent ≡ presence_then key s.second_is_current (step_taken s current other entries)
+  pub absent : Ok false ≡ presence_then key s.second_is_current (step_taken s current other entries)
   pub goes : Goes s current other entries s.free_head (step_taken s current other entries) course
 
 -- and the store is not full, and has a first free entry
@@ -126,5 +123,5 @@ pub record Takes (s : State) (current other entries : List ℕ) (key : ℕ) (cou
 pub record Held (s : State) (current other entries : List ℕ) (key : ℕ) (course : Course) : Type 0 where
   pub sound : Sound s (length current) (length other) (length entries)
   pub due : step_due s ≡ true
-  pub told : Presence.Held ≡ presence_then key s.second_is_current (step_taken s current other entries)
+  pub told : Ok true ≡ presence_then key s.second_is_current (step_taken s current other entries)
   pub goes : Goes s current other entries s.free_head (step_taken s current other entries) course

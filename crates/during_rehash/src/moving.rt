@@ -2,7 +2,7 @@
 // the step, from one look ahead and one pass over the chain that will move, and the step goes by what was told then. Where a
 // chain moves, and where none does, there are functions apart, so that no tag of the way is kept and tested again. Both calls
 // come this way, and part only behind what they ask alike: so what asks has one caller, and is inlined.
-ghost use Rattle.std.specs.Prelude.{◌≡◌, true, ◌<◌, length};
+ghost use Rattle.std.specs.Prelude.{◌≡◌, true, ◌<◌, length, Ok};
 ghost use Rattle.model.specs.Calls as calls;
 ghost use Rattle.model.proofs.Soundness.{Sound, Counted};
 ghost use Rattle.after_step.specs.Course.{Course, sight, Foreseen};
@@ -10,8 +10,8 @@ ghost use Rattle.during_rehash.specs.Moving.{verdict_of, Comes, PreparedIn, Meet
 
 use crate::entry::push_entry;
 use after_step::course::{ChainSight, foresee_chain, link_beside};
-use after_step::presence::{Presence, presence_of};
-use dict_rehash::rehash::{Progress, look_ahead, move_counted};
+use after_step::presence::presence_of;
+use dict_rehash::rehash::{look_ahead, move_counted};
 use memory::entry::link_of;
 use model::{Ahead, Error, State};
 use search::found::{entry_in, entry_in_both};
@@ -44,25 +44,22 @@ enum Verdict {
     Room,
 }
 
-// By what a lookup answers once the step is taken, in the order of the answers. The step keeps the keys held, the capacity and
+// By whether the key is held once the step is taken, in the order of the answers. The step keeps the keys held, the capacity and
 // the free head.
-fn verdict_of(s: State, presence: Presence) -> Verdict
+fn verdict_of(s: State, held: bool) -> Verdict
     requires { Counted s }
-    ensures { result ≡ verdict_of s presence }
+    ensures { result ≡ verdict_of s held }
 {
-    match presence {
-        Presence::Damaged => Verdict::Refused(Error::Damaged),
-        Presence::Held => Verdict::Refused(Error::Present),
-        Presence::Absent => {
-            if s.old_used + s.new_used == s.capacity {
-                Verdict::Refused(Error::Full)
-            } else if s.free_head == 0 {
-                Verdict::Refused(Error::Damaged)
-            } else {
-                Verdict::Room
-            }
-        }
+    if held {
+        return Verdict::Refused(Error::Present);
     }
+    if s.old_used + s.new_used == s.capacity {
+        return Verdict::Refused(Error::Full);
+    }
+    if s.free_head == 0 {
+        return Verdict::Refused(Error::Damaged);
+    }
+    Verdict::Room
 }
 
 // No chain moves: the link of the first free entry decides, and the entry goes into the new table, which lies in the other
@@ -102,24 +99,23 @@ fn add_still(
     key: u32,
     value: u32,
     next: u32,
-    presence: Presence,
+    held: bool,
 ) -> Taken
     requires sound { Sound s (length current.now) (length other.old) (length entries.old) }
     requires step_due { calls.step_due s ≡ true }
     requires foreseen { Foreseen s current.now other.old entries.old key s.free_head
-        (calls.step_taken s current.now other.old entries.old) (sight presence (Course.Still next)) }
+        (calls.step_taken s current.now other.old entries.old) (sight (Ok held) (Course.Still next)) }
     ensures { Comes s current.now other.old entries.old key value result
         current.now other.new entries.new }
 {
-    let verdict = verdict_of(s, presence);
+    let verdict = verdict_of(s, held);
     match verdict {
         Verdict::Refused(e) => Taken::Refused(e),
         Verdict::Room => push_still(current, other, entries, s, key, value, next),
     }
 }
 
-// The chain of bucket b moves for real, and the first free entry goes into what that leaves. What was told says that no test of
-// either fails.
+// The chain moves for real, and the first free entry goes into what that leaves.
 fn move_and_push(
     current: &mut [u32],
     other: &mut [u32],
@@ -127,26 +123,19 @@ fn move_and_push(
     s: State,
     key: u32,
     value: u32,
-    b: u32,
-    count: u32,
-    meets: bool,
+    chain: ChainSight,
     link: u32,
 ) -> Taken
-    requires { Takes s current.old other.old entries.old key (Course.Moving b count meets) link }
+    requires { Takes s current.old other.old entries.old key (Course.Moving chain) link }
     ensures { Comes s current.old other.old entries.old key value result
         current.new other.new entries.new }
 {
-    let progress = move_counted(current, other, entries, s, b, count);
-    match progress {
-        Progress::Refused(e) => Taken::Refused(e),
-        Progress::Moved(moved, next) => {
-            push_entry(other, entries, s.new_size, s.free_head, key, value);
-            Taken::Stepped {
-                count: moved,
-                next,
-                free: link,
-            }
-        }
+    let moved = move_counted(current, other, entries, s, chain.bucket, chain.count);
+    push_entry(other, entries, s.new_size, s.free_head, key, value);
+    Taken::Stepped {
+        count: moved.count,
+        next: moved.next,
+        free: link,
     }
 }
 
@@ -158,19 +147,15 @@ fn push_chain(
     s: State,
     key: u32,
     value: u32,
-    b: u32,
-    count: u32,
-    meets: bool,
+    chain: ChainSight,
 ) -> Taken
-    requires { Room s current.old other.old entries.old key (Course.Moving b count meets) }
+    requires { Room s current.old other.old entries.old key (Course.Moving chain) }
     ensures { Comes s current.old other.old entries.old key value result
         current.new other.new entries.new }
 {
-    let link = link_beside(current, other, entries, s, b, count, meets, s.free_head);
+    let link = link_beside(current, other, entries, s, chain, s.free_head);
     if link <= s.capacity {
-        move_and_push(
-            current, other, entries, s, key, value, b, count, meets, link,
-        )
+        move_and_push(current, other, entries, s, key, value, chain, link)
     } else {
         Taken::Refused(Error::Damaged)
     }
@@ -183,26 +168,23 @@ fn add_chain(
     s: State,
     key: u32,
     value: u32,
-    b: u32,
-    count: u32,
-    meets: bool,
-    presence: Presence,
+    chain: ChainSight,
 ) -> Taken
     requires sound { Sound s (length current.old) (length other.old) (length entries.old) }
     requires step_due { calls.step_due s ≡ true }
     requires foreseen { Foreseen s current.old other.old entries.old key s.free_head
-        (calls.step_taken s current.old other.old entries.old) (sight presence (Course.Moving b count meets)) }
+        (calls.step_taken s current.old other.old entries.old) (sight (Ok chain.held) (Course.Moving chain)) }
     ensures { Comes s current.old other.old entries.old key value result
         current.new other.new entries.new }
 {
-    let verdict = verdict_of(s, presence);
+    let verdict = verdict_of(s, chain.held);
     match verdict {
         Verdict::Refused(error) => Taken::Refused(error),
-        Verdict::Room => push_chain(current, other, entries, s, key, value, b, count, meets),
+        Verdict::Room => push_chain(current, other, entries, s, key, value, chain),
     }
 }
 
-// No chain moves. What a lookup answers once the step is taken says what a delete would.
+// No chain moves. Whether the key is held once the step is taken says what a delete would answer.
 fn step_still(
     current: &[u32],
     other: &[u32],
@@ -210,48 +192,43 @@ fn step_still(
     s: State,
     key: u32,
     next: u32,
-    presence: Presence,
+    held: bool,
 ) -> Taken
     requires sound { Sound s (length current.now) (length other.now) (length entries.now) }
     requires foreseen { Foreseen s current.now other.now entries.now key s.free_head
-        (calls.step_taken s current.now other.now entries.now) (sight presence (Course.Still next)) }
+        (calls.step_taken s current.now other.now entries.now) (sight (Ok held) (Course.Still next)) }
     ensures { PreparedIn s current.now other.now entries.now key result
         current.now other.now entries.now }
 {
-    match presence {
-        Presence::Damaged => Taken::Refused(Error::Damaged),
-        Presence::Absent => Taken::Refused(Error::Absent),
-        Presence::Held => Taken::Stepped {
+    if held {
+        Taken::Stepped {
             count: 0,
             next,
             free: s.free_head,
-        },
+        }
+    } else {
+        Taken::Refused(Error::Absent)
     }
 }
 
-// The key is held once the chain of bucket b has moved: it moves for real.
+// The key is held once the chain has moved: it moves for real.
 fn step_held(
     current: &mut [u32],
     other: &mut [u32],
     entries: &mut [u32],
     s: State,
     key: u32,
-    b: u32,
-    count: u32,
-    meets: bool,
+    chain: ChainSight,
 ) -> Taken
-    requires { Held s current.old other.old entries.old key (Course.Moving b count meets) }
+    requires { Held s current.old other.old entries.old key (Course.Moving chain) }
     ensures { PreparedIn s current.old other.old entries.old key result
         current.new other.new entries.new }
 {
-    let step = move_counted(current, other, entries, s, b, count);
-    match step {
-        Progress::Refused(e) => Taken::Refused(e),
-        Progress::Moved(moved, next) => Taken::Stepped {
-            count: moved,
-            next,
-            free: s.free_head,
-        },
+    let step = move_counted(current, other, entries, s, chain.bucket, chain.count);
+    Taken::Stepped {
+        count: step.count,
+        next: step.next,
+        free: s.free_head,
     }
 }
 
@@ -261,22 +238,19 @@ fn step_chain(
     entries: &mut [u32],
     s: State,
     key: u32,
-    b: u32,
-    count: u32,
-    meets: bool,
-    presence: Presence,
+    chain: ChainSight,
 ) -> Taken
     requires sound { Sound s (length current.old) (length other.old) (length entries.old) }
     requires step_due { calls.step_due s ≡ true }
     requires foreseen { Foreseen s current.old other.old entries.old key s.free_head
-        (calls.step_taken s current.old other.old entries.old) (sight presence (Course.Moving b count meets)) }
+        (calls.step_taken s current.old other.old entries.old) (sight (Ok chain.held) (Course.Moving chain)) }
     ensures { PreparedIn s current.old other.old entries.old key result
         current.new other.new entries.new }
 {
-    match presence {
-        Presence::Damaged => Taken::Refused(Error::Damaged),
-        Presence::Absent => Taken::Refused(Error::Absent), // and nothing has moved
-        Presence::Held => step_held(current, other, entries, s, key, b, count, meets),
+    if chain.held {
+        step_held(current, other, entries, s, key, chain)
+    } else {
+        Taken::Refused(Error::Absent) // and nothing has moved
     }
 }
 
@@ -289,18 +263,18 @@ fn change_still(
     key: u32,
     purpose: Purpose,
     next: u32,
-    presence: Presence,
+    held: bool,
 ) -> Taken
     requires sound { Sound s (length current.now) (length other.old) (length entries.old) }
     requires step_due { calls.step_due s ≡ true }
     requires foreseen { Foreseen s current.now other.old entries.old key s.free_head
-        (calls.step_taken s current.now other.old entries.old) (sight presence (Course.Still next)) }
+        (calls.step_taken s current.now other.old entries.old) (sight (Ok held) (Course.Still next)) }
     ensures { Meets s current.now other.old entries.old key purpose result
         current.now other.new entries.new }
 {
     match purpose {
-        Purpose::Add(value) => add_still(current, other, entries, s, key, value, next, presence),
-        Purpose::Delete => step_still(current, other, entries, s, key, next, presence),
+        Purpose::Add(value) => add_still(current, other, entries, s, key, value, next, held),
+        Purpose::Delete => step_still(current, other, entries, s, key, next, held),
     }
 }
 
@@ -312,23 +286,18 @@ fn change_chain(
     s: State,
     key: u32,
     purpose: Purpose,
-    b: u32,
-    count: u32,
-    meets: bool,
-    presence: Presence,
+    chain: ChainSight,
 ) -> Taken
     requires sound { Sound s (length current.old) (length other.old) (length entries.old) }
     requires step_due { calls.step_due s ≡ true }
     requires foreseen { Foreseen s current.old other.old entries.old key s.free_head
-        (calls.step_taken s current.old other.old entries.old) (sight presence (Course.Moving b count meets)) }
+        (calls.step_taken s current.old other.old entries.old) (sight (Ok chain.held) (Course.Moving chain)) }
     ensures { Meets s current.old other.old entries.old key purpose result
         current.new other.new entries.new }
 {
     match purpose {
-        Purpose::Add(value) => add_chain(
-            current, other, entries, s, key, value, b, count, meets, presence,
-        ),
-        Purpose::Delete => step_chain(current, other, entries, s, key, b, count, meets, presence),
+        Purpose::Add(value) => add_chain(current, other, entries, s, key, value, chain),
+        Purpose::Delete => step_chain(current, other, entries, s, key, chain),
     }
 }
 
@@ -346,16 +315,9 @@ fn change_filled(
     ensures { Meets s current.old other.old entries.old key purpose result
         current.new other.new entries.new }
 {
-    let chain = foresee_chain(current, other, entries, s, b, key, s.free_head);
-    match chain {
-        ChainSight::Unsound => Taken::Refused(Error::Damaged),
-        ChainSight::Sound {
-            presence,
-            count,
-            meets,
-        } => change_chain(
-            current, other, entries, s, key, purpose, b, count, meets, presence,
-        ),
+    match foresee_chain(current, other, entries, s, b, key, s.free_head) {
+        Err(e) => Taken::Refused(e),
+        Ok(chain) => change_chain(current, other, entries, s, key, purpose, chain),
     }
 }
 
@@ -382,7 +344,10 @@ fn change_ahead(
                 current, other, entries, s.capacity, s.old_used, s.new_used, s.old_size,
                 s.new_size, key,
             ));
-            change_still(current, other, entries, s, key, purpose, b, presence)
+            match presence {
+                Err(e) => Taken::Refused(e),
+                Ok(held) => change_still(current, other, entries, s, key, purpose, b, held),
+            }
         }
         Ahead::End => Taken::Refused(Error::Damaged),
     }
@@ -406,16 +371,21 @@ pub fn change_moving(
         let presence = presence_of(entry_in(
             entries, s.capacity, s.new_used, other, s.new_size, key,
         ));
-        change_still(
-            current,
-            other,
-            entries,
-            s,
-            key,
-            purpose,
-            s.rehash_index,
-            presence,
-        )
+        match presence {
+            Err(e) => Taken::Refused(e),
+            Ok(held) => {
+                change_still(
+                    current,
+                    other,
+                    entries,
+                    s,
+                    key,
+                    purpose,
+                    s.rehash_index,
+                    held,
+                )
+            }
+        }
     } else {
         change_ahead(current, other, entries, s, key, purpose)
     }

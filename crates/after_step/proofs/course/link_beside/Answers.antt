@@ -7,8 +7,8 @@ use Rattle.after_step.proofs.course.link_beside.Goals as goal
 pub link_moved-requires : goal.link_moved-requires
 link_moved-requires c = record { legal = (search target_legal, search target_fits); chain_of = search goes_counted; is_entry = search rules }
 
-pub returns-then-meets : goal.returns-then-meets
-returns-then-meets c = search link_met
+pub returns-then-chain : goal.returns-then-chain
+returns-then-chain c = search link_met
 
-pub returns-else-meets : goal.returns-else-meets
-returns-else-meets c = search link_kept
+pub returns-else-chain : goal.returns-else-chain
+returns-else-chain c = search link_kept

@@ -2,11 +2,11 @@
 use Rattle.after_step.proofs.Deciding.{new_unsound, new_shared, new_apart}
 use Rattle.after_step.proofs.presence.new_then.Goals as goal
 
-pub returns-in-Unsound : goal.returns-in-Unsound
-returns-in-Unsound c = search new_unsound
+pub returns-in_err-there : goal.returns-in_err-there
+returns-in_err-there c = search (new_unsound, c.from_residual.ensures.1, c.in_err-there.ensures)
 
-pub returns-then-end-last : goal.returns-then-end-last
-returns-then-end-last c = search new_shared
+pub returns-then-there-last : goal.returns-then-there-last
+returns-then-there-last c = search (new_shared, c.in_ok-there.ensures)
 
-pub returns-else-end-last : goal.returns-else-end-last
-returns-else-end-last c = search new_apart
+pub returns : goal.returns
+returns c = search (new_apart, c.in_ok-there.ensures)

@@ -1,30 +1,20 @@
--- The goals of `look_ahead` that the search leaves.
+-- `dict_rehash::rehash::look_ahead` meets its contract: the search among the buckets that are looked at decides.
+use Prim.Native.Nat.{◌+◌}
+use native.Mathlib.Omega.{arith}
 use borrow.Author.Rules.{rules}
 use Rattle.model.specs.Limits.{empty_visits}
-use Rattle.dict_rehash.proofs.LookingAhead.{looking_start, looking_end, looking_filled, looking_next, looking_passed}
+use Rattle.dict_rehash.proofs.LookingAhead.{first_filled, all_passed, end_reached}
 use Rattle.dict_rehash.proofs.rehash.look_ahead.Goals as goal
 
-pub loop-init : goal.loop-init
-loop-init c = search looking_start
-
-pub returns-then-b-size : goal.returns-then-b-size
-returns-then-b-size c = search looking_end
-
-pub returns-then-buckets-b-ne0 : goal.returns-then-buckets-b-ne0
+pub returns-in-Some : goal.returns-in-Some
 unfolding empty_visits
-returns-then-buckets-b-ne0 c = search looking_filled
+returns-in-Some c =
+    first_filled _ _ _ _ (c.args.from + c.min.result) (omega arith) (omega arith) _ (search rules) (search rules) (search rules)
 
-pub loop-smaller : goal.loop-smaller
+pub returns-in-None : goal.returns-in-None
 unfolding empty_visits
-loop-smaller c = search rules
+returns-in-None c = search (arith, all_passed)
 
-pub loop-preserved : goal.loop-preserved
+pub returns-in-None-2 : goal.returns-in-None-2
 unfolding empty_visits
-loop-preserved c = search looking_next
-
-pub returns-then-b-size-2 : goal.returns-then-b-size-2
-unfolding empty_visits
-returns-then-b-size-2 c = search looking_passed
-
-pub returns-else-b-size-2 : goal.returns-else-b-size-2
-returns-else-b-size-2 c = search looking_end
+returns-in-None-2 c = search (arith, end_reached)

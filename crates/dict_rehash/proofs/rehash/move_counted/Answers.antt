@@ -5,8 +5,8 @@ use Rattle.dict_rehash.proofs.rehash.move_counted.Goals as goal
 pub move_chain-requires : goal.move_chain-requires
 move_chain-requires c = record { legal = (search target_legal, search target_fits); chain_of = search chain_of_lem }
 
-pub overflow_add-next : goal.overflow_add-next
-overflow_add-next c = search bucket_behind
+pub overflow_add-result : goal.overflow_add-result
+overflow_add-result c = search bucket_behind
 
 pub returns : goal.returns
 returns c = record { outcome = search bucket_moved; step_room = search bucket_room }

@@ -5,8 +5,8 @@ use Rattle.dict_rehash.specs.Progress.{step_room}
 use Rattle.dict_rehash.proofs.Stepping.{index_fits, none_moved, next_end, next_empty, next_filled, next_below}
 use Rattle.dict_rehash.proofs.rehash.move_next.Goals as goal
 
-pub look_ahead-ahead-requires : goal.look_ahead-ahead-requires
-look_ahead-ahead-requires c = (search index_fits, search rules)
+pub look_ahead-requires : goal.look_ahead-requires
+look_ahead-requires c = (search index_fits, search rules)
 
 pub move_bucket-requires : goal.move_bucket-requires
 move_bucket-requires c = record { sound = search rules; rehashing = (search rules, search (next_below, index_fits)) }

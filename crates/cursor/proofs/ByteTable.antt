@@ -1,13 +1,9 @@
--- A word's reversal, looked up byte by byte in a list. The code has no such list: these are laws of reversal, whatever the code
--- does. One computed test, that the list is that of the reversals of 0 to 255, gives each place its reversal (`tested`); one law
--- adds a byte to what is reversed so far (`byte_more`).
-use Rattle.std.proofs.Common.{◌≡◌, ℕ, zero, suc, ◌+◌, ◌*◌, ◌/◌, ◌%◌, ◌^◌, ◌<◌, List, [], ◌∷◌, get_or, ap, ◌∙◌, le_of_suc-le-suc, add-zero, add-suc, mod-lt, suc-add, zero-add, arith}
+-- A word's reversal, looked up byte by byte. One computed test, that the table is the list of the reversals of 0 to 255, gives
+-- each place its reversal (`tested`); one law adds a byte to what is reversed so far (`byte_more`).
+use Rattle.std.proofs.Common.{◌≡◌, ℕ, zero, suc, ◌+◌, ◌*◌, ◌/◌, ◌%◌, ◌^◌, ◌<◌, List, [], ◌∷◌, get_or, ap, ◌∙◌, le_of_suc-le-suc, add-zero, add-suc, suc-add, zero-add, arith}
+use Rattle.std.specs.Int.{w32, to_le_bytes, from_be_bytes}
 use Rattle.cursor.specs.Reverse.{reverse, rev}
 use Rattle.cursor.proofs.Reversal.{reverse_split, reverse_mod}
-
--- at each place below 256 the reversal of the place's eight bits
-abbrev pub ReversesBytes : List ℕ → Type 0
-ReversesBytes bytes = (i : ℕ) → i < 256 → get_or bytes i 0 ≡ reverse 8 i
 
 -- the reversals of i, i + 1 and so on, n of them
 abbrev pub reversals_from : ℕ → ℕ → List ℕ
@@ -20,35 +16,29 @@ reversal_at i zero k h = absurd (omega arith)
 reversal_at i (suc n) zero h = rw add-zero
 reversal_at i (suc n) (suc k) h = rw (add-suc, ← suc-add i k) (reversal_at (suc i) n k (le_of_suc-le-suc h))
 
--- the test, and what it says of each place
-pub tested : (bytes : List ℕ) → bytes ≡ reversals_from 0 256 → ReversesBytes bytes
-tested bytes e i h = rw e (reversal_at 0 256 i h ∙ ap (reverse 8) (zero-add i))
-
--- the reversal of a number's lowest byte, looked up
-looked_up : (bytes : List ℕ) → ReversesBytes bytes → (x b : ℕ) → b ≡ get_or bytes (x % 256) 0 → b ≡ reverse 8 x
-looked_up bytes rule x b e = e ∙ rule (x % 256) (mod-lt x (omega arith)) ∙ reverse_mod 8 x
+-- the test, and what it says of the place of each byte
+pub tested : (bytes : List ℕ) → bytes ≡ reversals_from 0 256 → (place byte : ℕ) → place ≡ byte → byte < 256 → get_or bytes place 0 ≡ reverse 8 byte
+tested bytes e place byte p h = rw (p, e) (reversal_at 0 256 byte h ∙ ap (reverse 8) (zero-add byte))
 
 -- the n lowest bits reversed, and behind them the byte over them
-byte_more :
-    (bytes : List ℕ)
-    → ReversesBytes bytes
-    → (x n r b : ℕ)
-    → r ≡ reverse n x
-    → b ≡ get_or bytes (x / 2 ^ n % 256) 0
-    → r * 256 + b ≡ reverse (n + 8) x
-byte_more bytes rule x n r b e f = rw (e, looked_up bytes rule (x / 2 ^ n) b f, reverse_split)
+byte_more : (x n r b : ℕ) → r ≡ reverse n x → b ≡ reverse 8 (x / 2 ^ n % 256) → r * 256 + b ≡ reverse (n + 8) x
+byte_more x n r b e f = rw (e, f, reverse_mod 8 (x / 2 ^ n), reverse_split)
 
--- a word's bytes, each looked up, the lowest first: the reversal of the word
+-- a word's bytes, each reversed, in the opposite order: the reversal of the word
 pub four_bytes :
-    (bytes : List ℕ)
-    → ReversesBytes bytes
-    → (x first second third fourth : ℕ)
-    → first ≡ get_or bytes (x % 256) 0
-    → second ≡ get_or bytes (x / 2 ^ 8 % 256) 0
-    → third ≡ get_or bytes (x / 2 ^ 16 % 256) 0
-    → fourth ≡ get_or bytes (x / 2 ^ 24 % 256) 0
-    → ((first * 256 + second) * 256 + third) * 256 + fourth ≡ rev x
+    (x first second third fourth r : ℕ)
+    → (bytes : List ℕ)
+    → bytes ≡ to_le_bytes w32 x
+    → first ≡ reverse 8 (get_or bytes 0 0)
+    → second ≡ reverse 8 (get_or bytes 1 0)
+    → third ≡ reverse 8 (get_or bytes 2 0)
+    → fourth ≡ reverse 8 (get_or bytes 3 0)
+    → r ≡ from_be_bytes w32 (first ∷ second ∷ third ∷ fourth ∷ [])
+    → r ≡ rev x
 unfolding rev
-four_bytes bytes rule x first second third fourth e f g h =
-    let more = byte_more bytes rule x in
-    more 24 _ fourth (more 16 _ third (more 8 first second (looked_up bytes rule x first e) f) g) h
+four_bytes x first second third fourth r bytes b e f g h k =
+    let lowest : first ≡ reverse 8 x = (rw b at e) ∙ reverse_mod 8 x in
+    let two = byte_more x 8 first second lowest (rw b at f) in
+    let three = byte_more x 16 _ third two (rw b at g) in
+    let joined : r ≡ ((first * 256 + second) * 256 + third) * 256 + fourth = omega arith in
+    joined ∙ byte_more x 24 _ fourth three (rw b at h)

@@ -3,9 +3,8 @@ use Rattle.std.proofs.Common.{◌≡◌, ℕ, ◌+◌, ◌-◌, ◌*◌, ◌/◌
 use native.Mathlib.Nat.{le_dest}
 use lib.Pow.{pow-lt, split, high_ones}
 use lib.Bits.{bit_or, or_block, or_zero_r, or_add_and, and_mask}
-use Rattle.std.specs.Int.{w32, reverse_bits}
+use Rattle.cursor.specs.Reverse.{rev}
 use Rattle.cursor.specs.Next.{next, set_high, add_one}
-use Rattle.cursor.proofs.Reversal.{reverse_bits_lem}
 
 -- a number of d bits adds nothing to d ones
 or_ones : (d x : ℕ) → x < 2 ^ d → bit_or x (2 ^ d - 1) ≡ 2 ^ d - 1
@@ -35,8 +34,8 @@ pub next_computed :
     → cursor < 2 ^ 32
     → negative < 2 ^ 32
     → (negative + size) % 2 ^ 32 ≡ 0
-    → first ≡ reverse_bits w32 (bit_or cursor negative)
-    → r ≡ reverse_bits w32 ((first + 1) % 2 ^ 32)
+    → first ≡ rev (bit_or cursor negative)
+    → r ≡ rev ((first + 1) % 2 ^ 32)
     → (b : ℕ)
     → size ≡ 2 ^ b
     → r ≡ next size cursor
@@ -45,4 +44,4 @@ next_computed size cursor negative first r s k n m f e b p =
     let negated : negative ≡ 2 ^ 32 - 2 ^ b = omega (arith, p, pow_pos b) in
     let set : bit_or cursor negative ≡ cursor % 2 ^ b + (2 ^ 32 - 2 ^ b) =
     rw negated (high_set b cursor (exponent_le b 32 (omega (arith, p))) k) in
-    rw (e, f, reverse_bits_lem, set, reverse_bits_lem, p)
+    rw (e, f, set, p)

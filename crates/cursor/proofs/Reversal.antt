@@ -1,9 +1,8 @@
--- Laws of the reversal of a number's lowest bits, over the number of bits; and the word of the library's `reverse_bits` is ours.
-use Rattle.std.proofs.Common.{◌≡◌, ℕ, zero, suc, ◌+◌, ◌-◌, ◌*◌, ◌/◌, ◌%◌, ◌^◌, ◌<◌, refl, ◌∙◌, add-zero, add_assoc, mod-lt, mul_assoc, add-mul, add_comm, suc-add, zero-add, zero-mul, mul-one, div-one, add-one, one-add, arith, pow_pos, pow-add, shr-shr}
+-- Laws of the reversal of a number's lowest bits, over the number of bits.
+use Rattle.std.proofs.Common.{◌≡◌, ℕ, zero, suc, ◌+◌, ◌-◌, ◌*◌, ◌/◌, ◌%◌, ◌^◌, ◌<◌, refl, add-zero, add_assoc, mod-lt, mul_assoc, add-mul, add_comm, suc-add, zero-add, zero-mul, mul-one, div-one, add-one, one-add, arith, pow_pos, pow-add, shr-shr}
 use native.Mathlib.Nat.{mod-one, mod-mod, two-pow-succ, mul-mod_left}
 use lib.Pow.{high, low, field, mod-pow-add, mod-mod-pow, shl-shr}
-use Rattle.std.specs.Int.{w32, reverse_bits, reverse_bits_onto}
-use Rattle.cursor.specs.Reverse.{reverse, rev}
+use Rattle.cursor.specs.Reverse.{reverse}
 
 -- a reversal has no more bits than were reversed
 pub reverse_lt : (n x : ℕ) → reverse n x < 2 ^ n
@@ -74,14 +73,3 @@ reverse_shifted b d x =
 -- the remainder of a shifted number
 pub mod_shifted : (b d x : ℕ) → x * 2 ^ d % 2 ^ (b + d) ≡ x % 2 ^ b * 2 ^ d
 mod_shifted b d x = rw (mod-pow-add, shl-shr, mul-mod_left, add-zero)
-
--- the library's reversal, behind the bits of a number that it has turned before
-reversed_onto : (n x a : ℕ) → reverse_bits_onto n x a ≡ a * 2 ^ n + reverse n x
-unfolding reverse_bits_onto reverse
-reversed_onto zero x a = omega arith
-reversed_onto (suc n) x a = rw (reversed_onto n (x / 2) (a * 2 + x % 2), two-pow-succ, add-mul) (omega arith)
-
--- at 32 bits
-pub reverse_bits_lem : (x : ℕ) → reverse_bits w32 x ≡ rev x
-unfolding rev
-reverse_bits_lem x = reversed_onto 32 x 0 ∙ zero-add (reverse 32 x)

@@ -1,5 +1,5 @@
 -- A store as its methods take it, and what each answers and leaves, by the plain call.
-use Rattle.std.specs.Prelude.{ℕ, List, Result, Ok, Err}
+use Rattle.std.specs.Prelude.{ℕ, ◌≡◌, List, Result, Ok, Err}
 use Rattle.model.specs.declared.State.{State}
 use Rattle.model.specs.declared.Error.{Error}
 use Rattle.model.specs.declared.Unstarted.{Unstarted}
@@ -10,6 +10,12 @@ use Rattle.store.specs.declared.Store.{Store}
 -- the state and the lent buffers
 abbrev pub world_of : Store → World
 world_of s = world s.state s.first.now s.second.now s.entries.now
+
+-- the memory that was lent stays so: each buffer is the same one
+abbrev pub SameBuffers : Store → Store → Type 0
+SameBuffers before after =
+    (after.first.ghost_name ≡ before.first.ghost_name) × (after.second.ghost_name ≡ before.second.ghost_name)
+    × (after.entries.ghost_name ≡ before.entries.ghost_name)
 
 -- a plain call, given them
 abbrev pub on : {A : Type 0} → Store → (State → List ℕ → List ℕ → List ℕ → A) → A

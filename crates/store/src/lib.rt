@@ -10,7 +10,7 @@ ghost use Rattle.model.specs.Iterators as iterators;
 ghost use Rattle.model.specs.Sequences.{world};
 ghost use Rattle.model.specs.Verify as whole;
 ghost use Rattle.model.specs.Repair as mended;
-ghost use Rattle.store.specs.Stores.{world_of, on, left, kept, stepped, started, noted};
+ghost use Rattle.store.specs.Stores.{world_of, SameBuffers, on, left, kept, stepped, started, noted};
 
 use dict_delete::delete::delete;
 use dict_find_update::find::find;
@@ -69,7 +69,9 @@ pub struct Store<'a> {
 impl<'a> Store<'a> {
     // Memory in which no store has started: its state is zeros, so that every call but `init` refuses.
     pub fn new(first: &'a mut [u32], second: &'a mut [u32], entries: &'a mut [u32]) -> Store<'a>
-        ensures { world_of result ≡ world calls.no_state first.old second.old entries.old }
+        ensures lent { world_of result ≡ world calls.no_state first.old second.old entries.old }
+        ensures same_buffers { (result.first.ghost_name ≡ first.entry.ghost_name)
+            × (result.second.ghost_name ≡ second.entry.ghost_name) × (result.entries.ghost_name ≡ entries.entry.ghost_name) }
     {
         Store {
             state: no_state(),
@@ -81,8 +83,9 @@ impl<'a> Store<'a> {
 
     // Starts the store anew, without a key.
     pub fn init(&mut self, capacity: u32, size: u32) -> Result<(), Error>
-        ensures { (result, world_of self.new)
+        ensures outcome { (result, world_of self.new)
             ≡ started self.old.state (calls.init self.old.first.now self.old.second.now self.old.entries.now capacity size) }
+        ensures same_buffers { SameBuffers self.old self.new }
     {
         let begun = init(self.first, self.second, self.entries, capacity, size);
         match begun {
@@ -103,7 +106,8 @@ impl<'a> Store<'a> {
 
     // Another value for a key that is held.
     pub fn update(&mut self, key: u32, value: u32) -> Result<(), Error>
-        ensures { (result, world_of self.new) ≡ left self.old.state (on self.old calls.update key value) }
+        ensures outcome { (result, world_of self.new) ≡ left self.old.state (on self.old calls.update key value) }
+        ensures same_buffers { SameBuffers self.old self.new }
     {
         let s = self.state;
         update_lent(self.first, self.second, self.entries, s, key, value)
@@ -111,7 +115,8 @@ impl<'a> Store<'a> {
 
     // A key that is not held yet, with its value; the table may grow.
     pub fn add(&mut self, key: u32, value: u32) -> Result<(), Error>
-        ensures { (result, world_of self.new) ≡ kept self.old.state (on self.old calls.add key value) }
+        ensures outcome { (result, world_of self.new) ≡ kept self.old.state (on self.old calls.add key value) }
+        ensures same_buffers { SameBuffers self.old self.new }
     {
         let s = self.state;
         self.state = add(self.first, self.second, self.entries, s, key, value)?;
@@ -119,7 +124,8 @@ impl<'a> Store<'a> {
     }
 
     pub fn delete(&mut self, key: u32) -> Result<(), Error>
-        ensures { (result, world_of self.new) ≡ kept self.old.state (on self.old calls.delete key) }
+        ensures outcome { (result, world_of self.new) ≡ kept self.old.state (on self.old calls.delete key) }
+        ensures same_buffers { SameBuffers self.old self.new }
     {
         let s = self.state;
         self.state = delete(self.first, self.second, self.entries, s, key)?;
@@ -128,7 +134,8 @@ impl<'a> Store<'a> {
 
     // Begins a rehash into a table of that size.
     pub fn resize(&mut self, size: u32) -> Result<(), Error>
-        ensures { (result, world_of self.new) ≡ kept self.old.state (on self.old calls.resize size) }
+        ensures outcome { (result, world_of self.new) ≡ kept self.old.state (on self.old calls.resize size) }
+        ensures same_buffers { SameBuffers self.old self.new }
     {
         let s = self.state;
         self.state = resize_lent(self.first, self.second, self.entries, s, size)?;
@@ -137,7 +144,8 @@ impl<'a> Store<'a> {
 
     // How many entries moved. The state says whether the rehash goes on.
     pub fn rehash_step(&mut self) -> Result<u32, Error>
-        ensures { (result, world_of self.new) ≡ stepped self.old.state (on self.old calls.rehash_step) }
+        ensures outcome { (result, world_of self.new) ≡ stepped self.old.state (on self.old calls.rehash_step) }
+        ensures same_buffers { SameBuffers self.old self.new }
     {
         let s = self.state;
         let (moved, t) = rehash_step(self.first, self.second, self.entries, s)?;
@@ -154,7 +162,8 @@ impl<'a> Store<'a> {
 
     // Whether the table may grow by itself.
     pub fn allow_resize(&mut self, allowed: bool) -> Result<(), Error>
-        ensures { (result, world_of self.new) ≡ noted self.old (on self.old calls.allow_resize allowed) }
+        ensures outcome { (result, world_of self.new) ≡ noted self.old (on self.old calls.allow_resize allowed) }
+        ensures same_buffers { SameBuffers self.old self.new }
     {
         self.state = self.allowed(allowed)?;
         Ok(())
@@ -192,14 +201,16 @@ impl<'a> Store<'a> {
 
     // One safe iterator more: while there are any, no key moves.
     pub fn begin_safe(&mut self) -> Result<(), Error>
-        ensures { (result, world_of self.new) ≡ noted self.old (on self.old iterators.begin_safe) }
+        ensures outcome { (result, world_of self.new) ≡ noted self.old (on self.old iterators.begin_safe) }
+        ensures same_buffers { SameBuffers self.old self.new }
     {
         self.state = self.one_safe_more()?;
         Ok(())
     }
 
     pub fn end_safe(&mut self) -> Result<(), Error>
-        ensures { (result, world_of self.new) ≡ noted self.old (on self.old iterators.end_safe) }
+        ensures outcome { (result, world_of self.new) ≡ noted self.old (on self.old iterators.end_safe) }
+        ensures same_buffers { SameBuffers self.old self.new }
     {
         self.state = self.one_safe_fewer()?;
         Ok(())
@@ -221,7 +232,8 @@ impl<'a> Store<'a> {
 
     // Mends the store, whatever its memory holds.
     pub fn repair(&mut self) -> Result<(), Error>
-        ensures { (result, world_of self.new) ≡ kept self.old.state (on self.old mended.repair) }
+        ensures outcome { (result, world_of self.new) ≡ kept self.old.state (on self.old mended.repair) }
+        ensures same_buffers { SameBuffers self.old self.new }
     {
         let s = self.state;
         self.state = repair(self.first, self.second, self.entries, s)?;

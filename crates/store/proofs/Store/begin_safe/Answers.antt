@@ -3,8 +3,8 @@ use borrow.Author.Rules.{rules}
 use Rattle.store.proofs.Keeping.{noted_ok, noted_err}
 use Rattle.store.proofs.Store.begin_safe.Goals as goal
 
-pub returns-in_err-self : goal.returns-in_err-self
-returns-in_err-self c = search (rules, noted_err)
+pub returns-in_err-self-clause-outcome : goal.returns-in_err-self-clause-outcome
+returns-in_err-self-clause-outcome c = search (rules, noted_err)
 
-pub returns : goal.returns
-returns c = search (rules, noted_ok)
+pub returns-clause-outcome : goal.returns-clause-outcome
+returns-clause-outcome c = search (rules, noted_ok)

@@ -3,8 +3,8 @@ use borrow.Author.Rules.{rules}
 use Rattle.store.proofs.Keeping.{started_ok, started_err}
 use Rattle.store.proofs.Store.init.Goals as goal
 
-pub returns-in-Ok : goal.returns-in-Ok
-returns-in-Ok c = search (rules, started_ok)
+pub returns-in-Ok-clause-outcome : goal.returns-in-Ok-clause-outcome
+returns-in-Ok-clause-outcome c = search (rules, started_ok)
 
-pub returns-in-Err : goal.returns-in-Err
-returns-in-Err c = search (rules, started_err)
+pub returns-in-Err-clause-outcome : goal.returns-in-Err-clause-outcome
+returns-in-Err-clause-outcome c = search (rules, started_err)

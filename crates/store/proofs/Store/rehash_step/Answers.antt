@@ -3,8 +3,8 @@ use borrow.Author.Rules.{rules}
 use Rattle.store.proofs.Keeping.{stepped_ok, stepped_err}
 use Rattle.store.proofs.Store.rehash_step.Goals as goal
 
-pub returns-in_err-moved : goal.returns-in_err-moved
-returns-in_err-moved c = search (rules, stepped_err)
+pub returns-in_err-moved-clause-outcome : goal.returns-in_err-moved-clause-outcome
+returns-in_err-moved-clause-outcome c = search (rules, stepped_err)
 
-pub returns : goal.returns
-returns c = search (rules, stepped_ok)
+pub returns-clause-outcome : goal.returns-clause-outcome
+returns-clause-outcome c = search (rules, stepped_ok)

@@ -3,5 +3,5 @@ use borrow.Author.Rules.{rules}
 use Rattle.store.proofs.Keeping.{left_as}
 use Rattle.store.proofs.Store.update.Goals as goal
 
-pub returns : goal.returns
-returns c = search (rules, left_as)
+pub returns-clause-outcome : goal.returns-clause-outcome
+returns-clause-outcome c = search (rules, left_as)

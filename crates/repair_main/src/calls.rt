@@ -1,7 +1,6 @@
 // The two calls, answered in numbers.
-ghost use Rattle.std.specs.Prelude.{◌≡◌, get_or};
-ghost use Rattle.model.specs.declared.State.{State};
-ghost use Rattle.model.specs.Answers.{verify_reply, state_reply};
+ghost use Rattle.std.specs.Prelude.{◌≡◌, MatchResult};
+ghost use Rattle.model.specs.Answers.{error_number};
 ghost use Rattle.model.specs.Calls.After.{after};
 ghost use Rattle.repair_main.specs.Answered.{answered};
 
@@ -19,40 +18,13 @@ pub struct Answers {
     pub state: State,
 }
 
-fn verify_number(a: Result<bool, Error>) -> u32
-    ensures { (s : State) → result ≡ (verify_reply s a).number }
+// 0 of a call that is done, and else the number of its refusal.
+fn number_of<T: Copy>(answer: Result<T, Error>) -> u32
+    ensures { MatchResult answer (λ _. result ≡ 0) (λ e. result ≡ error_number e) }
 {
-    match a {
+    match answer {
         Ok(_) => 0,
         Err(e) => error_number(e),
-    }
-}
-
-fn undamaged_number(a: Result<bool, Error>) -> u32
-    ensures { (s : State) → result ≡ get_or (verify_reply s a).values 0 0 }
-{
-    match a {
-        Ok(undamaged) => if undamaged { 1 } else { 0 },
-        Err(_) => 0,
-    }
-}
-
-fn repair_number(a: Result<State, Error>) -> u32
-    ensures { (s : State) → result ≡ (state_reply s a).number }
-{
-    match a {
-        Ok(_) => 0,
-        Err(e) => error_number(e),
-    }
-}
-
-// A refused repair hands back the state that it was given.
-fn state_after(a: Result<State, Error>, s: State) -> State
-    ensures { result ≡ (state_reply s a).state }
-{
-    match a {
-        Ok(t) => t,
-        Err(_) => s,
     }
 }
 
@@ -61,12 +33,12 @@ pub fn answer_calls(first: &mut [u32], second: &mut [u32], entries: &mut [u32], 
     ensures { after result first.new second.new entries.new
         ≡ answered s first.old second.old entries.old }
 {
-    let v = verify(first, second, entries, s);
-    let r = repair(first, second, entries, s);
+    let verified = verify(first, second, entries, s);
+    let repaired = repair(first, second, entries, s);
     Answers {
-        verify: verify_number(v),
-        undamaged: undamaged_number(v),
-        repair: repair_number(r),
-        state: state_after(r, s),
+        verify: number_of(verified),
+        undamaged: u32::from(verified.unwrap_or(false)),
+        repair: number_of(repaired),
+        state: repaired.unwrap_or(s),
     }
 }

@@ -19,7 +19,7 @@ use calls::answer_calls;
 use lent_bytes::state::{do_flags_fit, read_state, write_state};
 use little_endian::{read_numbers, write_numbers};
 use model::State;
-use std::io::{Read, Stdin, Stdout, Write};
+use std::io::{self, ErrorKind, Read, Stdin, Stdout, Write};
 
 const STATE_BYTES: usize = 44;
 
@@ -33,108 +33,93 @@ const MOST_BYTES: usize = 192;
 // Nothing says that an input ends, so the records are counted.
 const MOST_RECORDS: usize = 10000000;
 
-// The next numbers of the input, and whether there were so many.
-fn get(input: &mut Stdin, numbers: &mut [u32]) -> bool
+// The next numbers of the input.
+fn get(input: &mut Stdin, numbers: &mut [u32]) -> io::Result<()>
     requires { length numbers.old ≤ 48 }
 {
-    let mut bytes = [0u8; MOST_BYTES];
-    let n = numbers.len() * 4;
-    let part = &mut bytes[0..n];
-    if input.read_exact(part).is_err() {
-        return false;
-    }
+    let mut bytes = [0; MOST_BYTES];
+    let part = &mut bytes[..numbers.len() * 4];
+    input.read_exact(part)?;
     read_numbers(part, numbers);
-    true
+    Ok(())
 }
 
-fn put(output: &mut Stdout, numbers: &[u32]) -> bool
+fn put(output: &mut Stdout, numbers: &[u32]) -> io::Result<()>
     requires { length numbers.now ≤ 48 }
 {
-    let mut bytes = [0u8; MOST_BYTES];
-    let part = &mut bytes[0..numbers.len() * 4];
+    let mut bytes = [0; MOST_BYTES];
+    let part = &mut bytes[..numbers.len() * 4];
     write_numbers(numbers, part);
-    output.write_all(part).is_ok()
+    output.write_all(part)
 }
 
-// A state that was read. One with a flag that is not 0 or 1 is none.
-#[derive(Clone, Copy)]
-enum Given {
-    Nothing,
-    State(State),
-}
-
-fn get_state(input: &mut Stdin) -> Given {
-    let mut bytes = [0u8; STATE_BYTES];
-    if input.read_exact(&mut bytes).is_err() {
-        return Given::Nothing;
-    }
+// A state with a flag that is not 0 or 1 is none.
+#[tactic(auto, unfolding(lent_bytes::specs::Exports::state_bytes))]
+fn get_state(input: &mut Stdin) -> io::Result<State> {
+    let mut bytes = [0; STATE_BYTES];
+    input.read_exact(&mut bytes)?;
     if do_flags_fit(&bytes) {
-        Given::State(read_state(&bytes))
+        Ok(read_state(&bytes))
     } else {
-        Given::Nothing
+        Err(ErrorKind::InvalidData.into())
     }
 }
 
-fn put_state(output: &mut Stdout, s: State) -> bool {
-    let mut bytes = [0u8; STATE_BYTES];
+#[tactic(auto, unfolding(lent_bytes::specs::Exports::state_bytes))]
+fn put_state(output: &mut Stdout, s: State) -> io::Result<()> {
+    let mut bytes = [0; STATE_BYTES];
     write_state(&mut bytes, s);
-    output.write_all(&bytes).is_ok()
+    output.write_all(&bytes)
 }
 
 // The front of a room. No record that the comparison makes asks for more than the whole.
 fn front(room: &mut [u32], length: u32) -> &mut [u32] {
-    let n = length as usize;
-    if n <= room.len() {
-        &mut room[0..n]
-    } else {
-        room
-    }
+    let n = room.len().min(length as usize);
+    &mut room[..n]
 }
 
-// The rest of a record, behind the lengths and the state.
-fn answer_with(input: &mut Stdin, output: &mut Stdout, lengths: [u32; 3], s: State) -> bool {
-    let mut first = [0u32; BUCKET_ROOM];
-    let mut second = [0u32; BUCKET_ROOM];
-    let mut entries = [0u32; ENTRY_ROOM];
-    if !(get(input, &mut first) & get(input, &mut second) & get(input, &mut entries)) {
-        return false;
-    }
+// The rest of a record, behind the lengths and the state. Each `and` has made its second read or write before it looks at the
+// first, so that all are tried where one fails.
+fn answer_with(
+    input: &mut Stdin,
+    output: &mut Stdout,
+    lengths: [u32; 3],
+    s: State,
+) -> io::Result<()> {
+    let mut first = [0; BUCKET_ROOM];
+    let mut second = [0; BUCKET_ROOM];
+    let mut entries = [0; ENTRY_ROOM];
+    get(input, &mut first)
+        .and(get(input, &mut second))
+        .and(get(input, &mut entries))?;
     let a = answer_calls(
         front(&mut first, lengths[0]),
         front(&mut second, lengths[1]),
         front(&mut entries, lengths[2]),
         s,
     );
-    let numbers = [a.verify, a.undamaged, a.repair];
-    put(output, &numbers)
-        & put_state(output, a.state)
-        & put(output, &first)
-        & put(output, &second)
-        & put(output, &entries)
+    put(output, &[a.verify, a.undamaged, a.repair])
+        .and(put_state(output, a.state))
+        .and(put(output, &first))
+        .and(put(output, &second))
+        .and(put(output, &entries))
 }
 
-// Answers one record, and says whether that could be done. One that is cut short counts as none, and a read that fails as the
-// end: the answers that are missing show.
-fn answer_one(input: &mut Stdin, output: &mut Stdout) -> bool {
-    let mut lengths = [0u32; 3];
-    if !get(input, &mut lengths) {
-        return false;
-    }
-    let given = get_state(input);
-    match given {
-        Given::Nothing => false,
-        Given::State(s) => answer_with(input, output, lengths, s),
-    }
+// Answers one record. One that is cut short counts as none: it is a read that fails.
+fn answer_one(input: &mut Stdin, output: &mut Stdout) -> io::Result<()> {
+    let mut lengths = [0; 3];
+    get(input, &mut lengths)?;
+    let s = get_state(input)?;
+    answer_with(input, output, lengths, s)
 }
 
+// A read or a write that fails is the end: the answers that are missing show.
 fn main(rt: HostRuntime) {
     let mut input = rt.stdin();
     let mut output = rt.stdout();
-    let mut left = MOST_RECORDS;
-    while 0 < left {
-        if !answer_one(&mut input, &mut output) {
+    for _ in 0..MOST_RECORDS {
+        if answer_one(&mut input, &mut output).is_err() {
             return;
         }
-        left -= 1;
     }
 }

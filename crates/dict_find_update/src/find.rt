@@ -3,7 +3,7 @@ ghost use Rattle.std.specs.Prelude.{◌≡◌};
 ghost use Rattle.model.specs.Calls as calls;
 
 use memory::entry::value_of;
-use memory::state::require_sound;
+use memory::state::{oriented, require_sound};
 use model::{Error, State};
 use search::found::find_entry;
 
@@ -17,7 +17,8 @@ pub fn find(
     ensures { result ≡ calls.find s first.now second.now entries.now key }
 {
     require_sound(first.len(), second.len(), entries.len(), s)?;
-    let found = find_entry(first, second, entries, s, key)?;
+    let (current, other) = oriented(s, first, second);
+    let found = find_entry(current, other, entries, s, key)?;
     let entry = found.ok_or(Error::Absent)?;
     Ok(value_of(entries, entry))
 }

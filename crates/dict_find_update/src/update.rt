@@ -4,7 +4,7 @@ ghost use Rattle.model.specs.Calls as calls;
 ghost use Rattle.model.specs.Calls.After.{after};
 
 use memory::entry::set_value;
-use memory::state::require_sound;
+use memory::state::{oriented, require_sound};
 use model::{Error, State};
 use search::found::find_entry;
 
@@ -20,7 +20,8 @@ pub fn update(
         ≡ calls.update s first.now second.now entries.old key value }
 {
     require_sound(first.len(), second.len(), entries.len(), s)?;
-    let found = find_entry(first, second, entries, s, key)?;
+    let (current, other) = oriented(s, first, second);
+    let found = find_entry(current, other, entries, s, key)?;
     let entry = found.ok_or(Error::Absent)?;
     set_value(entries, entry, value);
     Ok(())

@@ -2,7 +2,7 @@
 -- definitions of the calls are `reading` and `writing`. A call that orients first has them unfolded, and its body is what
 -- `checked` says (Tested); one that tests first, on the lent lengths, uses the second half.
 -- Assumes nothing.
-use Rattle.std.proofs.Common.{◌≡◌, ℕ, Bool, true, false, cond, List, length, refl, ap, ◌∙◌, Result, Err}
+use Rattle.std.proofs.Common.{◌≡◌, ℕ, Bool, true, false, cond, List, length, refl, sym, ap, ◌∙◌, Result, Err}
 use Rattle.std.specs.Result.{IsErrAnd}
 use Rattle.std.proofs.lemmas.Result.{err_from_is_err_and}
 use Rattle.model.specs.declared.Error.{Error}
@@ -10,6 +10,7 @@ use Rattle.model.specs.declared.State.{State}
 use Rattle.model.specs.Memory.{sound_state}
 use Rattle.model.specs.Calls.{After, sound, oriented, checked, reading, back, writing}
 use Rattle.memory.specs.Lent.{sound_lent}
+use Rattle.model.proofs.Soundness.{Sound, tested_sound}
 
 -- Once the flag is known.
 
@@ -127,3 +128,30 @@ module _ {A : Type 0} (s : State) (first second entries : List ℕ) (r : Result 
   writing_bad_state call =
       ap (λ (a : Result A Error). After.after a first second entries) refusal
       ∙ writing_refused s first second entries _ refl (Err Error.BadState) call h.1
+
+-- A call that tests and then orients goes on with the current and the other buffer.
+module _ (s : State) (first second current other : List ℕ)
+    (c : current ≡ cond s.second_is_current second first) (o : other ≡ cond s.second_is_current first second) where
+  oriented_by : {A : Type 0} (call : List ℕ → List ℕ → A) → oriented s.second_is_current call first second ≡ call current other
+  unfolding oriented
+  oriented_by call = rw (c, o) (pick s.second_is_current)
+    where
+      pick : (flag : Bool) → oriented flag call first second ≡ call (cond flag second first) (cond flag first second)
+      pick false = refl
+      pick true = refl
+
+  module _ (entries : List ℕ) (h : sound_lent (length first) (length second) (length entries) s ≡ true) where
+    pub sound_oriented : Sound s (length current) (length other) (length entries)
+    unfolding sound_lent
+    sound_oriented = rw (c, o) (by s.second_is_current h)
+      where
+        by : (flag : Bool)
+            → sound_state (cond flag (length second) (length first)) (cond flag (length first) (length second)) (length entries) s ≡ true
+            → Sound s (length (cond flag second first)) (length (cond flag first second)) (length entries)
+        by false h = tested_sound s _ _ (length entries) true (sym h) refl
+        by true h = tested_sound s _ _ (length entries) true (sym h) refl
+
+    pub reading_oriented : {A : Type 0} (refusal : A) (call : List ℕ → List ℕ → A) (r : A) → r ≡ call current other
+        → r ≡ reading s first second entries refusal call
+    reading_oriented refusal call r e =
+        reading_sound s first second entries _ refl refusal call r h (e ∙ sym (oriented_by call))

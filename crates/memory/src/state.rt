@@ -57,7 +57,9 @@ pub fn is_sound(current: usize, other: usize, entries: usize, s: State) -> bool
     }
 }
 
-fn choose(flag: bool, yes: usize, no: usize) -> usize
+// One of the two by the flag: a length, a number of an entry, a lent buffer.
+#[inline(always)]
+pub fn choose<T: Copy>(flag: bool, yes: T, no: T) -> T
     ensures { result ≡ (if flag then yes else no) }
 {
     if flag { yes } else { no }
@@ -81,6 +83,19 @@ pub fn require_sound(first: usize, second: usize, entries: usize, s: State) -> R
         Ok(())
     } else {
         Err(Error::BadState)
+    }
+}
+
+// The lent bucket buffers as the current and the other one.
+#[inline(always)]
+pub fn oriented<'a>(s: State, first: &'a [u32], second: &'a [u32]) -> (&'a [u32], &'a [u32])
+    ensures current { result.0.now ≡ (if s.second_is_current then second.now else first.now) }
+    ensures other { result.1.now ≡ (if s.second_is_current then first.now else second.now) }
+{
+    if s.second_is_current {
+        (second, first)
+    } else {
+        (first, second)
     }
 }
 

@@ -2,21 +2,16 @@
 -- Assumes nothing.
 use Prim.Native.Nat.{ℕ, ◌*◌, ◌≤◌, ◌<◌}
 use mathlib.Core.Path.{◌≡◌, refl, sym, ◌∙◌}
-use mathlib.Core.Bool.{Bool, true, false}
 use mathlib.Core.List.{List}
 use native.Mathlib.Omega.{arith}
 use lib.ListN.{length}
-use lib.Dec.{eqb}
 use Rattle.model.specs.declared.State.{State}
 use Rattle.model.specs.declared.Table.{Table}
 use Rattle.model.specs.declared.Error.{Error}
 use Rattle.model.specs.declared.Lookup.{Lookup}
-use Rattle.model.specs.Calls.{oriented, lookup, held}
+use Rattle.model.specs.Calls.{lookup, held}
 use Rattle.model.proofs.Soundness.{Sound}
 use Rattle.model.proofs.Lookups.{found_some, found_fits}
-use Rattle.memory.specs.Lent.{sound_lent}
-use Rattle.memory.proofs.Tested.{lent_first, lent_second}
-use Rattle.search.specs.Tables.{lookup_lent}
 use Rattle.search.specs.Found.{Found, found_of, Inside}
 use Rattle.std.specs.Prelude.{Option, Some, None, Ok, Err}
 use Rattle.std.specs.Option.{ok_or}
@@ -72,24 +67,10 @@ module _ (s : State) (entries : List ℕ) (key : ℕ) where
         found_fits s current other entries key (lookup s current other entries key) t before n refl a h,
       )
 
-  module _ (first second : List ℕ) (r : Found) (l : r ≡ found_of (lookup_lent s first second entries key))
-      (sound : sound_lent (length first) (length second) (length entries) s ≡ true) where
-    in_lent : (n : ℕ) → r ≡ Ok (Some n) → (0 < n) × (n * 3 ≤ length entries)
-    unfolding lookup_lent oriented
-    in_lent n a = pick s.second_is_current refl (sym a ∙ l)
-      where
-        pick : (flag : Bool) → s.second_is_current ≡ flag
-            → Ok (Some n) ≡ found_of (oriented flag (λ current other. lookup s current other entries key) first second)
-            → (0 < n) × (n * 3 ≤ length entries)
-        pick false f o = in_buffer n first second o (lent_first s (length first) (length second) (length entries) sound f)
-        pick true f o = in_buffer n second first o (lent_second s (length first) (length second) (length entries) sound f)
-
-    pub found_inside : Inside r (length entries)
-    found_inside = record { some = λ n a. (in_lent n a).0; fits = λ n a. (in_lent n a).1 }
-
-module _ (entries n : ℕ) (r : Found) (i : Inside r entries) (a : r ≡ Ok (Some n)) where
-  pub entry_some : 0 < n
-  entry_some = i.some n a
-
-  pub entry_fits : n * 3 ≤ entries
-  entry_fits = i.fits n a
+  pub found_inside : (current other : List ℕ) (r : Found) → r ≡ found_of (lookup s current other entries key)
+      → Sound s (length current) (length other) (length entries) → Inside r (length entries)
+  found_inside current other r l h =
+      record {
+        some = λ n a. (in_buffer n current other (sym a ∙ l) h).0;
+        fits = λ n a. (in_buffer n current other (sym a ∙ l) h).1;
+      }

@@ -5,7 +5,7 @@ use mathlib.Core.Path.{◌≡◌, refl, sym, ap, ◌∙◌}
 use mathlib.Core.Bool.{Bool, true, false, ◌||◌, ◌&&◌}
 use mathlib.Core.List.{List, [], ◌∷◌}
 use mathlib.Core.Option.{Option, none, some, map}
-use lib.Dec.{leb, ltb, eqb, eqb-suc-zero}
+use lib.Dec.{leb, ltb, eqb}
 use Rattle.model.specs.declared.Table.{Table}
 use Rattle.model.specs.Memory.{link_of, key_of, chain, met}
 use Rattle.model.specs.Calls.{searched, first_with}

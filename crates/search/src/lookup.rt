@@ -7,14 +7,8 @@ ghost use Rattle.model.proofs.Soundness.{Sound};
 ghost use Rattle.search.specs.Tables.{searched_in, Readable};
 
 use memory::entry::{key_of, link_of};
-use memory::state::bucket_index;
+use memory::state::{bucket_index, choose};
 use model::{Lookup, State, Table};
-
-fn choose(flag: bool, yes: u32, no: u32) -> u32
-    ensures { result ≡ cond flag yes no }
-{
-    if flag { yes } else { no }
-}
 
 // The first entry with the key, on the chain of bucket b in a table of that size. One loop reads the whole chain, which must
 // be sound to its end, and keeps that entry and the one before it. 0 is none.
@@ -86,22 +80,10 @@ pub fn lookup_in(
 fn both_tables(old: Lookup, new: Lookup) -> Lookup
     ensures { result ≡ both old new }
 {
-    match old {
-        Lookup::Damaged => Lookup::Damaged,
-        Lookup::Absent => new,
-        Lookup::At {
-            table: _,
-            before: _,
-            entry: _,
-        } => match new {
-            Lookup::Damaged => Lookup::Damaged,
-            Lookup::Absent => old,
-            Lookup::At {
-                table: _,
-                before: _,
-                entry: _,
-            } => old,
-        },
+    match (old, new) {
+        (Lookup::Absent, _) => new,
+        (Lookup::At { .. }, Lookup::Damaged) => Lookup::Damaged,
+        _ => old,
     }
 }
 

@@ -52,10 +52,10 @@ module _ (entries₀ : List ℕ) (capacity : ℕ) (fits : capacity * 3 ≤ lengt
       }
 
   module _ (n link : ℕ) (entries : List ℕ) (h : Linking entries₀ capacity n link entries) where
-    pub linking_next : (entries' : List ℕ) → 0 < n → entries' ≡ set_entry entries n link 0 0
-        → Linking entries₀ capacity (n - 1) n entries'
+    pub linking_next : (entries' : List ℕ) → 0 < n → entries' ≡ set_entry entries (n - 1 + 1) link 0 0
+        → Linking entries₀ capacity (n - 1) (n - 1 + 1) entries'
     unfolding free_link free_entries
-    linking_next entries' l e = stepped n h l e
+    linking_next entries' l e = let same : n - 1 + 1 ≡ n = omega arith in rw same (stepped n h l (rw same at e))
       where
         stepped : (n : ℕ) → Linking entries₀ capacity n link entries → 0 < n → entries' ≡ set_entry entries n link 0 0
             → Linking entries₀ capacity (n - 1) n entries'

@@ -1,5 +1,4 @@
 -- What the loops keep and what each turn gives, and what the parts of a call come to.
-mod Clearing
 mod Fitting
 mod FreeList
 mod NewStore

@@ -6,8 +6,5 @@ pub(crate) fn clear(buckets: &mut [u32], size: u32)
     requires { size ≤ length buckets.old }
     ensures { buckets.new ≡ cleared size buckets.old }
 {
-    let end = size as usize;
-    for i in 0..end {
-        buckets[i] = 0;
-    }
+    buckets[..size as usize].fill(0);
 }

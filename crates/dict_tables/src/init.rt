@@ -6,7 +6,7 @@ ghost use Rattle.model.specs.Calls.After.{after};
 use crate::clear::clear;
 use memory::entry::set_entry;
 use memory::state::is_legal_size;
-use model::{LARGEST_CAPACITY, Error, State, Unstarted};
+use model::{Error, LARGEST_CAPACITY, State, Unstarted};
 
 // Entries 1 to the capacity as the free list, each linked to the next, keys and values 0. From the last one down, so
 // that the link to write is the entry written before.
@@ -14,12 +14,10 @@ fn link_free(entries: &mut [u32], capacity: u32)
     requires { capacity * 3 ≤ length entries.old }
     ensures { entries.new ≡ calls.free_entries 1 capacity ++ drop (capacity * 3) entries.old }
 {
-    let mut n = capacity;
     let mut link = 0;
-    while 0 < n {
-        set_entry(entries, n, link, 0, 0);
-        link = n;
-        n -= 1;
+    for below in (0..capacity).rev() {
+        set_entry(entries, below + 1, link, 0, 0);
+        link = below + 1;
     }
 }
 
@@ -46,9 +44,10 @@ fn empty_state(size: u32, free_head: u32, capacity: u32) -> State
 pub fn no_state() -> State
     ensures { result ≡ calls.no_state }
 {
-    let mut n = empty_state(0, 0, 0);
-    n.resize_allowed = false;
-    n
+    State {
+        resize_allowed: false,
+        ..empty_state(0, 0, 0)
+    }
 }
 
 pub fn init(
@@ -62,16 +61,20 @@ pub fn init(
         ≡ calls.init first.old second.old entries.old capacity size }
 {
     let within_limits = (1 <= capacity) & (capacity <= LARGEST_CAPACITY) & is_legal_size(size);
-    let long_enough = (size as usize <= first.len()) & (capacity as usize * 3 <= entries.len());
-    if within_limits {
-        if long_enough {
-            clear(first, size);
-            link_free(entries, capacity);
-            Ok(empty_state(size, 1, capacity))
-        } else {
-            Err(Unstarted { error: Error::BadState, state: no_state() })
-        }
-    } else {
-        Err(Unstarted { error: Error::BadSize, state: no_state() })
+    if !within_limits {
+        return Err(Unstarted {
+            error: Error::BadSize,
+            state: no_state(),
+        });
     }
+    let long_enough = (size as usize <= first.len()) & (capacity as usize * 3 <= entries.len());
+    if !long_enough {
+        return Err(Unstarted {
+            error: Error::BadState,
+            state: no_state(),
+        });
+    }
+    clear(first, size);
+    link_free(entries, capacity);
+    Ok(empty_state(size, 1, capacity))
 }

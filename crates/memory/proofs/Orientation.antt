@@ -112,6 +112,22 @@ module _ {A : Type 0} (s : State) (first second entries : List ℕ) (t : Bool)
       ∙ ap (back s.second_is_current)
       (rw h at (by_test s first second entries t e (λ current other. After.after refusal current other entries) call))
 
+-- The way on from `require_sound(..)?` in a call that writes, once the flag is known: what was the current buffer's is so again.
+module _ {A : Type 0} (s : State) (first second entries : List ℕ)
+    (h : sound_lent (length first) (length second) (length entries) s ≡ true)
+    (refusal : A) (call : List ℕ → List ℕ → After A) (a : A) (x y e : List ℕ) where
+  pub writing_first : s.second_is_current ≡ false → After.after a x y e ≡ call first second
+      → After.after a x y e ≡ writing s first second entries refusal call
+  writing_first f p =
+      writing_sound s first second entries _ refl refusal call _ h
+      (written_first s.second_is_current call first second a x y e f p)
+
+  pub writing_second : s.second_is_current ≡ true → After.after a x y e ≡ call second first
+      → After.after a y x e ≡ writing s first second entries refusal call
+  writing_second f p =
+      writing_sound s first second entries _ refl refusal call _ h
+      (written_second s.second_is_current call first second a x y e f p)
+
 -- The exit of `require_sound(..)?`: what it answers is what the definition answers to a state that is not sound.
 module _ {A : Type 0} (s : State) (first second entries : List ℕ) (r : Result A Error) (x : Error)
     (gives : IsErrAnd r (λ e. e ≡ x))

@@ -1,12 +1,8 @@
--- The goals of `clear` that the search leaves.
-use Rattle.dict_tables.proofs.Clearing.{clearing_start, clearing_next, clearing_end}
+-- `dict_tables::clear::clear` meets its contract: what was filled stands before the rest.
+use lib.Seq.{length-take-le}
+use Rattle.model.specs.Calls.{cleared}
 use Rattle.dict_tables.proofs.clear.clear.Goals as goal
 
-pub loop-i-init : goal.loop-i-init
-loop-i-init c = search clearing_start
-
-pub loop-i-preserved : goal.loop-i-preserved
-loop-i-preserved c = search clearing_next
-
 pub returns : goal.returns
-returns c = search clearing_end
+unfolding cleared
+returns c = rw (c.fill.ensures.after (λ y h. h), length-take-le c.args.size c.args.buckets.now c.requires)

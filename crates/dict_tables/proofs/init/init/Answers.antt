@@ -10,14 +10,14 @@ clear-requires c = search fits_first
 pub link_free-requires : goal.link_free-requires
 link_free-requires c = search fits_last
 
-pub returns-then-long_enough : goal.returns-then-long_enough
+pub returns : goal.returns
 unfolding legal_capacity largest_capacity
-returns-then-long_enough c = search made_ready
+returns c = search made_ready
 
-pub returns-else-long_enough : goal.returns-else-long_enough
+pub returns-then-not-long_enough : goal.returns-then-not-long_enough
 unfolding legal_capacity largest_capacity
-returns-else-long_enough c = search refused_buffers
+returns-then-not-long_enough c = search refused_buffers
 
-pub returns-else-within_limits : goal.returns-else-within_limits
+pub returns-then-not-within_limits : goal.returns-then-not-within_limits
 unfolding legal_capacity largest_capacity
-returns-else-within_limits c = search refused_limits
+returns-then-not-within_limits c = search refused_limits

@@ -3,8 +3,8 @@
 use Rattle.dict_tables.proofs.FreeList.{Linking}
 use Rattle.dict_tables.proofs.init.link_free.Given as goal
 
-abbrev pub invariant-loop-n : goal.invariant-loop-n
-invariant-loop-n l = Linking l.initial.entries l.capacity l.n l.link l.entries
+abbrev pub invariant-loop-below : goal.invariant-loop-below
+invariant-loop-below l = Linking l.initial.entries l.capacity l.below l.link l.entries
 
-abbrev pub decreases-loop-n : goal.decreases-loop-n
-decreases-loop-n l = l.n
+abbrev pub decreases-loop-below : goal.decreases-loop-below
+decreases-loop-below l = l.below

@@ -1,2 +1,0 @@
--- What the functions below the public call hand up: the public call makes its answer of it.
-pub mod Begin

@@ -1,12 +1,23 @@
--- `dict_suggest_look::current_table::current_table` meets its contract: the current buffer is chosen once.
-use Rattle.model.specs.Calls as calls
-use Rattle.memory.proofs.Orientation.{read_first, read_second}
+-- `dict_suggest_look::current_table::current_table` meets its contract: in a sound state the table lies in its buffer.
+use Rattle.std.proofs.Common.{sym, ◌∙◌, refl}
+use Rattle.model.specs.Calls.{current_table}
+use Rattle.memory.proofs.Orientation.{sound_oriented, reading_oriented, reading_refused}
+use Rattle.dict_suggest_look.proofs.Sound.{table_within}
 use Rattle.dict_suggest_look.proofs.current_table.current_table.Goals as goal
 
-pub returns-then-s : goal.returns-then-s
-unfolding calls.current_table calls.reading
-returns-then-s c = search read_second
+pub returns-then-not-is_sound_lent : goal.returns-then-not-is_sound_lent
+unfolding current_table
+returns-then-not-is_sound_lent c =
+    reading_refused _ _ _ _ _ c.is_sound_lent.ensures _ _ c.if-not-is_sound_lent.true
 
-pub returns-else-s : goal.returns-else-s
-unfolding calls.current_table calls.reading
-returns-else-s c = search read_first
+pub slice_bounds-result-end-2 : goal.slice_bounds-result-end-2
+slice_bounds-result-end-2 c =
+    table_within _ _ _ _
+    (sound_oriented _ _ _ _ _ c.oriented.ensures.current c.oriented.ensures.other _
+    (sym c.is_sound_lent.ensures ∙ c.if-not-is_sound_lent.false))
+
+pub returns : goal.returns
+unfolding current_table
+returns c =
+    reading_oriented _ _ _ _ _ c.oriented.ensures.current c.oriented.ensures.other _
+    (sym c.is_sound_lent.ensures ∙ c.if-not-is_sound_lent.false) _ _ _ refl

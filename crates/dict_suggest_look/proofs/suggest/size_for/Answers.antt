@@ -1,12 +1,8 @@
--- `dict_suggest_look::suggest::size_for` meets its contract: the larger of the number and the least suggestion is asked for.
-use Rattle.model.specs.Limits.{least_suggestion}
-use Rattle.dict_suggest_look.proofs.Doubling.{least_for, size_for_lem}
+-- `dict_suggest_look::suggest::size_for` meets its contract: the next power of two is the first that the definition comes to.
+use Rattle.dict_suggest_look.proofs.Powers.{size_is}
 use Rattle.dict_suggest_look.proofs.suggest.size_for.Goals as goal
 
-pub returns-then-n-lt-LEAST_SUGGESTION : goal.returns-then-n-lt-LEAST_SUGGESTION
-unfolding least_suggestion
-returns-then-n-lt-LEAST_SUGGESTION c = search least_for
-
-pub returns-else-n-lt-LEAST_SUGGESTION : goal.returns-else-n-lt-LEAST_SUGGESTION
-unfolding least_suggestion
-returns-else-n-lt-LEAST_SUGGESTION c = search size_for_lem
+pub returns : goal.returns
+returns c =
+    size_is _ _ _ c.clamp.ensures c.next_power_of_two.ensures.power c.next_power_of_two.ensures.lower_bound
+    c.next_power_of_two.ensures.upper_bound

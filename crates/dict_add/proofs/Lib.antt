@@ -1,3 +1,2 @@
--- What an add comes to, from the functions of numbers to the definition: with no rehash, and during one.
+-- What an add comes to, from the current and the other buffer to the lent ones: with no rehash, and during one.
 mod Adding
-mod During

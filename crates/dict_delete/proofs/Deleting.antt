@@ -1,6 +1,6 @@
 -- What a delete comes to: alone, and after a step, by what was told of the key.
 -- Assumes nothing.
-use Prim.Native.Nat.{ℕ, ◌+◌, ◌-◌, ◌≤◌}
+use Prim.Native.Nat.{ℕ, ◌-◌}
 use mathlib.Core.Path.{◌≡◌, refl, sym, ap, subst, ◌∙◌}
 use mathlib.Core.Bool.{Bool, true, false}
 use mathlib.Core.List.{List}
@@ -11,18 +11,17 @@ use Rattle.model.specs.declared.Table.{Table}
 use Rattle.model.specs.declared.Error.{Error}
 use Rattle.model.specs.declared.Lookup.{Lookup}
 use Rattle.model.specs.Memory.{used_of}
-use Rattle.model.specs.Calls.{After, changed, recounted, with_count, lookup, held, removed, deleted, delete_alone, advanced, settled, step_done, rehash_step, step_due, is_deleted, delete}
+use Rattle.model.specs.Calls.{After, oriented, back, changed, recounted, with_count, lookup, held, removed, deleted, delete_alone, step_taken, rehash_step, step_due, is_deleted, delete}
 use Rattle.memory.specs.Lent.{sound_lent}
-use Rattle.dict_rehash.specs.Progress.{step_answer, step_room}
 use Rattle.memory.proofs.Orientation.{written_first, written_second, writing_refused, writing_sound}
+use Rattle.memory.proofs.Tested.{lent_first, lent_second}
 use Rattle.search.specs.Tables.{lookup_lent}
-use Rattle.after_step.specs.Presence.{presence, presence_after}
+use Rattle.after_step.specs.Presence.{presence, presence_after, presence_then}
 use Rattle.after_step.proofs.StepFirst.{answer_of, answer_by, is_damaged, is_absent, is_held, damage_after, StepTaken, step_taken_lem, first_alone, first_unsound, first_done, first_refused}
-use Rattle.after_step.proofs.Courses.{taken_first, taken_second, told_first, told_second}
-use Rattle.during_rehash.specs.declared.moving.Taken.{Taken}
-use Rattle.during_rehash.specs.declared.moving.Purpose.{Purpose}
-use Rattle.during_rehash.specs.Moving.{RefusedFor, Stopped, Ready, Prepared, PreparedIn, Meets}
-use Rattle.dict_delete.specs.Prepared.{PreparedLent, SteppedBefore}
+use Rattle.during_rehash.specs.Foretold.{StepDue}
+use Rattle.during_rehash.specs.Moving.{first_of, second_of, if_held}
+use Rattle.during_rehash.proofs.Preparing.{held_lent}
+use Rattle.dict_delete.specs.Step.{step_for}
 use Rattle.std.specs.Prelude.{Result, Ok, Err}
 
 -- Alone, on the lent buffers.
@@ -76,15 +75,20 @@ told_held : (s : State) (l : Lookup) → Ok true ≡ presence l → is_deleted (
 unfolding delete_answer held is_deleted
 told_held s l e = ap (λ (k : Lookup). is_deleted (delete_answer s k)) (is_held l e).3
 
+-- a step's answer as a delete's: a refusal is the same
+only_state : After (Result (ℕ × State) Error) → After (Result State Error)
+only_state (After.after (Err error) x y z) = After.after (Err error) x y z
+only_state (After.after (Ok (count, t)) x y z) = After.after (Ok t) x y z
+
 -- The whole call.
 
 module _ (s : State) (first second entries : List ℕ) (key : ℕ) where
-  pub delete_unsound : (t : Bool) → t ≡ sound_lent (length first) (length second) (length entries) s → t ≡ false
+  pub delete_unsound : sound_lent (length first) (length second) (length entries) s ≡ false
       → After.after (Err Error.BadState) first second entries ≡ delete s first second entries key
   unfolding delete delete_alone
-  delete_unsound t e f =
-      first_unsound Err is_deleted (λ t x y z. delete_alone t x y z key) s first second entries t e f
-      (writing_refused s first second entries t e _ _ f)
+  delete_unsound f =
+      first_unsound Err is_deleted (λ t x y z. delete_alone t x y z key) s first second entries _ refl f
+      (writing_refused s first second entries _ refl _ _ f)
 
   -- no step is due
   pub delete_now : (r : After (Result State Error)) → step_due s ≡ false → r ≡ delete_alone s first second entries key
@@ -95,7 +99,7 @@ module _ (s : State) (first second entries : List ℕ) (key : ℕ) where
 
   module _ (h : sound_lent (length first) (length second) (length entries) s ≡ true) (f : step_due s ≡ true) (v : Result Bool Error)
       (k : v ≡ presence_after key (rehash_step s first second entries)) where
-    pub delete_damaged : (x : Error) → v ≡ Err x → After.after (Err x) first second entries ≡ delete s first second entries key
+    delete_damaged : (x : Error) → v ≡ Err x → After.after (Err x) first second entries ≡ delete s first second entries key
     unfolding delete is_deleted
     delete_damaged x d =
         let damaged = damage_after key (rehash_step s first second entries) x (sym d ∙ k) in
@@ -104,7 +108,7 @@ module _ (s : State) (first second entries : List ℕ) (key : ℕ) where
         (λ t p q z u o e w.
         alone_answer t p q z key u ∙ told_damaged t (lookup_lent t p q z key) (ap Err (sym damaged) ∙ sym d ∙ w) ∙ ap Err (sym damaged))
 
-    pub delete_absent : v ≡ (Ok false)
+    delete_absent : v ≡ (Ok false)
         → After.after (Err Error.Absent) first second entries ≡ delete s first second entries key
     unfolding delete is_deleted
     delete_absent d =
@@ -112,61 +116,38 @@ module _ (s : State) (first second entries : List ℕ) (key : ℕ) where
         (Err Error.Absent) h k (λ e. let z : ◌≡◌ {A = ℕ} 0 1 = cc in absurd (omega arith)) refl
         (λ t x y z p o e w. alone_answer t x y z key p ∙ told_absent t (lookup_lent t x y z key) (sym d ∙ w))
 
-  -- refused for what was told
-  delete_refused_for : (v : Result Bool Error) → v ≡ presence_after key (rehash_step s first second entries) → (error : Error)
-      → RefusedFor v error → sound_lent (length first) (length second) (length entries) s ≡ true → step_due s ≡ true
-      → After.after (Err error) first second entries ≡ delete s first second entries key
-  unfolding RefusedFor
-  delete_refused_for (Err x) k error e h f = rw e (delete_damaged h f (Err x) k x refl)
-  delete_refused_for (Ok false) k error e h f = rw e (delete_absent h f (Ok false) k refl)
-  delete_refused_for (Ok true) k error e h f = absurd e
+  -- by what the step before it answers
 
-  -- the state that the step leaves
+  module _ (h : sound_lent (length first) (length second) (length entries) s ≡ true) (f : step_due s ≡ true) (x y z : List ℕ) where
+    abbrev told : Result Bool Error
+    told = presence_after key (rehash_step s first second entries)
 
-  module _ (r : Taken) (x y z : List ℕ) (k : PreparedLent s first second entries key r x y z) where
-    pub before_stopped : (error : Error) → r ≡ Taken.Refused error
-        → SteppedBefore s first second entries key (Err error) x y z
-    unfolding Prepared SteppedBefore
-    before_stopped error e = rw e at k
-
-    pub before_pushed : (free : ℕ) (a : Result (ℕ × State) Error) → r ≡ Taken.Pushed free → SteppedBefore s first second entries key a x y z
-    unfolding Prepared
-    before_pushed free a e = absurd (rw e at k)
-
-    module _ (count next free : ℕ) (e : r ≡ Taken.Stepped count next free) where
-      ready : Ready s (presence_after key (rehash_step s first second entries)) (rehash_step s first second entries) count next x y z
-      unfolding Prepared
-      ready = rw e at k
-
-      pub ready_old : count ≤ s.old_used
-      unfolding step_room
-      ready_old = ready.room.0
-
-      pub ready_new : s.new_used + count ≤ s.capacity
-      unfolding step_room
-      ready_new = ready.room.1
-
-      pub before_stepped : (t : State) → t ≡ settled (advanced s count next)
-          → SteppedBefore s first second entries key (Ok (count, t)) x y z
-      unfolding SteppedBefore step_answer step_done
-      before_stepped t te = (ready.told, rw te ready.step)
-
-  -- and the delete
-
-  module _ (h : sound_lent (length first) (length second) (length entries) s ≡ true) (f : step_due s ≡ true) (r : Result (ℕ × State) Error)
-      (x y z : List ℕ) (k : SteppedBefore s first second entries key r x y z) where
-    pub delete_stopped : (error : Error) → r ≡ Err error
+    pub delete_refused : (error : Error) → After.after (Err error) x y z ≡ step_for s first second entries key
         → After.after (Err error) x y z ≡ delete s first second entries key
-    unfolding SteppedBefore
-    delete_stopped error e =
-        let g : Stopped (presence_after key (rehash_step s first second entries)) first second entries error x y z = rw e at k in
-        rw (g.first_same, g.second_same, g.entries_same) (delete_refused_for _ refl error g.told h f)
+    unfolding step_for if_held presence_after only_state
+    delete_refused error k = by told refl k
+      where
+        by : (v : Result Bool Error) → v ≡ told
+            → After.after (Err error) x y z ≡ if_held v (rehash_step s first second entries) first second entries
+            → After.after (Err error) x y z ≡ delete s first second entries key
+        by (Err e) g k = ap only_state k ∙ delete_damaged h f (Err e) g e refl
+        by (Ok false) g k = ap only_state k ∙ delete_absent h f (Ok false) g refl
+        by (Ok true) g k =
+            let damaged : Ok true ≡ Err Error.Damaged = g ∙ ap (presence_after key) (sym k) in
+            let z : ◌≡◌ {A = ℕ} 0 1 = cc in
+            absurd (omega arith)
 
-    module _ (count : ℕ) (t : State) (e : r ≡ Ok (count, t)) where
-      told_and_taken : (Ok true ≡ presence_after key (rehash_step s first second entries))
-          × (After.after (Ok (count, t)) x y z ≡ rehash_step s first second entries)
-      unfolding SteppedBefore
-      told_and_taken = rw e at k
+    module _ (count : ℕ) (t : State) (k : After.after (Ok (count, t)) x y z ≡ step_for s first second entries key) where
+      told_and_taken : (Ok true ≡ told) × (After.after (Ok (count, t)) x y z ≡ rehash_step s first second entries)
+      unfolding step_for if_held
+      told_and_taken = by told refl k
+        where
+          by : (v : Result Bool Error) → v ≡ told
+              → After.after (Ok (count, t)) x y z ≡ if_held v (rehash_step s first second entries) first second entries
+              → (Ok true ≡ told) × (After.after (Ok (count, t)) x y z ≡ rehash_step s first second entries)
+          by (Err e) g k = let z : ◌≡◌ {A = ℕ} 0 1 = cc in absurd (omega arith)
+          by (Ok false) g k = let z : ◌≡◌ {A = ℕ} 0 1 = cc in absurd (omega arith)
+          by (Ok true) g k = (g, k)
 
       then : StepTaken s first second entries key (Ok true) count t x y z
       then =
@@ -177,51 +158,49 @@ module _ (s : State) (first second entries : List ℕ) (key : ℕ) where
       pub then_sound : sound_lent (length x) (length y) (length z) t ≡ true
       then_sound = then.sound
 
-      pub delete_held : (a : Result State Error) (p q w : List ℕ) → After.after a p q w ≡ delete_alone t x y z key
-          → After.after a p q w ≡ delete s first second entries key
+      pub delete_held : (a : Result State Error) (u v w : List ℕ) → After.after a u v w ≡ delete_alone t x y z key
+          → After.after a u v w ≡ delete s first second entries key
       unfolding delete answer_of
-      delete_held a p q w g =
+      delete_held a u v w g =
           first_done Err is_deleted (λ t x y z. delete_alone t x y z key) s first second entries f count t x y z
-          a p q w then.step g
+          a u v w then.step g
           (ap is_deleted (ap answer_of g ∙ alone_answer t x y z key then.sound)
           ∙ told_held t (lookup_lent t x y z key) then.told)
 
--- From the current and the other buffer to the lent ones.
-
--- what is left to a delete, said of another step that comes to the same in other places
-elsewhere : (s : State) (v w : Result Bool Error) (a b : After (Result (ℕ × State) Error)) (c o p q entries : List ℕ) (x y x' y' z : List ℕ) → v ≡ w
-    → ((m : Result (ℕ × State) Error) → After.after m x y z ≡ a → After.after m x' y' z ≡ b)
-    → (x ≡ c → y ≡ o → (x' ≡ p) × (y' ≡ q)) → (r : Taken)
-    → Prepared s v a c o entries r x y z → Prepared s w b p q entries r x' y' z
-unfolding Prepared
-elsewhere s v w a b c o p q entries x y x' y' z e there same (Taken.Refused error) k =
-    let (l, m) = same k.first_same k.second_same in
-    record {
-      told = subst (λ (u : Result Bool Error). RefusedFor u error) e k.told;
-      first_same = l;
-      second_same = m;
-      entries_same = k.entries_same;
-    }
-elsewhere s v w a b c o p q entries x y x' y' z e there same (Taken.Pushed free) k = k
-elsewhere s v w a b c o p q entries x y x' y' z e there same (Taken.Stepped count next free) k =
-    record { told = k.told ∙ e; step = there _ k.step; room = k.room }
+-- The step before it, from the current and the other buffer to the lent ones.
 
 module _ (s : State) (first second entries : List ℕ)
-    (h : sound_lent (length first) (length second) (length entries) s ≡ true) (d : step_due s ≡ true) (key : ℕ) (r : Taken)
-    (x y z : List ℕ) where
-  told_of : (current other : List ℕ) → Meets s current other entries key Purpose.Delete r x y z
-      → PreparedIn s current other entries key r x y z
-  unfolding Meets
-  told_of current other k = k d
+    (h : sound_lent (length first) (length second) (length entries) s ≡ true) (d : step_due s ≡ true) where
+  pub due_first : s.second_is_current ≡ false → StepDue s first second entries
+  due_first f = record { sound = lent_first s _ _ _ h f; due = d }
 
-  pub prepared_first : s.second_is_current ≡ false
-      → Meets s first second entries key Purpose.Delete r x y z → PreparedLent s first second entries key r x y z
-  prepared_first f k =
-      elsewhere s _ _ _ _ first second first second entries x y x y z (told_first s first second entries h d key _ f refl)
-      (λ m g. taken_first s first second entries h d m x y z f g) (λ l m. (l, m)) r (told_of first second k)
+  pub due_second : s.second_is_current ≡ true → StepDue s second first entries
+  due_second f = record { sound = lent_second s _ _ _ h f; due = d }
 
-  pub prepared_second : s.second_is_current ≡ true
-      → Meets s second first entries key Purpose.Delete r x y z → PreparedLent s first second entries key r y x z
-  prepared_second f k =
-      elsewhere s _ _ _ _ second first first second entries x y y x z (told_second s first second entries h d key _ f refl)
-      (λ m g. taken_second s first second entries h d m y x z f g) (λ l m. (m, l)) r (told_of second first k)
+  module _ (key : ℕ) (a : Result (ℕ × State) Error) (x y z : List ℕ) where
+    -- on the current and the other buffer
+    abbrev step_in : List ℕ → List ℕ → After (Result (ℕ × State) Error)
+    step_in current other =
+        if_held (presence_then key s.second_is_current (step_taken s current other entries)) (step_taken s current other entries)
+        current other entries
+
+    abbrev Comes : (current other : List ℕ) → Bool → Type 0
+    Comes current other g =
+        back g (step_in current other) ≡ step_for s (first_of g current other) (second_of g current other) entries key
+
+    pub step_first : s.second_is_current ≡ false
+        → After.after a x y z
+        ≡ if_held (presence_then key s.second_is_current (step_taken s first second entries)) (step_taken s first second entries)
+        first second entries
+        → After.after a x y z ≡ step_for s first second entries key
+    unfolding step_for oriented back
+    step_first f p = p ∙ subst (Comes first second) f (held_lent s first second entries key (due_first f))
+
+    pub step_second : s.second_is_current ≡ true
+        → After.after a x y z
+        ≡ if_held (presence_then key s.second_is_current (step_taken s second first entries)) (step_taken s second first entries)
+        second first entries
+        → After.after a y x z ≡ step_for s first second entries key
+    unfolding step_for oriented back
+    step_second f p =
+        ap (back true) p ∙ subst (Comes second first) f (held_lent s second first entries key (due_second f))

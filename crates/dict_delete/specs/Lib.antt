@@ -1,3 +1,2 @@
--- What the functions below the public call hand up and leave with no rehash under way, of which its answer is made.
-pub mod Removal
-pub mod Prepared
+-- The step that comes before a delete, on the lent buffers.
+pub mod Step

@@ -1,19 +1,17 @@
 // Delete a held key (SPECIFICATION, "Delete"). The state is tested on the lent lengths, then whether a step is due: during a
-// rehash that no safe iterator holds up one comes first. With no rehash under way the key goes from the only table, by numbers
-// (`remove`). During one the flag is read once, and below that every function knows the current and the other buffer.
+// rehash that no safe iterator holds up one comes first. With no rehash under way the key goes from the only table (`remove`).
+// During one the flag is read once, and below that every function knows the current and the other buffer.
 ghost use Rattle.std.specs.Prelude.{◌≡◌, true, length};
 ghost use Rattle.model.specs.Calls as calls;
 ghost use Rattle.model.specs.Calls.After.{after};
 ghost use Rattle.model.proofs.Soundness.{Sound};
 ghost use Rattle.model.proofs.Lookups.{Located};
 ghost use Rattle.memory.specs.Lent.{sound_lent};
-ghost use Rattle.dict_delete.specs.Prepared.{PreparedLent, SteppedBefore};
+ghost use Rattle.dict_delete.specs.Step.{step_for};
 
 use crate::remove::{delete_resting, free_entry};
-use dict_rehash::rehash::state_after;
-use during_rehash::during::during;
-use during_rehash::moving::{Purpose, Taken};
-use memory::state::is_sound_lent;
+use during_rehash::moving::step_if_held;
+use memory::state::require_sound;
 use model::{Error, Lookup, State, Table};
 use search::lookup::look_up;
 
@@ -33,18 +31,21 @@ fn remove_at(
     ensures { after result current.new other.new entries.new
         ≡ calls.removed s current.old other.old entries.old key table before n }
 {
-    let mut t = s;
-    t.free_head = n;
+    let t = State { free_head: n, ..s };
     match table {
         Table::Old => {
             free_entry(current, entries, s.old_size, key, before, n, s.free_head);
-            t.old_used = s.old_used - 1;
-            Ok(t)
+            Ok(State {
+                old_used: s.old_used - 1,
+                ..t
+            })
         }
         Table::New => {
             free_entry(other, entries, s.new_size, key, before, n, s.free_head);
-            t.new_used = s.new_used - 1;
-            Ok(t)
+            Ok(State {
+                new_used: s.new_used - 1,
+                ..t
+            })
         }
     }
 }
@@ -93,29 +94,8 @@ fn delete_alone(
     }
 }
 
-// The step, where the key is held once it is taken: the flag says which lent buffer is the current one. Where the key is not, or
-// there is damage, nothing is written.
+// The step, where the key is held once it is taken: the flag says which lent buffer is the current one.
 fn step_lent(
-    first: &mut [u32],
-    second: &mut [u32],
-    entries: &mut [u32],
-    s: State,
-    key: u32,
-) -> Taken
-    requires sound { sound_lent (length first.old) (length second.old) (length entries.old) s ≡ true }
-    requires step_due { calls.step_due s ≡ true }
-    ensures { PreparedLent s first.old second.old entries.old key result
-        first.new second.new entries.new }
-{
-    if s.second_is_current {
-        during(second, first, entries, s, key, Purpose::Delete)
-    } else {
-        during(first, second, entries, s, key, Purpose::Delete)
-    }
-}
-
-// The same with the state that the step leaves.
-fn step_before(
     first: &mut [u32],
     second: &mut [u32],
     entries: &mut [u32],
@@ -124,22 +104,13 @@ fn step_before(
 ) -> Result<(u32, State), Error>
     requires sound { sound_lent (length first.old) (length second.old) (length entries.old) s ≡ true }
     requires step_due { calls.step_due s ≡ true }
-    ensures { SteppedBefore s first.old second.old entries.old key result
-        first.new second.new entries.new }
+    ensures { after result first.new second.new entries.new
+        ≡ step_for s first.old second.old entries.old key }
 {
-    let taken = step_lent(first, second, entries, s, key);
-    match taken {
-        Taken::Refused(e) => Err(e),
-        // No delete pushes an entry.
-        Taken::Pushed(_) => Err(Error::Damaged),
-        Taken::Stepped {
-            count,
-            next,
-            free: _,
-        } => {
-            let t = state_after(s, count, next);
-            Ok((count, t))
-        }
+    if s.second_is_current {
+        step_if_held(second, first, entries, s, key)
+    } else {
+        step_if_held(first, second, entries, s, key)
     }
 }
 
@@ -157,11 +128,8 @@ fn delete_after_step(
     ensures { after result first.new second.new entries.new
         ≡ calls.delete s first.old second.old entries.old key }
 {
-    let stepped = step_before(first, second, entries, s, key);
-    match stepped {
-        Err(e) => Err(e),
-        Ok((_, t)) => delete_alone(first, second, entries, t, key),
-    }
+    let (_, then) = step_lent(first, second, entries, s, key)?;
+    delete_alone(first, second, entries, then, key)
 }
 
 pub fn delete(
@@ -174,15 +142,12 @@ pub fn delete(
     ensures { after result first.new second.new entries.new
         ≡ calls.delete s first.old second.old entries.old key }
 {
-    if is_sound_lent(first.len(), second.len(), entries.len(), s) {
-        if s.rehashing & (s.safe_iterators == 0) {
-            delete_after_step(first, second, entries, s, key)
-        } else if s.rehashing {
-            delete_alone(first, second, entries, s, key)
-        } else {
-            delete_resting(first, second, entries, s, key)
-        }
+    require_sound(first.len(), second.len(), entries.len(), s)?;
+    if s.rehashing & (s.safe_iterators == 0) {
+        delete_after_step(first, second, entries, s, key)
+    } else if s.rehashing {
+        delete_alone(first, second, entries, s, key)
     } else {
-        Err(Error::BadState)
+        delete_resting(first, second, entries, s, key)
     }
 }

@@ -1,37 +1,36 @@
 -- What an add comes to that takes a step first, by what was told of the memory after it.
 -- Assumes nothing.
-use Prim.Native.Nat.{ℕ, ◌+◌, ◌≤◌, ◌<◌}
+use Prim.Native.Nat.{ℕ, suc, ◌<◌}
 use mathlib.Core.Path.{◌≡◌, refl, sym, ap, subst, ◌∙◌}
 use mathlib.Core.Bool.{Bool, true, false, not, cond}
 use mathlib.Core.List.{List}
+use mathlib.Core.Option.{Option, none, some}
 use native.Mathlib.Omega.{arith}
 use lib.ListN.{length, get_or, set}
 use lib.Dec.{eqb}
 use Rattle.model.specs.declared.State.{State}
 use Rattle.model.specs.declared.Table.{Table}
 use Rattle.model.specs.declared.Error.{Error}
-use Rattle.model.specs.declared.Lookup.{Lookup}
+use Rattle.model.specs.declared.Ahead.{Ahead}
 use Rattle.model.specs.Keys.{bucket_of}
-use Rattle.model.specs.Memory.{link_of, set_entry, size_of, buckets_of, keys_held, sound_state}
-use Rattle.model.specs.Calls.{After, sound, oriented, back, writing, changed, state_of, old_new, retabled, pushed, target, takeable, add_alone, advanced, finished, settled, step_done, step_taken, stepped, rehash_step, step_due, is_added, add_after_step}
-use Rattle.model.proofs.Soundness.{Sound, Counted, sound_test}
+use Rattle.model.specs.Memory.{link_of, set_entry, size_of, buckets_of, sound_state, Place, chain_at}
+use Rattle.model.specs.Calls.{After, sound, oriented, back, writing, changed, state_of, old_new, retabled, pushed, target, add_alone, advanced, finished, settled, step_done, moved_chain, moved_from, ahead_of, step_taken, stepped, rehash_step, step_due, is_added, add_after_step}
+use Rattle.model.proofs.Soundness.{Sound, Counted, sound_test, tested_counts}
 use Rattle.model.proofs.StepLeaves.{Follows, StepLeaves, step_leaves}
 use Rattle.memory.specs.Lent.{sound_lent}
 use Rattle.memory.proofs.Orientation.{writing_sound}
 use Rattle.search.specs.Tables.{lookup_lent, Readable}
-use Rattle.dict_rehash.specs.Progress.{step_answer, step_room}
-use Rattle.dict_rehash.specs.declared.rehash.Moved.{Moved}
 use Rattle.dict_rehash.proofs.Due.{due_rehashing, due_unpaused, due_stepped}
-use Rattle.dict_rehash.proofs.Stepping.{moved_old, moved_new}
-use Rattle.after_step.specs.Presence.{presence, presence_after, presence_then, entries_after}
-use Rattle.after_step.specs.Course.{Course}
+use Rattle.after_step.specs.Presence.{presence_after, presence_then, entries_after}
 use Rattle.after_step.specs.Planned.{Planned}
-use Rattle.after_step.proofs.StepFirst.{is_absent, damage_then, StepTaken, step_taken_lem, first_done, first_refused}
+use Rattle.after_step.proofs.StepFirst.{is_absent, StepTaken, step_taken_lem, first_done, first_refused}
 use Rattle.during_rehash.specs.Counts.{one_more}
-use Rattle.during_rehash.specs.declared.moving.Taken.{Taken}
-use Rattle.during_rehash.specs.Moving.{first_of, second_of, add_moving, moved_state, taken_answer, taken_room, Comes, Plan, Room, Takes}
+use Rattle.during_rehash.specs.Free.{next_free}
+use Rattle.during_rehash.specs.Foretold.{StepDue, Foretold, Untold}
+use Rattle.during_rehash.specs.declared.foresee.Foresight.{Foresight}
+use Rattle.during_rehash.specs.Moving.{first_of, second_of, add_moving}
 use Rattle.during_rehash.proofs.Taking.{taken}
-use Rattle.during_rehash.proofs.Answering.{add_answer, alone_answer, told_damaged, told_held, absent_full, absent_bad, none_free, bad_link, good_link, pushed_lent, alone_pushes}
+use Rattle.during_rehash.proofs.Answering.{add_counted, add_answer, alone_answer, next_follows, Takes, takes_free, some_free, pushed_lent, alone_pushes}
 use Rattle.std.specs.Prelude.{Result, Ok, Err}
 
 -- ---- the current and the other buffer, and the lent ones
@@ -83,7 +82,7 @@ module _ (s : State) (current other entries : List ℕ) where
         pick false = refl
         pick true = refl
 
-    lent_step : step_due s ≡ true
+    pub lent_step : step_due s ≡ true
         → back s.second_is_current (step_taken s current other entries) ≡ rehash_step s first second entries
     unfolding rehash_step
     lent_step d =
@@ -101,73 +100,40 @@ module _ (s : State) (current other entries : List ℕ) where
 
 -- ---- refusals
 
-room_then : (s : State) → (s.old_used + s.new_used ≡ s.capacity → ⊥) → (t : State) → Follows s t
-    → keys_held t ≡ t.capacity → ⊥
-unfolding keys_held
-room_then s room t o e = room (sym o.keys ∙ e ∙ o.capacity)
+module _ (s : State) (current other entries : List ℕ) (key value : ℕ) (d : StepDue s current other entries) where
+  abbrev step : After (Result (ℕ × State) Error)
+  step = step_taken s current other entries
 
-module _ (s : State) (current other entries : List ℕ) (key value : ℕ) where
   -- the number that the call alone gives on what any answered step leaves
-  refuses_with : (h : Sound s (length current) (length other) (length entries)) → step_due s ≡ true → (v : Result Bool Error)
-      → v ≡ presence_then key s.second_is_current (step_taken s current other entries) → (error : Error)
-      → (v ≡ (Err Error.Damaged) → error ≡ Error.Damaged)
-      → ((t : State) (z : List ℕ) (l : Lookup) → Follows s t → z ≡ entries_after (step_taken s current other entries) → v ≡ presence l
-      → add_answer t z l ≡ Err error)
-      → Comes s current other entries key value (Taken.Refused error) current other entries
-  unfolding taken_answer taken_room add_moving add_after_step is_added presence_then
-  refuses_with h e v k error damaged each =
-      record {
-        same =
-            lent_back s.second_is_current (Err error) current other entries
-            ∙ ap (back s.second_is_current)
-            (first_refused Err is_added (λ t x y z. add_alone t x y z key value) s (first s current other entries)
-            (second s current other entries) entries e key v (Err error) (lent s current other entries h)
-            (k ∙ ap (presence_after key) (lent_step s current other entries h e)) (λ d. ap Err (damaged d)) refl
-            (λ t x y z p o q w.
-            alone_answer t x y z key value p ∙ each t z (lookup_lent t x y z key) o (q ∙ lent_entries s current other entries h e) w));
-        room = tt;
-      }
+  refuses_with : (v : Result Bool Error) → v ≡ presence_then key s.second_is_current step → (error : Error)
+      → (v ≡ Err Error.Damaged → error ≡ Error.Damaged)
+      → ((t : State) → Follows s t → add_answer t (entries_after step) v ≡ Err error)
+      → After.after (Err error) current other entries ≡ add_moving s current other entries key value
+  unfolding add_moving add_after_step is_added presence_then
+  refuses_with v k error damaged each =
+      lent_back s.second_is_current (Err error) current other entries
+      ∙ ap (back s.second_is_current)
+      (first_refused Err is_added (λ t x y z. add_alone t x y z key value) s (first s current other entries)
+      (second s current other entries) entries d.due key v (Err error) (lent s current other entries d.sound)
+      (k ∙ ap (presence_after key) (lent_step s current other entries d.sound d.due)) (λ e. ap Err (damaged e)) refl
+      (λ t x y z p o q w.
+      alone_answer t x y z key value p
+      ∙ ap (add_answer t z) (sym w)
+      ∙ ap (λ (u : List ℕ). add_answer t u v) (q ∙ lent_entries s current other entries d.sound d.due)
+      ∙ each t o))
 
-  module _ (h : Sound s (length current) (length other) (length entries)) (e : step_due s ≡ true) (v : Result Bool Error)
-      (k : v ≡ presence_then key s.second_is_current (step_taken s current other entries)) where
-    pub add_damaged : (x : Error) → v ≡ Err x → Comes s current other entries key value (Taken.Refused x) current other entries
-    add_damaged x d =
-        let damaged = damage_then key s.second_is_current (step_taken s current other entries) x (sym d ∙ k) in
-        refuses_with h e v k x (λ f. damaged) (λ t z l o q w. told_damaged t z l (ap Err (sym damaged) ∙ sym d ∙ w) ∙ ap Err (sym damaged))
+  pub add_untold : (error : Error) → Untold s current other entries key error
+      → After.after (Err error) current other entries ≡ add_moving s current other entries key value
+  unfolding add_answer
+  add_untold error k = refuses_with (Err error) k.told error (λ e. cc) (λ t o. refl)
 
-    pub add_present : v ≡ (Ok true)
-        → Comes s current other entries key value (Taken.Refused Error.Present) current other entries
-    add_present d =
-        refuses_with h e v k Error.Present (λ f. let z : ◌≡◌ {A = ℕ} 0 1 = cc in absurd (omega arith))
-        (λ t z l o q w. told_held t z l (sym d ∙ w))
-
-  module _ (course : Course) (k : Plan s current other entries key course) where
-    -- for what the step keeps, or for the link that it leaves
-    refuses : (error : Error)
-        → ((t : State) → Follows s t
-        → add_answer t (entries_after (step_taken s current other entries)) Lookup.Absent ≡ Err error)
-        → Comes s current other entries key value (Taken.Refused error) current other entries
-    refuses error each =
-        refuses_with k.sound k.due (Ok false) k.absent error
-        (λ f. let z : ◌≡◌ {A = ℕ} 0 1 = cc in absurd (omega arith))
-        (λ t z l o q w.
-        ap (add_answer t z) (is_absent l w) ∙ ap (λ (y : List ℕ). add_answer t y Lookup.Absent) q ∙ each t o)
-
-    pub add_full : s.old_used + s.new_used ≡ s.capacity
-        → Comes s current other entries key value (Taken.Refused Error.Full) current other entries
-    unfolding keys_held
-    add_full e = refuses Error.Full (λ t o. absent_full t _ (o.keys ∙ e ∙ sym o.capacity))
-
-    pub add_none_free : (s.old_used + s.new_used ≡ s.capacity → ⊥) → s.free_head ≡ 0
-        → Comes s current other entries key value (Taken.Refused Error.Damaged) current other entries
-    add_none_free room e = refuses Error.Damaged (λ t o. absent_bad t _ (room_then s room t o) (none_free t _ (o.free ∙ e)))
-
-  pub add_bad_link : (course : Course) → Room s current other entries key course → (link : ℕ)
-      → link ≡ link_of (entries_after (step_taken s current other entries)) s.free_head → s.capacity < link
-      → Comes s current other entries key value (Taken.Refused Error.Damaged) current other entries
-  add_bad_link course k link e l =
-      refuses course k.plan Error.Damaged
-      (λ t o. absent_bad t _ (room_then s k.not_full t o) (bad_link t _ (rw (o.capacity, o.free, ← e) l)))
+  pub add_no_room : (f : Foresight) → Foretold s current other entries key f → (error : Error)
+      → Err error ≡ next_free s f.held (entries_after (step_taken s current other entries))
+      → After.after (Err error) current other entries ≡ add_moving s current other entries key value
+  unfolding add_answer add_counted
+  add_no_room f k error e =
+      refuses_with (Ok f.held) k.told error (λ e. let z : ◌≡◌ {A = ℕ} 0 1 = cc in absurd (omega arith))
+      (λ t o. ap (add_counted t) (next_follows s t f.held (entries_after step) o ∙ sym e))
 
 -- ---- the entry in the other buffer
 
@@ -185,6 +151,31 @@ settled_targets s count next = by (eqb (advanced s count next).old_used 0)
         → Targets s.second_is_current s.new_size (cond b (finished (advanced s count next)) (advanced s count next))
     by true = Targets.is_over refl refl refl
     by false = Targets.goes_on refl refl refl
+
+-- what any answered step leaves
+unfoldable StepTargets : Bool → ℕ → After (Result (ℕ × State) Error) → Type 0
+StepTargets f size (After.after (Err error) c o z) = Unit {0}
+StepTargets f size (After.after (Ok (count, t)) c o z) = Targets f size t
+
+step_targets : (s : State) (current other entries : List ℕ)
+    → StepTargets s.second_is_current s.new_size (step_taken s current other entries)
+unfolding StepTargets step_taken moved_from moved_chain step_done
+step_targets s current other entries = by (eqb s.old_used 0)
+  where
+    chain : (b : ℕ) (c : Option (List ℕ)) → StepTargets s.second_is_current s.new_size (moved_chain s current other entries b c)
+    chain b none = tt
+    chain b (some ns) = settled_targets s (length ns) (suc b)
+
+    from : (a : Ahead) → StepTargets s.second_is_current s.new_size (moved_from s current other entries a)
+    from Ahead.End = tt
+    from (Ahead.Empty b) = settled_targets s 0 b
+    from (Ahead.Filled b) = chain b (chain_at s current other entries (Place.bucket Table.Old b))
+
+    by : (f : Bool)
+        → StepTargets s.second_is_current s.new_size
+        (cond f (After.after (step_done s 0 s.rehash_index) current other entries) (moved_from s current other entries (ahead_of s current)))
+    by true = settled_targets s 0 s.rehash_index
+    by false = from (ahead_of s current)
 
 module _ (t : State) (c o z : List ℕ) (key value : ℕ) where
   -- with the first free entry at the head of the key's bucket there, in a table of that size
@@ -231,28 +222,42 @@ module _ (t : State) (c o z : List ℕ) (key value : ℕ) where
 
 -- ---- the step for real, and the entry
 
-taken_leaves : (s : State) (current other entries : List ℕ) → Sound s (length current) (length other) (length entries)
-    → step_due s ≡ true → StepLeaves s current other entries (step_taken s current other entries)
-taken_leaves s current other entries h d =
-    subst (StepLeaves s current other entries) (sym (due_stepped s d current other entries))
-    (step_leaves s current other entries h (due_rehashing s d) (due_unpaused s d))
+taken_leaves : (s : State) (current other entries : List ℕ) → StepDue s current other entries
+    → StepLeaves s current other entries (step_taken s current other entries)
+taken_leaves s current other entries d =
+    subst (StepLeaves s current other entries) (sym (due_stepped s d.due current other entries))
+    (step_leaves s current other entries d.sound (due_rehashing s d.due) (due_unpaused s d.due))
 
--- the state's counts then
+module _ (s : State) (current other entries : List ℕ) (key value : ℕ) (f : Foresight) (k : Foretold s current other entries key f)
+    (free : ℕ) (e : Ok free ≡ next_free s f.held (entries_after (step_taken s current other entries)))
+    (p : ℕ × State) (c o z : List ℕ) (Taken_step : After.after (Ok p) c o z ≡ step_taken s current other entries) where
+  abbrev due : StepDue s current other entries
+  due = k.going.due
 
-pub counts_then : (s : State) (count next : ℕ) (t : State) → Counted s → count ≤ s.old_used
-    → t ≡ settled (advanced s count next) → Counted t
-unfolding settled finished advanced retabled state_of old_new
-counts_then s count next t h l e = subst Counted (sym e) (by (eqb (advanced s count next).old_used 0))
-  where
-    by : (b : Bool) → Counted (cond b (finished (advanced s count next)) (advanced s count next))
-    by true = record { held_fit = omega (arith, h.held_fit); capacity_limit = h.capacity_limit }
-    by false = record { held_fit = omega (arith, h.held_fit); capacity_limit = h.capacity_limit }
+  abbrev count : ℕ
+  count = p.0
 
-module _ (s : State) (current other entries : List ℕ) (key value link : ℕ) (course : Course)
-    (k : Takes s current other entries key course link) (r : Moved) (c o z : List ℕ)
-    (Taken_step : After.after (step_answer s (Ok r)) c o z ≡ step_taken s current other entries) where
-  abbrev plan : Plan s current other entries key course
-  plan = k.room.plan
+  abbrev t : State
+  t = p.1
+
+  takes : Takes s f.held z free
+  unfolding entries_after
+  takes = takes_free s f.held z free (rw (← Taken_step) at e)
+
+  pub taken_some : 0 < s.free_head
+  taken_some = some_free s z takes.takeable
+
+  pub taken_readable : Readable s.new_size (length o) s.free_head (length z)
+  unfolding StepLeaves
+  taken_readable =
+      let then : StepLeaves s current other entries (After.after (Ok p) c o z) =
+      subst (StepLeaves s current other entries) (sym Taken_step) (taken_leaves s current other entries due) in
+      let new = due.sound.rehashing (due_rehashing s due.due) in
+      record {
+        size_legal = new.new_legal;
+        buckets_fit = omega (arith, then.1);
+        entries_fit = omega (arith, then.2, due.sound.entries_fit, due.sound.free_fits);
+      }
 
   -- the same on the lent buffers
 
@@ -262,79 +267,61 @@ module _ (s : State) (current other entries : List ℕ) (key value link : ℕ) (
   abbrev y : List ℕ
   y = second_of s.second_is_current c o
 
-  planned : Planned s (first s current other entries) (second s current other entries) entries key (Ok false)
+  planned : Planned s (first s current other entries) (second s current other entries) entries key (Ok f.held)
   unfolding presence_then
   planned =
       record {
-        sound = lent s current other entries plan.sound;
-        due = plan.due;
-        told = plan.absent ∙ ap (presence_after key) (lent_step s current other entries plan.sound plan.due);
+        sound = lent s current other entries due.sound;
+        due = due.due;
+        told = k.told ∙ ap (presence_after key) (lent_step s current other entries due.sound due.due);
       }
 
-  lent_taken : After.after (step_answer s (Ok r)) x y z ≡ rehash_step s (first s current other entries) (second s current other entries) entries
+  lent_taken : After.after (Ok p) x y z ≡ rehash_step s (first s current other entries) (second s current other entries) entries
   lent_taken =
-      sym (lent_of s.second_is_current (step_answer s (Ok r)) c o z)
+      sym (lent_of s.second_is_current (Ok p) c o z)
       ∙ ap (back s.second_is_current) Taken_step
-      ∙ lent_step s current other entries plan.sound plan.due
+      ∙ lent_step s current other entries due.sound due.due
 
-  pub other_readable : Readable s.new_size (length o) s.free_head (length z)
-  unfolding StepLeaves step_answer step_done
-  other_readable =
-      let then : StepLeaves s current other entries (After.after (step_answer s (Ok r)) c o z) =
-      subst (StepLeaves s current other entries) (sym Taken_step)
-      (taken_leaves s current other entries plan.sound plan.due) in
-      let new = plan.sound.rehashing (due_rehashing s plan.due) in
-      record {
-        size_legal = new.new_legal;
-        buckets_fit = omega (arith, then.1);
-        entries_fit = omega (arith, then.2, plan.sound.entries_fit, plan.sound.free_fits);
-      }
-
-  abbrev t : State
-  t = settled (advanced s r.count r.next)
-
-  answered : step_answer s (Ok r) ≡ Ok (r.count, t)
-  unfolding step_answer step_done
-  answered = refl
-
-  world : StepTaken s (first s current other entries) (second s current other entries) entries key (Ok false) r.count t x y z
+  world : StepTaken s (first s current other entries) (second s current other entries) entries key (Ok f.held) count t x y z
   world =
-      step_taken_lem s (first s current other entries) (second s current other entries) entries key (Ok false) planned
-      (step_answer s (Ok r)) x y z lent_taken r.count t answered
+      step_taken_lem s (first s current other entries) (second s current other entries) entries key (Ok f.held) planned
+      (Ok p) x y z lent_taken count t refl
 
-  link_then : link ≡ link_of z t.free_head
+  pub taken_counted : Counted t
+  unfolding sound_lent
+  taken_counted = tested_counts t _ _ (length z) _ refl world.sound
+
+  taken_targets : Targets s.second_is_current s.new_size t
+  unfolding StepTargets
+  taken_targets =
+      subst (StepTargets s.second_is_current s.new_size) (sym Taken_step) (step_targets s current other entries)
+
+  -- the first free entry is there then
+  takes_then : Takes t f.held z free
   unfolding entries_after
-  link_then = rw (world.follows.free, ap entries_after Taken_step) k.link_then
-
-  takes : takeable t z ≡ true
-  takes =
-      let free = world.follows.free in
-      let some = k.room.some_free in
-      good_link t z (omega arith) (rw (← link_then, world.follows.capacity) k.link_fits)
+  takes_then = takes_free t f.held z free (rw (← Taken_step) at (e) ∙ sym (next_follows s t f.held z world.follows))
 
   -- an add alone there takes the entry
   alone : pushed_lent t x y z key value ≡ add_alone t x y z key value
   alone =
-      alone_pushes t x y z key value world.sound (is_absent (lookup_lent t x y z key) world.told)
-      (room_then s k.room.not_full t world.follows) takes
+      alone_pushes t x y z key value world.sound
+      (is_absent (lookup_lent t x y z key) (rw takes.absent at world.told)) takes_then.not_full takes_then.takeable
 
-  pub add_taken : step_room s (Ok r) → (b w : List ℕ) → b ≡ set o (bucket_of key s.new_size) s.free_head
+  pub add_taken : (b w : List ℕ) → b ≡ set o (bucket_of key s.new_size) s.free_head
       → w ≡ set_entry z s.free_head (get_or o (bucket_of key s.new_size) 0) key value
-      → Comes s current other entries key value (Taken.Stepped r.count r.next link) c b w
-  unfolding taken_answer taken_room add_moving moved_state add_after_step is_added
-  add_taken fits b w be we =
-      let f = s.second_is_current in
-      let a = Ok (moved_state s r.count r.next link) in
-      let here : After.after a c b w ≡ back f (pushed_lent t x y z key value) =
+      → (u : State) → u ≡ one_more t (target t.rehashing) free
+      → After.after (Ok u) c b w ≡ add_moving s current other entries key value
+  unfolding add_moving add_after_step is_added
+  add_taken b w be we u ue =
+      let g = s.second_is_current in
+      let a : Result State Error = Ok (one_more t (target t.rehashing) free) in
+      let here : After.after a c b w ≡ back g (pushed_lent t x y z key value) =
       rw (be, we)
-      (pushed_with t c o z key value f s.new_size s.free_head link (settled_targets s r.count r.next) (sym world.follows.free) link_then) in
-      let there = sym (lent_of f a c b w) ∙ ap (back f) here ∙ twice_back f (pushed_lent t x y z key value) in
-      record {
-        same =
-            lent_back f a c b w
-            ∙ ap (back f)
-            (first_done Err is_added (λ t x y z. add_alone t x y z key value) s (first s current other entries)
-            (second s current other entries) entries plan.due r.count t x y z a (first_of f c b) (second_of f c b) w world.step
-            (there ∙ alone) refl);
-        room = (moved_old s r fits, moved_new s r fits);
-      }
+      (pushed_with t c o z key value g s.new_size s.free_head free taken_targets (sym world.follows.free) takes_then.link) in
+      let there = sym (lent_of g a c b w) ∙ ap (back g) here ∙ twice_back g (pushed_lent t x y z key value) in
+      rw ue
+      (lent_back g a c b w
+      ∙ ap (back g)
+      (first_done Err is_added (λ t x y z. add_alone t x y z key value) s (first s current other entries)
+      (second s current other entries) entries due.due count t x y z a (first_of g c b) (second_of g c b) w world.step
+      (there ∙ alone) refl))

@@ -1,10 +1,10 @@
--- What the first free entry comes to, where no step comes first and where one does; the ways of a call that takes one; and from a
--- state to its numbers.
+-- What the first free entry comes to, where no step comes first and where one does.
 pub mod Taking
-pub mod Pushing
-pub mod Pushed
+mod Foretelling
+mod Going
+pub mod Preparing
 mod Answering
 pub mod AddingAfter
-mod Preparing
-mod Ways
-pub mod Numbered
+pub mod Pushed
+mod Paused
+pub mod Resting

@@ -1,63 +1,73 @@
--- From what the functions of numbers leave to the definition, on the current and the other buffer: an add with no step.
+-- What an add with no step comes to, on the current and the other buffer: by what the search tells, and by the free list's next
+-- head.
 -- Assumes nothing.
-use Prim.Native.Nat.{ℕ, ◌+◌}
+use Prim.Native.Nat.{ℕ}
 use mathlib.Core.Path.{◌≡◌, refl, ap, ◌∙◌}
 use mathlib.Core.Bool.{Bool, true, false, cond}
 use mathlib.Core.List.{List}
+use native.Mathlib.Omega.{arith}
+use lib.ListN.{get_or, set}
 use Rattle.model.specs.declared.State.{State}
 use Rattle.model.specs.declared.Table.{Table}
-use Rattle.model.specs.declared.Lookup.{Lookup}
-use Rattle.model.specs.Memory.{size_of, buckets_of, keys_held}
-use Rattle.model.specs.Calls.{After, changed, both, lookup, takeable, target, added}
-use Rattle.search.specs.Found.{Found, found_of}
-use Rattle.search.specs.Tables.{searched_in}
-use Rattle.search.proofs.Lookups.{lookup_rehashing}
-use Rattle.during_rehash.specs.declared.push.Push.{Push}
-use Rattle.during_rehash.specs.Push.{Left, push_free, push_found, push_answer}
-use Rattle.during_rehash.proofs.Taking.{taken}
-use Rattle.std.specs.Prelude.{Result}
 use Rattle.model.specs.declared.Error.{Error}
+use Rattle.model.specs.declared.Lookup.{Lookup}
+use Rattle.model.specs.Keys.{bucket_of}
+use Rattle.model.specs.Memory.{link_of, set_entry, size_of, buckets_of}
+use Rattle.model.specs.Calls.{After, changed, target, pushed, added}
+use Rattle.search.specs.Found.{Found, found_of}
+use Rattle.after_step.specs.Presence.{presence}
+use Rattle.after_step.specs.Told.{found_presence}
+use Rattle.during_rehash.specs.Counts.{one_more}
+use Rattle.during_rehash.specs.Free.{next_free}
+use Rattle.during_rehash.proofs.Taking.{taken}
+use Rattle.during_rehash.proofs.Answering.{takes_free}
+use Rattle.std.specs.Prelude.{Result, Ok, Err}
 
-unfoldable pub after_left : State → List ℕ → List ℕ → Table → Left → After (Result State Error)
-after_left s current other t (Left.left r b e) = changed t (push_answer s r) current other b e
+next_link : (s : State) (held : Bool) (z : List ℕ) (free : ℕ) → Ok free ≡ next_free s held z → free ≡ link_of z s.free_head
+next_link s held z free e = (takes_free s held z free e).link
 
-module _ (s : State) (current other entries : List ℕ) (key value : ℕ) (t : Table) (e : target s.rehashing ≡ t) where
-  -- a refusal changes nothing
-  kept : (u : Table) (a : Result State Error)
-      → changed u a current other (buckets_of current other u) entries ≡ After.after a current other entries
-  unfolding changed buckets_of
-  kept Table.Old a = refl
-  kept Table.New a = refl
+pub found_told : (v : Result Bool Error) (y : Found) (l : Lookup) → v ≡ found_presence y → y ≡ found_of l → v ≡ presence l
+unfolding found_of presence
+found_told v y Lookup.Damaged e g = e ∙ ap found_presence g
+found_told v y Lookup.Absent e g = e ∙ ap found_presence g
+found_told v y (Lookup.At t before n) e g = e ∙ ap found_presence g
 
-  after_cond : (f : Bool) (x y : Left)
-      → after_left s current other t (cond f x y) ≡ cond f (after_left s current other t x) (after_left s current other t y)
-  after_cond true x y = refl
-  after_cond false x y = refl
+module _ (s : State) (current other entries : List ℕ) (key value : ℕ) where
+  pub damaged_alone : (l : Lookup) (error : Error) → Err error ≡ presence l
+      → After.after (Err error) current other entries ≡ added s current other entries key value l
+  unfolding presence added
+  damaged_alone Lookup.Damaged error e = ap (λ (x : Error). After.after (Err x) current other entries) cc
+  damaged_alone Lookup.Absent error e = let z : ◌≡◌ {A = ℕ} 0 1 = cc in absurd (omega arith)
+  damaged_alone (Lookup.At t before n) error e = let z : ◌≡◌ {A = ℕ} 0 1 = cc in absurd (omega arith)
 
-  pub added_by : (held : ℕ) → held ≡ keys_held s → (l : Lookup)
-      → after_left s current other t
-      (push_found (buckets_of current other t) entries
-      (push_free (buckets_of current other t) entries (size_of s t) s.capacity held s.free_head key value) (found_of l))
-      ≡ added s current other entries key value l
-  unfolding after_left push_free push_found found_of push_answer added takeable
-  added_by held h Lookup.Damaged = kept t _
-  added_by held h (Lookup.At u before n) = kept t _
-  added_by held h Lookup.Absent = simp (h, after_cond, kept, taken s current other entries key value t e)
+  -- what the free list's next head comes to
+  answered : Result ℕ Error → After (Result State Error)
+  answered (Err error) = After.after (Err error) current other entries
+  answered (Ok free) = pushed s current other entries key value (target s.rehashing)
 
--- into the new table, while safe iterators hold up the step
+  answered_cond : (f : Bool) (x y : Result ℕ Error) → answered (cond f x y) ≡ cond f (answered x) (answered y)
+  answered_cond true x y = refl
+  answered_cond false x y = refl
 
-module _ (s : State) (current other entries : List ℕ) (key value : ℕ) (r : Push) (b e : List ℕ) where
-  pub added_paused : s.rehashing ≡ true → (at : Found)
-      → at ≡ found_of (both
-      (searched_in entries s.capacity s.old_used current s.old_size key Table.Old)
-      (searched_in entries s.capacity s.new_used other s.new_size key Table.New))
-      → Left.left r b e
-      ≡ push_found other entries
-      (push_free other entries s.new_size s.capacity (s.old_used + s.new_used) s.free_head key value) at
-      → After.after (push_answer s r) current b e
-      ≡ added s current other entries key value (lookup s current other entries key)
-  unfolding after_left changed buckets_of size_of target keys_held
-  added_paused f at a p =
-      ap (after_left s current other Table.New) (rw a at p)
-      ∙ added_by s current other entries key value Table.New (ap target f) (s.old_used + s.new_used) refl _
-      ∙ ap (added s current other entries key value) (lookup_rehashing s current other entries key f)
+  by_next : (held : Bool) (l : Lookup) → Ok held ≡ presence l → answered (next_free s held entries) ≡ added s current other entries key value l
+  unfolding answered next_free presence added
+  by_next held Lookup.Damaged e = let z : ◌≡◌ {A = ℕ} 0 1 = cc in absurd (omega arith)
+  by_next held Lookup.Absent e = let h : held ≡ false = cc in rw h (simp answered_cond)
+  by_next held (Lookup.At t before n) e = let h : held ≡ true = cc in rw h refl
+
+  module _ (held : Bool) (l : Lookup) (told : Ok held ≡ presence l) where
+    pub refused_alone : (error : Error) → Err error ≡ next_free s held entries
+        → After.after (Err error) current other entries ≡ added s current other entries key value l
+    unfolding answered
+    refused_alone error e = ap answered e ∙ by_next held l told
+
+    pub taken_alone : (t : Table) → target s.rehashing ≡ t → (free : ℕ) → Ok free ≡ next_free s held entries
+        → changed t (Ok (one_more s (target s.rehashing) free)) current other
+        (set (buckets_of current other t) (bucket_of key (size_of s t)) s.free_head)
+        (set_entry entries s.free_head (get_or (buckets_of current other t) (bucket_of key (size_of s t)) 0) key value)
+        ≡ added s current other entries key value l
+    unfolding answered
+    taken_alone t f free e =
+        rw (next_link s held entries free e) (taken s current other entries key value t f)
+        ∙ ap answered e
+        ∙ by_next held l told

@@ -1,8 +1,7 @@
--- The first free entry in the table that keys are added to, and one key more in the state.
+-- The first free entry in the table that keys are added to, as the code writes it.
 -- Assumes nothing.
 use Prim.Native.Nat.{ℕ}
-use mathlib.Core.Path.{◌≡◌, sym, ap}
-use mathlib.Core.Bool.{Bool, true, false}
+use mathlib.Core.Path.{◌≡◌}
 use mathlib.Core.List.{List}
 use lib.ListN.{get_or, set}
 use Rattle.model.specs.declared.State.{State}
@@ -20,12 +19,3 @@ module _ (s : State) (current other entries : List ℕ) (key value : ℕ) (t : T
       ≡ pushed s current other entries key value (target s.rehashing)
   unfolding pushed push set_entry one_more
   taken = rw e
-
-module _ (s : State) (free : ℕ) where
-  pub more_old : s.rehashing ≡ false → one_more s Table.Old free ≡ one_more s (target s.rehashing) free
-  unfolding target
-  more_old e = ap (λ (f : Bool). one_more s (target f) free) (sym e)
-
-  pub more_new : s.rehashing ≡ true → one_more s Table.New free ≡ one_more s (target s.rehashing) free
-  unfolding target
-  more_new e = ap (λ (f : Bool). one_more s (target f) free) (sym e)

@@ -4,5 +4,5 @@
 
 pub mod during;
 pub mod entry;
+mod foresee;
 pub mod moving;
-pub mod push;

@@ -1,13 +1,14 @@
 -- `dict_delete::delete::delete_after_step` meets its contract: the step is refused, or the key is deleted from what it leaves.
-use Rattle.dict_delete.proofs.Deleting.{delete_stopped, then_sound, delete_held}
+use Rattle.after_step.proofs.Deciding.{exit_is}
+use Rattle.dict_delete.proofs.Deleting.{delete_refused, then_sound, delete_held}
 use Rattle.dict_delete.proofs.delete.delete_after_step.Goals as goal
 
-pub delete_alone-requires : goal.delete_alone-requires
-delete_alone-requires c = search then_sound
+pub returns-in_err-then : goal.returns-in_err-then
+returns-in_err-then c = rw (exit_is _ _ c.from_residual.ensures.1) (search (delete_refused, c.in_err-then.ensures))
 
-pub returns-in-Err : goal.returns-in-Err
-returns-in-Err c = search delete_stopped
+pub delete_alone-requires : goal.delete_alone-requires
+delete_alone-requires c = search (then_sound, c.in_ok-then.ensures)
 
 -- the key is deleted from what the step leaves
-pub returns-in-Ok : goal.returns-in-Ok
-returns-in-Ok c = search delete_held
+pub returns : goal.returns
+returns c = search (delete_held, c.in_ok-then.ensures)

@@ -6,41 +6,21 @@ use Rattle.dict_delete.proofs.Removing.{old_removable, new_removable, old_used, 
 use Rattle.dict_delete.proofs.delete.remove_at.Goals as goal
 
 pub free_entry-requires : goal.free_entry-requires
-unfolding recounted state_of with_count old_new size_of
 free_entry-requires c = record { readable = search old_removable; is_entry = search rules }
 
-pub overflow_sub-t : goal.overflow_sub-t
-unfolding recounted state_of with_count old_new size_of
-overflow_sub-t c = search old_used
-
 pub free_entry-requires-in-New : goal.free_entry-requires-in-New
-unfolding recounted state_of with_count old_new size_of
 free_entry-requires-in-New c = record { readable = search new_removable; is_entry = search rules }
-
-pub overflow_sub-t-in-New : goal.overflow_sub-t-in-New
-unfolding recounted state_of with_count old_new size_of
-overflow_sub-t-in-New c = search new_used
-
-pub shape_of-current : goal.shape_of-current
-unfolding recounted state_of with_count old_new size_of
-shape_of-current c = search rules
-
-pub shape_of-entries-in-Old : goal.shape_of-entries-in-Old
-unfolding recounted state_of with_count old_new size_of
-shape_of-entries-in-Old c = search rules
 
 pub returns-in-Old : goal.returns-in-Old
 unfolding recounted state_of with_count old_new size_of
 returns-in-Old c = search removed_old
 
-pub shape_of-other : goal.shape_of-other
-unfolding recounted state_of with_count old_new size_of
-shape_of-other c = search rules
-
-pub shape_of-entries-in-New : goal.shape_of-entries-in-New
-unfolding recounted state_of with_count old_new size_of
-shape_of-entries-in-New c = search rules
-
 pub returns-in-New : goal.returns-in-New
 unfolding recounted state_of with_count old_new size_of
 returns-in-New c = search removed_new
+
+pub overflow_sub-result : goal.overflow_sub-result
+overflow_sub-result c = search old_used
+
+pub overflow_sub-result-in-New : goal.overflow_sub-result-in-New
+overflow_sub-result-in-New c = search new_used

@@ -6,6 +6,7 @@ use mathlib.Core.Path.{◌≡◌, refl, sym, ap, subst, ◌∙◌}
 use mathlib.Core.Logic.{inl, inr}
 use mathlib.Core.Bool.{Bool, true, false, ◌||◌}
 use mathlib.Core.List.{List, [], ◌∷◌}
+use mathlib.Core.Option.{Option}
 use native.Mathlib.Omega.{arith}
 use lib.ListN.{length, get_or}
 use lib.Dec.{eqb}
@@ -21,6 +22,7 @@ use Rattle.model.specs.Calls.{After, oriented, back, both, moved_chain, moved_fr
 use Rattle.model.proofs.Soundness.{Sound}
 use Rattle.model.proofs.Moved.{moved_link}
 use Rattle.memory.specs.Lent.{sound_lent}
+use Rattle.memory.specs.Length.{bucket_chain}
 use Rattle.memory.proofs.Orientation.{read_first, read_second, written_first, written_second, writing_sound}
 use Rattle.search.specs.Found.{Found, found_of}
 use Rattle.search.specs.Tables.{searched_in}
@@ -30,11 +32,11 @@ use Rattle.dict_rehash.proofs.Stepping.{old_linked, chain_of_lem, next_end, next
 use Rattle.after_step.specs.declared.presence.Survey.{Survey}
 use Rattle.after_step.specs.declared.course.ChainSight.{ChainSight}
 use Rattle.after_step.specs.Presence.{presence_after, presence_then, entries_after}
-use Rattle.after_step.specs.Told.{among, surveyed, found_presence, tables_then, Moves}
+use Rattle.after_step.specs.Told.{among, surveyed, found_presence, new_then, old_then, tables_then, Moves}
 use Rattle.after_step.specs.Links.{LinkMoved}
 use Rattle.after_step.specs.Course.{Course, Foresight, sight, GoesChain, Goes, Foreseen, ForeseenChain}
 use Rattle.after_step.proofs.Surveying.{surveyed_none, surveyed_some}
-use Rattle.after_step.proofs.Deciding.{exit_is, moving_unsound, moving_sound, ahead_end, ahead_empty, step_ended}
+use Rattle.after_step.proofs.Deciding.{exit_is, old_damaged, new_damaged, in_either, moving_unsound, moving_sound, ahead_end, ahead_empty, step_ended}
 use Rattle.std.specs.Prelude.{Result, Ok, Err}
 use Rattle.std.specs.Result.{IsErrAnd}
 
@@ -71,26 +73,53 @@ module _ (s : State) (current other entries : List ℕ) (b key c n : ℕ) where
           met = g;
         }
 
+    abbrev step : After (Result (ℕ × State) Error)
+    step = moved_chain s current other entries b (old_chain s current entries b)
+
+    abbrev new : Option (List ℕ)
+    new = bucket_chain s.new_size entries s.capacity (s.new_used + v.count - v.joining) other (bucket_of key s.new_size)
+
     -- a chain that a lookup reads after the move is not sound
-    pub foreseen_damaged : (r : Result ChainSight Error) (x : Error) → IsErrAnd r (λ e. e ≡ x)
-        → Err x ≡ tables_then s current other entries b key (s.old_used - v.count) (s.new_used + v.count - v.joining) v.last v.held
-        → ForeseenChain s current other entries key n (moved_chain s current other entries b (old_chain s current entries b)) b r
+    damaged : (r : Result ChainSight Error) (x : Error) → IsErrAnd r (λ e. e ≡ x) → Err x ≡ then
+        → ForeseenChain s current other entries key n step b r
     unfolding ForeseenChain Goes
-    foreseen_damaged r x h f =
+    damaged r x h f =
         rw (exit_is r x h) (
           Course.Moving (sees false),
           record { told = moving_sound s current other entries b key c n v e ce moves (Err x) f; goes = chain_goes false },
         )
 
-    pub foreseen_moving : (held : Bool)
-        → Ok held ≡ tables_then s current other entries b key (s.old_used - v.count) (s.new_used + v.count - v.joining) v.last v.held
-        → ForeseenChain s current other entries key n (moved_chain s current other entries b (old_chain s current entries b)) b
-        (Ok (record { bucket = b; count = v.count; held = held; meets = v.meets }))
-    unfolding ForeseenChain Goes
-    foreseen_moving held f = (
-      refl,
-      record { told = moving_sound s current other entries b key c n v e ce moves (Ok held) f; goes = chain_goes held },
-    )
+    pub foreseen_old : (r : Result ChainSight Error) (x : Error) → IsErrAnd r (λ e. e ≡ x)
+        → Err x ≡ old_then entries s.capacity (s.old_used - v.count) current s.old_size b key
+        → ForeseenChain s current other entries key n (moved_chain s current other entries b (old_chain s current entries b)) b r
+    foreseen_old r x h f =
+        damaged r x h (old_damaged s current other entries b key (s.old_used - v.count) (s.new_used + v.count - v.joining) v.last v.held x f)
+
+    module _ (held : Bool) (o : Ok held ≡ old_then entries s.capacity (s.old_used - v.count) current s.old_size b key) where
+      pub foreseen_new : (r : Result ChainSight Error) (x : Error) → IsErrAnd r (λ e. e ≡ x)
+          → Err x
+          ≡ new_then entries key v.last v.held
+          (bucket_chain s.new_size entries s.capacity (s.new_used + v.count - v.joining) other (bucket_of key s.new_size))
+          → ForeseenChain s current other entries key n (moved_chain s current other entries b (old_chain s current entries b)) b r
+      foreseen_new r x h f =
+          damaged r x h
+          (new_damaged s current other entries b key (s.old_used - v.count) (s.new_used + v.count - v.joining) v.last v.held held o x f)
+
+      pub foreseen_moving : (held' : Bool)
+          → Ok held'
+          ≡ new_then entries key v.last v.held
+          (bucket_chain s.new_size entries s.capacity (s.new_used + v.count - v.joining) other (bucket_of key s.new_size))
+          → ForeseenChain s current other entries key n (moved_chain s current other entries b (old_chain s current entries b)) b
+          (Ok (record { bucket = b; count = v.count; held = held || held'; meets = v.meets }))
+      unfolding ForeseenChain Goes
+      foreseen_moving held' f =
+          let told = in_either s current other entries b key (s.old_used - v.count) (s.new_used + v.count - v.joining) v.last v.held held o held' f in (
+            refl,
+            record {
+              told = moving_sound s current other entries b key c n v e ce moves (Ok (held || held')) told;
+              goes = chain_goes (held || held');
+            },
+          )
 
 -- the same of the step that moves that chain
 

@@ -101,24 +101,20 @@ module _ (entries : List ℕ) (capacity left : ℕ) (buckets : List ℕ) (size b
 -- ---- in both
 
 module _ (s : State) (current other entries : List ℕ) (b key left budget last : ℕ) (moves : Bool) where
-  abbrev old : Result Bool Error
-  old = old_then entries s.capacity left current s.old_size b key
-
   abbrev new : Result Bool Error
   new = new_then entries key last moves (bucket_chain s.new_size entries s.capacity budget other (bucket_of key s.new_size))
 
-  pub old_damaged : (r : Result Bool Error) (x : Error) → IsErrAnd r (λ e. e ≡ x)
-      → Err x ≡ old_then entries s.capacity left current s.old_size b key
-      → r ≡ tables_then s current other entries b key left budget last moves
+  pub old_damaged : (x : Error) → Err x ≡ old_then entries s.capacity left current s.old_size b key
+      → Err x ≡ tables_then s current other entries b key left budget last moves
   unfolding tables_then
-  old_damaged r x h e = exit_is r x h ∙ ap (λ (o : Result Bool Error). either o new) e
+  old_damaged x e = ap (λ (o : Result Bool Error). either o new) e
 
   module _ (held : Bool) (e : Ok held ≡ old_then entries s.capacity left current s.old_size b key) where
-    pub new_damaged : (r : Result Bool Error) (x : Error) → IsErrAnd r (λ e. e ≡ x)
+    pub new_damaged : (x : Error)
         → Err x ≡ new_then entries key last moves (bucket_chain s.new_size entries s.capacity budget other (bucket_of key s.new_size))
-        → r ≡ tables_then s current other entries b key left budget last moves
+        → Err x ≡ tables_then s current other entries b key left budget last moves
     unfolding tables_then
-    new_damaged r x h f = exit_is r x h ∙ by held ∙ ap₂ either e f
+    new_damaged x f = by held ∙ ap₂ either e f
       where
         by : (t : Bool) → Err x ≡ either (Ok t) (Err x)
         by false = refl

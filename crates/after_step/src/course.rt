@@ -1,19 +1,17 @@
 // What is asked of the chain that a rehash step will move, before the step and from one pass over it: whether the step is
 // refused, what a lookup would answer after it, and an entry's link then. The step goes by that, and reads the chain for its
 // soundness no second time.
-ghost use Rattle.std.specs.Prelude.{◌≡◌, true, ◌*◌, ◌≤◌, ◌<◌, length};
-ghost use Rattle.model.specs.Keys.{bucket_of};
-ghost use Rattle.model.specs.Limits.{legal_size};
+ghost use Rattle.std.specs.Prelude.{◌≡◌, true, ◌≤◌, ◌<◌, length};
 ghost use Rattle.model.specs.Memory.{link_of};
 ghost use Rattle.model.specs.Calls as calls;
 ghost use Rattle.model.proofs.Soundness.{Sound};
 ghost use Rattle.dict_rehash.specs.Progress.{old_chain};
 ghost use Rattle.after_step.specs.Presence.{entries_after};
-ghost use Rattle.after_step.specs.Told.{surveyed, Moves};
+ghost use Rattle.after_step.specs.Told.{Moves};
 ghost use Rattle.after_step.specs.Course.{GoesChain, ForeseenChain};
 
 use crate::link::link_moved;
-use crate::presence::{Survey, survey_chain, tables_then};
+use crate::presence::{Asked, Chain, new_then, old_then, survey_chain};
 use memory::entry::link_of;
 use memory::state::bucket_index;
 use model::{Error, State};
@@ -29,36 +27,6 @@ pub struct ChainSight {
     pub held: bool,
     // Whether one of the entries is the one asked for.
     pub meets: bool,
-}
-
-// The chain of bucket b of the old table, for the key's bucket in the new one and the entry asked for.
-fn survey_bucket(
-    current: &[u32],
-    entries: &[u32],
-    s: State,
-    b: u32,
-    key: u32,
-    n: u32,
-) -> Result<Survey, Error>
-    requires entries_fit { (s.capacity * 3 ≤ length entries.now) × (s.old_size ≤ length current.now) }
-    requires legal { (legal_size s.old_size ≡ true) × (legal_size s.new_size ≡ true) × (b < s.old_size) }
-    ensures { result ≡ surveyed entries.now s.new_size (bucket_of key s.new_size) key n
-        (old_chain s current.now entries.now b) }
-{
-    let from = b as usize;
-    let to = bucket_index(key, s.new_size);
-    survey_chain(
-        entries,
-        s.capacity,
-        s.old_used,
-        current[from],
-        s.old_size,
-        from,
-        s.new_size,
-        to,
-        key,
-        n,
-    )
 }
 
 // The chain of bucket b of the old table moves, if it is sound: all of its keys leave that table. Those of the key's bucket in
@@ -77,25 +45,28 @@ pub fn foresee_chain(
         (calls.moved_chain s current.now other.now entries.now b
         (old_chain s current.now entries.now b)) b result }
 {
-    let moving = survey_bucket(current, entries, s, b, key, n)?;
-    let left = s.old_used - moving.count;
-    let budget = s.new_used + moving.count - moving.joining;
-    let held = tables_then(
-        current,
-        other,
-        entries,
-        s,
-        b as usize,
+    let from = b as usize;
+    let chain = Chain {
+        size: s.old_size,
+        bucket: from,
+        head: current[from],
+        budget: s.old_used,
+    };
+    let asked = Asked {
         key,
-        left,
-        budget,
-        moving.last,
-        moving.held,
-    )?;
+        size: s.new_size,
+        bucket: bucket_index(key, s.new_size),
+        entry: n,
+    };
+    let moving = survey_chain(entries, s.capacity, chain, asked)?;
+    let left = s.old_used - moving.count;
+    let in_old = old_then(current, entries, s, key, from, left)?;
+    let budget = s.new_used + moving.count - moving.joining;
+    let in_new = new_then(other, entries, s, key, budget, moving)?;
     Ok(ChainSight {
         bucket: b,
         count: moving.count,
-        held,
+        held: in_old | in_new,
         meets: moving.meets,
     })
 }

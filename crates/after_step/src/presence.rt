@@ -3,11 +3,10 @@
 ghost use Rattle.std.specs.Prelude.{◌≡◌, true, ◌*◌, ◌≤◌, length};
 ghost use Rattle.model.specs.Keys.{bucket_of};
 ghost use Rattle.model.specs.Limits.{legal_size};
-ghost use Rattle.model.specs.Memory.{chain, in_bucket};
-ghost use Rattle.model.proofs.Soundness.{Sound};
+ghost use Rattle.model.specs.Memory as mem;
 ghost use Rattle.memory.specs.Length.{bucket_chain};
 ghost use Rattle.search.specs.Tables.{Readable};
-ghost use Rattle.after_step.specs.Told.{surveyed, found_presence, new_then, old_then, tables_then};
+ghost use Rattle.after_step.specs.Told.{surveyed, found_presence, new_then, old_then};
 
 use memory::entry::{key_of, link_of};
 use memory::state::bucket_index;
@@ -29,27 +28,42 @@ pub struct Survey {
     pub meets: bool,
 }
 
-// The chain of bucket b in a table of that size, read to its end as every chain is. The bucket asked for is bucket c in a
-// table of size new_size, the entry asked for is entry n.
+// A chain that is to be read: that of a bucket in a table of that size, from its head on.
+#[derive(Clone, Copy)]
+pub struct Chain {
+    pub size: u32,
+    pub bucket: usize,
+    pub head: u32,
+    // The most entries that it may have.
+    pub budget: u32,
+}
+
+// What is asked of the entries of a chain.
+#[derive(Clone, Copy)]
+pub struct Asked {
+    // Whether one has this key.
+    pub key: u32,
+    // How many have a key of this bucket, in a table of that size.
+    pub size: u32,
+    pub bucket: usize,
+    // Whether this entry is one of them.
+    pub entry: u32,
+}
+
+// The chain is read to its end, as every chain is.
 pub fn survey_chain(
     entries: &[u32],
     capacity: u32,
-    budget: u32,
-    head: u32,
-    size: u32,
-    b: usize,
-    new_size: u32,
-    c: usize,
-    key: u32,
-    n: u32,
+    chain: Chain,
+    asked: Asked,
 ) -> Result<Survey, Error>
     requires entries_fit { capacity * 3 ≤ length entries.now }
-    requires legal { (legal_size size ≡ true) × (legal_size new_size ≡ true) }
-    ensures { result ≡ surveyed entries.now new_size c key n
-        (chain (in_bucket size b) entries.now capacity budget head) }
+    requires legal { (legal_size chain.size ≡ true) × (legal_size asked.size ≡ true) }
+    ensures { result ≡ surveyed entries.now asked.size asked.bucket asked.key asked.entry
+        (mem.chain (mem.in_bucket chain.size chain.bucket) entries.now capacity chain.budget chain.head) }
 {
-    let mut at = head;
-    let mut left = budget;
+    let mut at = chain.head;
+    let mut left = chain.budget;
     let mut last = 0;
     let mut joining = 0;
     let mut held = false;
@@ -59,18 +73,18 @@ pub fn survey_chain(
             return Err(Error::Damaged);
         }
         let met = key_of(entries, at);
-        if bucket_index(met, size) != b {
+        if bucket_index(met, chain.size) != chain.bucket {
             return Err(Error::Damaged);
         }
         left -= 1;
         last = at;
-        joining += u32::from(bucket_index(met, new_size) == c);
-        held |= met == key;
-        meets |= at == n;
+        joining += u32::from(bucket_index(met, asked.size) == asked.bucket);
+        held |= met == asked.key;
+        meets |= at == asked.entry;
         at = link_of(entries, at);
     }
     Ok(Survey {
-        count: budget - left,
+        count: chain.budget - left,
         last,
         joining,
         held,
@@ -85,74 +99,59 @@ pub fn presence_of(found: Result<Option<u32>, Error>) -> Result<bool, Error>
     Ok(found?.is_some())
 }
 
-// In the new table then, from the key's chain there as it is. The chain that moves ends in `last`, and has the key or not.
-// A chain that ends in the same entry shares entries with it, and would lead back into itself.
-fn new_then(
+// In the new table then, from the key's chain there as it is, with so much of its budget left to it. The chain that moves may have
+// the key too. A chain that ends in the same entry shares entries with it, and would lead back into itself.
+pub(crate) fn new_then(
+    other: &[u32],
     entries: &[u32],
-    capacity: u32,
-    budget: u32,
-    buckets: &[u32],
-    size: u32,
+    s: State,
     key: u32,
-    last: u32,
-    moves: bool,
+    budget: u32,
+    moving: Survey,
 ) -> Result<bool, Error>
-    requires { Readable size (length buckets.now) capacity (length entries.now) }
-    ensures { result ≡ new_then entries.now key last moves
-        (bucket_chain size entries.now capacity budget buckets.now (bucket_of key size)) }
+    requires { Readable s.new_size (length other.now) s.capacity (length entries.now) }
+    ensures { result ≡ new_then entries.now key moving.last moving.held
+        (bucket_chain s.new_size entries.now s.capacity budget other.now (bucket_of key s.new_size)) }
 {
-    let b = bucket_index(key, size);
+    let size = s.new_size;
+    let bucket = bucket_index(key, size);
+    let head = other[bucket];
+    let chain = Chain {
+        size,
+        bucket,
+        head,
+        budget,
+    };
     // No entry is numbered 0.
-    let there = survey_chain(
-        entries, capacity, budget, buckets[b], size, b, size, b, key, 0,
-    )?;
-    if there.last == last {
+    let asked = Asked {
+        key,
+        size,
+        bucket,
+        entry: 0,
+    };
+    let there = survey_chain(entries, s.capacity, chain, asked)?;
+    if there.last == moving.last {
         return Err(Error::Damaged);
     }
-    Ok(moves | there.held)
+    Ok(moving.held | there.held)
 }
 
 // In the old table then, once the chain of bucket b has left it, and so many keys are left. With none left the table is
 // gone, and bucket b is empty: either way there is no chain to read.
-fn old_then(
-    entries: &[u32],
-    capacity: u32,
-    left: u32,
-    buckets: &[u32],
-    size: u32,
-    b: usize,
-    key: u32,
-) -> Result<bool, Error>
-    requires { Readable size (length buckets.now) capacity (length entries.now) }
-    ensures { result ≡ old_then entries.now capacity left buckets.now size b key }
-{
-    if (left == 0) | (bucket_index(key, size) == b) {
-        Ok(false)
-    } else {
-        presence_of(entry_in(entries, capacity, left, buckets, size, key))
-    }
-}
-
-// In both tables then: in the old one with so many keys left, less bucket b, and in the new one.
-pub fn tables_then(
+pub(crate) fn old_then(
     current: &[u32],
-    other: &[u32],
     entries: &[u32],
     s: State,
-    b: usize,
     key: u32,
+    b: usize,
     left: u32,
-    budget: u32,
-    last: u32,
-    moves: bool,
 ) -> Result<bool, Error>
-    requires sound { Sound s (length current.now) (length other.now) (length entries.now) }
-    requires rehashing { s.rehashing ≡ true }
-    ensures { result ≡ tables_then s current.now other.now entries.now b key left budget last moves }
+    requires { Readable s.old_size (length current.now) s.capacity (length entries.now) }
+    ensures { result ≡ old_then entries.now s.capacity left current.now s.old_size b key }
 {
-    let old = old_then(entries, s.capacity, left, current, s.old_size, b, key)?;
-    let new = new_then(
-        entries, s.capacity, budget, other, s.new_size, key, last, moves,
-    )?;
-    Ok(old | new)
+    if (left == 0) | (bucket_index(key, s.old_size) == b) {
+        Ok(false)
+    } else {
+        presence_of(entry_in(entries, s.capacity, left, current, s.old_size, key))
+    }
 }

@@ -13,8 +13,8 @@ returns-then-left-capacity c = search surveying_out
 pub key_of-met-requires : goal.key_of-met-requires
 key_of-met-requires c = omega (arith, in_range)
 
-pub returns-then-bucket_index-b : goal.returns-then-bucket_index-b
-returns-then-bucket_index-b c = search (surveying_stray, bucket_other)
+pub returns-then-bucket_index-chain : goal.returns-then-bucket_index-chain
+returns-then-bucket_index-chain c = search (surveying_stray, bucket_other)
 
 pub overflow_sub-left : goal.overflow_sub-left
 overflow_sub-left c = omega (arith, budget_left)

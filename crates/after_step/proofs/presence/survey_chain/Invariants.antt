@@ -5,7 +5,9 @@ use Rattle.after_step.proofs.Surveying.{Surveying}
 use Rattle.after_step.proofs.presence.survey_chain.Given as goal
 
 abbrev pub invariant-loop-at : goal.invariant-loop-at
-invariant-loop-at l = Surveying (in_bucket l.size l.b) l.entries l.capacity l.budget l.head l.new_size l.c l.key l.n l.at l.left l.last l.joining l.held l.meets
+invariant-loop-at l =
+    Surveying (in_bucket l.chain.size l.chain.bucket) l.entries l.capacity l.chain.budget l.chain.head l.asked.size l.asked.bucket l.asked.key
+    l.asked.entry l.at l.left l.last l.joining l.held l.meets
 
 abbrev pub decreases-loop-at : goal.decreases-loop-at
 decreases-loop-at l = l.left

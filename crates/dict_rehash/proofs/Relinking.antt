@@ -12,12 +12,12 @@ use Rattle.model.proofs.Fields.{length_set_link}
 use Rattle.model.proofs.Linked.{Linked, room, linked_unique, linked_distinct, linked_head, linked_first, linked_kept, link_set_other}
 use Rattle.dict_rehash.specs.Progress.{chains, ChainOf, ChainMoved, EntryMoved}
 
-pub entry_moved : (size : ℕ) (buckets entries : List ℕ) (n next key b : ℕ) (entries' : List ℕ) → next ≡ link_of entries n
-    → key ≡ key_of entries n → b ≡ bucket_of key size → entries' ≡ set_link entries n (get_or buckets b 0)
-    → EntryMoved size n next (chains buckets entries) (chains (set buckets b n) entries')
+pub entry_moved : (size : ℕ) (buckets entries : List ℕ) (n next key b head m : ℕ) (entries' : List ℕ) → next ≡ link_of entries n
+    → key ≡ key_of entries n → b ≡ bucket_of key size → head ≡ get_or buckets b 0 → m ≡ n → entries' ≡ set_link entries n head
+    → EntryMoved size n next (chains buckets entries) (chains (set buckets b m) entries')
 unfolding push
-entry_moved size buckets entries n next key b entries' l k e r =
-    record { link = l; pushed = rw (r, e, k) }
+entry_moved size buckets entries n next key b head m entries' l k e h f r =
+    record { link = l; pushed = rw (r, h, f, e, k) }
 
 -- no chain repeats an entry, so linking its first entry anew leaves the rest as it was
 rest_linked : (entries : List ℕ) (most at link : ℕ) (ns : List ℕ) → Linked entries most at (at ∷ ns)

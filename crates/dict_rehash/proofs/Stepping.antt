@@ -76,6 +76,10 @@ module _ (s : State) (current entries : List ℕ) (b count : ℕ) (k : OldChain 
   pub chain_of_lem : s.capacity * 3 ≤ length entries → ChainOf entries (get_or current b 0) count
   chain_of_lem fits = record { ns = k.ns; linked = old_linked fits; counted = k.counted }
 
+  -- from its head, as it was read
+  pub chain_from : (head : ℕ) → head ≡ get_or current b 0 → s.capacity * 3 ≤ length entries → ChainOf entries head count
+  chain_from head e fits = rw e (chain_of_lem fits)
+
   count_fits : count ≤ s.old_used
   count_fits = omega (arith, k.counted, (read_sound _ entries s.capacity s.old_used (get_or current b 0) k.ns k.read).1)
 
@@ -98,13 +102,14 @@ module _ (s : State) (current other entries : List ℕ) (b : ℕ) where
       rw (none_read, exit_is r x h, damaged)
 
   module _ (count : ℕ) (k : OldChain s current entries b count) (h : Sound s (length current) (length other) (length entries)) where
-    pub bucket_moved : (other' entries' : List ℕ)
-        → ChainMoved s.new_size (get_or current b 0) (chains other entries) (chains other' entries')
-        → After.after (step_answer s (did count (b + 1))) (set current b 0) other' entries'
+    pub bucket_moved : (head empty : ℕ) (other' entries' : List ℕ) → head ≡ get_or current b 0 → empty ≡ 0
+        → ChainMoved s.new_size head (chains other entries) (chains other' entries')
+        → After.after (step_answer s (did count (b + 1))) (set current b empty) other' entries'
         ≡ moved_chain s current other entries b (old_chain s current entries b)
-    bucket_moved other' entries' m =
-        moved_by (old_chain s current entries b) k.ns count (chains other' entries') k.read k.counted
-        (m.each k.ns (old_linked s current entries b count k h.entries_fit))
+    bucket_moved head empty other' entries' h' z m =
+        rw z
+        (moved_by (old_chain s current entries b) k.ns count (chains other' entries') k.read k.counted
+        (m.each k.ns (rw h' (old_linked s current entries b count k h.entries_fit))))
 
     pub bucket_room : (next : ℕ) → step_room s (did count next)
     unfolding step_room

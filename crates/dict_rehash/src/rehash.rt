@@ -48,9 +48,8 @@ fn move_entry(buckets: &mut [u32], entries: &mut [u32], size: u32, n: u32) -> u3
 {
     let rest = link_of(entries, n);
     let b = bucket_index(key_of(entries, n), size);
-    let head = buckets[b];
+    let head = std::mem::replace(&mut buckets[b], n);
     set_link(entries, n, head);
-    buckets[b] = n;
     rest
 }
 
@@ -85,9 +84,8 @@ pub fn move_counted(
         (old_chain s current.old entries.old b) }
     ensures step_room { step_room s (Ok result) }
 {
-    let index = b as usize;
-    move_chain(other, entries, s.new_size, current[index], count);
-    current[index] = 0;
+    let head = std::mem::replace(&mut current[b as usize], 0);
+    move_chain(other, entries, s.new_size, head, count);
     Moved { count, next: b + 1 }
 }
 
@@ -204,24 +202,28 @@ pub fn state_after(s: State, count: u32, next: u32) -> State
     requires { (count ≤ s.old_used) × (s.new_used + count ≤ s.capacity) }
     ensures { result ≡ calls.settled (calls.advanced s count next) }
 {
-    let mut n = s;
     let new_used = s.new_used + count;
     if count == s.old_used {
-        n.second_is_current = !s.second_is_current;
-        n.old_size = s.new_size;
-        n.new_size = 0;
-        n.old_used = new_used;
-        n.new_used = 0;
-        n.rehashing = false;
-        n.rehash_index = 0;
+        State {
+            second_is_current: !s.second_is_current,
+            old_size: s.new_size,
+            new_size: 0,
+            old_used: new_used,
+            new_used: 0,
+            rehashing: false,
+            rehash_index: 0,
+            ..s
+        }
     } else {
-        n.old_used = s.old_used - count;
-        n.new_used = new_used;
-        // It is so already in every state that comes here, but this function does not require it.
-        n.rehashing = true;
-        n.rehash_index = next;
+        State {
+            old_used: s.old_used - count,
+            new_used,
+            // It is so already in every state that comes here, but this function does not require it.
+            rehashing: true,
+            rehash_index: next,
+            ..s
+        }
     }
-    n
 }
 
 // Moves the chain of one bucket of the old table, or passes empty ones, and ends the rehash once that table holds no keys.

@@ -185,15 +185,15 @@ module _ (s : State) (current other entries : List ℕ) where
 
 module _ (s : State) (first second entries : List ℕ) (h : sound_lent (length first) (length second) (length entries) s ≡ true)
     (m : Result (ℕ × State) Error) (x y e : List ℕ) where
-  pub step_first : s.second_is_current ≡ false → After.after m x y e ≡ stepped s first second entries s.rehashing
+  pub step_lent_first : s.second_is_current ≡ false → After.after m x y e ≡ stepped s first second entries s.rehashing
       → After.after m x y e ≡ rehash_step s first second entries
   unfolding rehash_step
-  step_first f d = writing_sound s first second entries true (sym h) _ _ _ refl (written_first _ _ first second m x y e f d)
+  step_lent_first f d = writing_sound s first second entries true (sym h) _ _ _ refl (written_first _ _ first second m x y e f d)
 
-  pub step_second : s.second_is_current ≡ true → After.after m x y e ≡ stepped s second first entries s.rehashing
+  pub step_lent_second : s.second_is_current ≡ true → After.after m x y e ≡ stepped s second first entries s.rehashing
       → After.after m y x e ≡ rehash_step s first second entries
   unfolding rehash_step
-  step_second f d = writing_sound s first second entries true (sym h) _ _ _ refl (written_second _ _ first second m x y e f d)
+  step_lent_second f d = writing_sound s first second entries true (sym h) _ _ _ refl (written_second _ _ first second m x y e f d)
 
 -- ---- the state then
 

@@ -1,106 +1,120 @@
 -- The chains of a table counted, one a turn, and the first filled bucket.
 -- Assumes nothing.
-use Prim.Native.Nat.{ℕ, suc, ◌+◌, ◌-◌, ◌≤◌, ◌<◌}
-use mathlib.Core.Path.{◌≡◌, refl, ap, subst, ◌∙◌}
-use mathlib.Core.Bool.{true, not, cond}
+use Prim.Native.Nat.{ℕ, zero, suc, ◌+◌, ◌≤◌, ◌<◌}
+use mathlib.Core.Path.{◌≡◌, refl, sym, ap, ◌∙◌}
+use mathlib.Core.Bool.{Bool, true, false, not, cond}
 use mathlib.Core.List.{List}
 use mathlib.Core.Option.{Option, none, some}
 use native.Mathlib.Omega.{arith}
-use lib.ListN.{length, get_or}
+use lib.ListN.{length, get_or, take, drop}
+use lib.Seq.{drop-cons}
+use Rattle.std.specs.Prelude as Prelude
+use Rattle.std.specs.List.{position_from}
 use lib.Dec.{eqb}
-use borrow.Author.Tests.{eq-eqb, ne_eqb}
 use mir.Syntax.{w32}
 use mir.Val.{Fits}
-use Rattle.model.specs.Limits.{legal_size}
 use Rattle.model.specs.Memory.{chain, in_bucket, listed, sum}
 use Rattle.model.specs.Iterators.{first_from}
 use Rattle.memory.specs.Length.{bucket_chain, length_of}
 use Rattle.model.specs.Repair.{or_else}
-use Rattle.repair_passes.specs.Passes.{length_is, lengths, Countable, first_filled}
+use Rattle.repair_passes.specs.Passes.{lengths, Countable, first_filled}
 use Rattle.model.proofs.Sums.{sum_first}
-use Rattle.std.specs.Prelude.{Result}
+use Rattle.std.specs.Prelude.{Result, Some, None}
+use Rattle.std.specs.Result.{result_unwrap_or}
+use Rattle.std.proofs.lemmas.List.{get_or-take, length-take}
 use Rattle.model.specs.declared.Error.{Error}
 
-length_is_lem : (o : Option (List ℕ)) → length_is (length_of o) ≡ length (listed o)
-unfolding length_is length_of listed
-length_is_lem none = refl
-length_is_lem (some ns) = refl
+-- a chain's length, 0 where it is not sound
+length_listed : (o : Option (List ℕ)) → result_unwrap_or (length_of o) 0 ≡ length (listed o)
+unfolding length_of listed
+length_listed none = refl
+length_listed (some ns) = refl
 
+-- the count is that of the chains before bucket b
 pub record Tally (buckets entries : List ℕ) (capacity size count b : ℕ) : Type 0 where
   pub same : count ≡ lengths buckets entries capacity size b
-  pub within : b ≤ size
 
 module _ (buckets entries : List ℕ) (capacity size : ℕ) where
   pub tally_start : Tally buckets entries capacity size 0 0
   unfolding lengths sum
-  tally_start = record { same = refl; within = omega arith }
+  tally_start = record { same = refl }
 
   module _ (count b : ℕ) (h : Tally buckets entries capacity size count b) where
-    pub tally_legal : Countable buckets entries capacity size → b < size → legal_size size ≡ true
-    tally_legal c l = c.legal b l
+    -- the head is read in the front of the buffer that the table has
+    module _ (r : Result ℕ Error) (n : ℕ) (l : b < length (take size buckets))
+        (e : r ≡ length_of (chain (in_bucket size b) entries capacity capacity (get_or (take size buckets) b 0)))
+        (k : n ≡ result_unwrap_or r 0) where
+      inside : b < size
+      inside = omega (arith, length-take size buckets)
 
-    module _ (r : Result ℕ Error) (n : ℕ) (l : b < size)
-        (e : r ≡ length_of (chain (in_bucket size b) entries capacity capacity (get_or buckets b 0))) (k : n ≡ length_is r) where
       this : n ≡ length (listed (bucket_chain size entries capacity capacity buckets b))
-      this = k ∙ ap length_is e ∙ length_is_lem (bucket_chain size entries capacity capacity buckets b)
+      this =
+          let read = rw (get_or-take size buckets b 0 inside) at e in
+          k ∙ ap (λ (a : Result ℕ Error). result_unwrap_or a 0) read
+          ∙ length_listed (bucket_chain size entries capacity capacity buckets b)
 
       more : count + n ≡ lengths buckets entries capacity size (suc b)
       unfolding lengths sum
       more = rw (h.same, this)
 
-      pub tally_fits : Countable buckets entries capacity size → count + n ≤ capacity
+      tally_fits : Countable buckets entries capacity size → count + n ≤ capacity
       unfolding lengths
       tally_fits c =
           omega (
             arith,
             more,
             c.few,
-            sum_first (λ i. length (listed (bucket_chain size entries capacity capacity buckets i))) (suc b) size l,
+            sum_first (λ i. length (listed (bucket_chain size entries capacity capacity buckets i))) (suc b) size inside,
           )
 
       pub tally_small : Fits w32 capacity → Countable buckets entries capacity size → Fits w32 (count + n)
       tally_small f c = omega (arith, tally_fits c)
 
       pub tally_next : Tally buckets entries capacity size (count + n) (b + 1)
-      tally_next = let next : b + 1 ≡ suc b = omega arith in rw next (record { same = more; within = l })
+      tally_next = let next : b + 1 ≡ suc b = omega arith in record { same = rw next more }
 
-    pub tally_end : size ≤ b → count ≡ lengths buckets entries capacity size size
-    tally_end l =
-        let e : b ≡ size = omega (arith, h.within) in
-        subst (λ (k : ℕ). count ≡ lengths buckets entries capacity size k) e h.same
-
--- the first filled bucket
-
-pub record Filling (buckets : List ℕ) (index b : ℕ) : Type 0 where
-  pub same : or_else index (first_from (λ i. not (eqb (get_or buckets i 0) 0)) b (index - b)) ≡ first_filled buckets index
-  pub within : b ≤ index
-
-module _ (buckets : List ℕ) (index : ℕ) where
-  pub filling_start : Filling buckets index 0
-  unfolding first_filled
-  filling_start =
-      let e : index - 0 ≡ index = omega arith in
-      record { same = ap (λ (k : ℕ). or_else index (first_from (λ i. not (eqb (get_or buckets i 0) 0)) 0 k)) e; within = omega arith }
-
-  module _ (b : ℕ) (h : Filling buckets index b) where
-    turn : b < index → first_from (λ i. not (eqb (get_or buckets i 0) 0)) b (index - b)
-        ≡ cond (not (eqb (get_or buckets b 0) 0)) (some b) (first_from (λ i. not (eqb (get_or buckets i 0) 0)) (suc b) (index - suc b))
-    unfolding first_from
-    turn l =
-        let e : index - b ≡ suc (index - suc b) = omega arith in
-        ap (first_from (λ i. not (eqb (get_or buckets i 0) 0)) b) e
-
-    pub filling_found : b < index → (get_or buckets b 0 ≡ 0 → ⊥) → b ≡ first_filled buckets index
-    unfolding or_else
-    filling_found l f = rw (turn l, ne_eqb (get_or buckets b 0) 0 f) at h.same
-
-    pub filling_next : b < index → get_or buckets b 0 ≡ 0 → Filling buckets index (b + 1)
-    filling_next l e =
-        let next : b + 1 ≡ suc b = omega arith in
-        rw next (record { same = rw (turn l, eq-eqb (get_or buckets b 0) 0 e) at h.same; within = l })
-
-    pub filling_end : index ≤ b → index ≡ first_filled buckets index
-    unfolding first_from or_else
-    filling_end l =
-        let e : index - b ≡ 0 = omega arith in
+    pub tally_end : Countable buckets entries capacity size → b ≤ length (take size buckets) → length (take size buckets) ≤ b
+        → count ≡ lengths buckets entries capacity size size
+    tally_end c l m =
+        let e : b ≡ size = omega (arith, length-take size buckets, c.buckets_fit) in
         rw e at h.same
+
+-- the first filled bucket, by the library's word
+
+-- where a search from a bucket on ends, or the index
+first_or : ℕ → Prelude.Option ℕ → ℕ
+first_or index None = index
+first_or index (Some b) = b
+
+found_from : (buckets : List ℕ) (index left from : ℕ) → from + left ≤ length buckets
+    → or_else index (first_from (λ b. not (eqb (get_or buckets b 0) 0)) from left)
+    ≡ first_or index (position_from (λ head. not (eqb head 0)) from (take left (drop from buckets)))
+unfolding first_from or_else first_or
+found_from buckets index zero from l = refl
+found_from buckets index (suc left) from l =
+    let next : from + 1 ≡ suc from = omega arith in
+    rw (drop-cons buckets from 0 (omega arith), next)
+    (by (not (eqb (get_or buckets from 0) 0)) (found_from buckets index left (suc from) (omega arith)))
+  where
+    rest : Prelude.Option ℕ
+    rest = position_from (λ head. not (eqb head 0)) (suc from) (take left (drop (suc from) buckets))
+
+    by : (t : Bool) → or_else index (first_from (λ b. not (eqb (get_or buckets b 0) 0)) (suc from) left) ≡ first_or index rest
+        → or_else index (cond t (some from) (first_from (λ b. not (eqb (get_or buckets b 0) 0)) (suc from) left))
+        ≡ first_or index (cond t (Some from) rest)
+    by true h = refl
+    by false h = h
+
+module _ (buckets : List ℕ) (index : ℕ) (l : index ≤ length buckets) (r : Prelude.Option ℕ)
+    (e : r ≡ position_from (λ head. not (eqb head 0)) 0 (take index buckets)) where
+  first_is : first_or index r ≡ first_filled buckets index
+  unfolding first_filled
+  first_is = rw e (sym (found_from buckets index index 0 (omega arith)))
+
+  pub filled_at : (b : ℕ) → r ≡ Some b → b ≡ first_filled buckets index
+  unfolding first_or
+  filled_at b f = rw f at first_is
+
+  pub none_filled : r ≡ None → index ≡ first_filled buckets index
+  unfolding first_or
+  none_filled f = rw f at first_is

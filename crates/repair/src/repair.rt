@@ -1,7 +1,5 @@
 // The repair (SPECIFICATION, "Check and mend").
-ghost use Rattle.std.specs.Prelude.{◌≡◌, ◌≤◌, length, Err};
-ghost use Rattle.model.specs.declared.Error.TheVariants as why;
-ghost use Rattle.model.specs.Calls as calls;
+ghost use Rattle.std.specs.Prelude.{◌≡◌, ◌≤◌, length};
 ghost use Rattle.model.specs.Calls.After.{after};
 ghost use Rattle.model.proofs.Soundness.{Sound};
 ghost use Rattle.model.specs.Repair as definition;
@@ -11,7 +9,7 @@ ghost use Rattle.repair_passes.specs.Passes.Buffers.{buffers};
 use crate::count::{count_table, first_filled};
 use crate::free::free_others;
 use crate::prune::prune_table;
-use memory::state::is_sound;
+use memory::state::require_sound;
 use model::{Error, LARGEST_CAPACITY, State};
 use repair_cut::cut::cut_table;
 use repair_cut::first::decide;
@@ -63,12 +61,13 @@ fn recount(current: &[u32], other: &[u32], entries: &[u32], s: State, free: u32)
     requires index_in_range { s.rehash_index ≤ length current.now }
     ensures { result ≡ recounted s current.now other.now entries.now free }
 {
-    let mut t = s;
-    t.old_used = count_table(current, entries, s.capacity, s.old_size);
-    t.new_used = count_table(other, entries, s.capacity, s.new_size);
-    t.rehash_index = first_filled(current, s.rehash_index);
-    t.free_head = free;
-    t
+    State {
+        old_used: count_table(current, entries, s.capacity, s.old_size),
+        new_used: count_table(other, entries, s.capacity, s.new_size),
+        rehash_index: first_filled(current, s.rehash_index),
+        free_head: free,
+        ..s
+    }
 }
 
 fn repair_sound(current: &mut [u32], other: &mut [u32], entries: &mut [u32], s: State) -> State
@@ -76,27 +75,10 @@ fn repair_sound(current: &mut [u32], other: &mut [u32], entries: &mut [u32], s: 
     ensures { after result current.new other.new entries.new
         ≡ repaired_store s current.old other.old entries.old }
 {
-    let mut marks = [0u8; MARKS];
+    let mut marks = [0; MARKS];
     cut_and_mark(current, other, entries, &mut marks, s);
     let free = rebuild(current, other, entries, &marks, s);
     recount(current, other, entries, s, free)
-}
-
-fn repair_in(
-    current: &mut [u32],
-    other: &mut [u32],
-    entries: &mut [u32],
-    s: State,
-) -> Result<State, Error>
-    ensures { after result current.new other.new entries.new
-        ≡ calls.checked s entries.old (λ c o. after (Err why.BadState) c o entries.old)
-        (λ c o. definition.repaired s c o entries.old) current.old other.old }
-{
-    if is_sound(current.len(), other.len(), entries.len(), s) {
-        Ok(repair_sound(current, other, entries, s))
-    } else {
-        Err(Error::BadState)
-    }
 }
 
 // Repairs the store in place; a state that is not sound is refused, and nothing is written.
@@ -109,9 +91,10 @@ pub fn repair(
     ensures { after result first.new second.new entries.new
         ≡ definition.repair s first.old second.old entries.old }
 {
+    require_sound(first.len(), second.len(), entries.len(), s)?;
     if s.second_is_current {
-        repair_in(second, first, entries, s)
+        Ok(repair_sound(second, first, entries, s))
     } else {
-        repair_in(first, second, entries, s)
+        Ok(repair_sound(first, second, entries, s))
     }
 }

@@ -154,10 +154,6 @@ entries_down marks (suc n) head entries =
 
 -- counting
 
-unfoldable pub length_is : Result ℕ Error → ℕ
-length_is (Err e) = 0
-length_is (Ok n) = n
-
 unfoldable pub lengths : List ℕ → List ℕ → ℕ → ℕ → ℕ → ℕ
 lengths buckets entries capacity size n = sum (λ b. length (listed (bucket_chain size entries capacity capacity buckets b))) n
 

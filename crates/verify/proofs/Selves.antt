@@ -16,7 +16,7 @@ use Rattle.search.specs.Found.{Found, found_of, found_is}
 use Rattle.search.specs.Tables.{searched_in}
 use Rattle.search.proofs.Lookups.{lookup_resting, lookup_rehashing}
 
-finds_found : (l : Lookup) (n : ℕ) → found_is (found_of l) n ≡ finds n l
+pub finds_found : (l : Lookup) (n : ℕ) → found_is (found_of l) n ≡ finds n l
 unfolding found_is found_of finds
 finds_found Lookup.Damaged n = refl
 finds_found Lookup.Absent n = refl

@@ -1,15 +1,24 @@
--- The goals of `first_filled` that the search leaves.
-use Rattle.repair.proofs.Tallying.{filling_start, filling_found, filling_next, filling_end}
+-- `repair::count::first_filled` meets its contract: what the library says of `position` is the definition.
+use Rattle.std.proofs.Common.{◌≡◌, ℕ, eqb, not, take, ◌∙◌, rules}
+use Rattle.std.specs.List.{position_from}
+use Rattle.std.proofs.lemmas.Iterator.{YieldsList-from_slice}
+use Rattle.std.proofs.lemmas.Iterator.Search.{position_from_yields_List}
+use Rattle.std.proofs.lemmas.Iterator.Adapters.{position_from-zero}
+use Rattle.repair.proofs.Tallying.{filled_at, none_filled}
 use Rattle.repair.proofs.count.first_filled.Goals as goal
 
-pub loop-b-init : goal.loop-b-init
-loop-b-init c = search filling_start
+pub returns-in-Some : goal.returns-in-Some
+returns-in-Some c =
+    let at : c.position.result ≡ position_from (λ (head : ℕ). not (eqb head 0)) 0 (take c.args.index c.args.buckets.now) =
+    position_from_yields_List (λ (head : ℕ). not (eqb head 0)) _ _ _ c.position.ensures.ran
+    (YieldsList-from_slice (take c.args.index c.args.buckets.now) cc) (λ x b q k. search rules)
+    ∙ position_from-zero (λ (head : ℕ). not (eqb head 0)) (take c.args.index c.args.buckets.now) in
+    search filled_at
 
-pub returns-then-buckets-b-ne0 : goal.returns-then-buckets-b-ne0
-returns-then-buckets-b-ne0 c = search filling_found
-
-pub loop-b-preserved : goal.loop-b-preserved
-loop-b-preserved c = search filling_next
-
-pub returns : goal.returns
-returns c = search filling_end
+pub returns-in-None : goal.returns-in-None
+returns-in-None c =
+    let at : c.position.result ≡ position_from (λ (head : ℕ). not (eqb head 0)) 0 (take c.args.index c.args.buckets.now) =
+    position_from_yields_List (λ (head : ℕ). not (eqb head 0)) _ _ _ c.position.ensures.ran
+    (YieldsList-from_slice (take c.args.index c.args.buckets.now) cc) (λ x b q k. search rules)
+    ∙ position_from-zero (λ (head : ℕ). not (eqb head 0)) (take c.args.index c.args.buckets.now) in
+    search none_filled

@@ -1,22 +1,11 @@
 -- The goals of `free_others` that the search leaves.
-use native.Mathlib.Omega.{arith}
-use Rattle.repair.proofs.Freeing.{freeing_start, freeing_marked, freeing_next, freeing_head, freeing_entries}
+use Rattle.repair.proofs.Freeing.{freeing_freed, freeing_kept, freeing_head, freeing_entries}
+use Rattle.repair.proofs.free.free_others.Goals.{then-mark_of-eq0, else-mark_of-eq0}
 use Rattle.repair.proofs.free.free_others.Goals as goal
 
-pub loop-n-init : goal.loop-n-init
-loop-n-init c = search freeing_start
-
-pub free_one-head-requires : goal.free_one-head-requires
-free_one-head-requires c = (omega arith, search freeing_marked)
-
-pub overflow_sub-n : goal.overflow_sub-n
-overflow_sub-n c = omega arith
-
-pub loop-n-smaller : goal.loop-n-smaller
-loop-n-smaller c = omega arith
-
 pub loop-n-preserved : goal.loop-n-preserved
-loop-n-preserved c = search freeing_next
+loop-n-preserved c =
+    elim c.if-mark_of-eq0.branch [ then-mark_of-eq0 w ↦ search freeing_freed | else-mark_of-eq0 w ↦ search freeing_kept ]
 
 pub returns : goal.returns
 returns c = record { value = search freeing_head; entries_after = search freeing_entries }

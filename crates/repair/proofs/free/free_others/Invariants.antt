@@ -4,6 +4,3 @@ use Rattle.repair.proofs.free.free_others.Given as goal
 
 abbrev pub invariant-loop-n : goal.invariant-loop-n
 invariant-loop-n l = FreeingDown l.marks l.capacity l.initial.entries l.entries l.head l.n
-
-abbrev pub decreases-loop-n : goal.decreases-loop-n
-decreases-loop-n l = l.n

@@ -2,8 +2,5 @@
 use Rattle.repair.proofs.Pruning.{Nexting}
 use Rattle.repair.proofs.prune.next_kept.Given as goal
 
-abbrev pub invariant-loop-at : goal.invariant-loop-at
-invariant-loop-at l = Nexting l.entries l.marks l.capacity l.head l.at l.left
-
-abbrev pub decreases-loop-at : goal.decreases-loop-at
-decreases-loop-at l = l.left
+abbrev pub invariant-loop : goal.invariant-loop
+invariant-loop l = Nexting l.entries l.marks l.capacity l.head l.at l.counter

@@ -2,8 +2,5 @@
 use Rattle.repair.proofs.Pruning.{Linking}
 use Rattle.repair.proofs.prune.prune_chain.Given as goal
 
-abbrev pub invariant-loop-at : goal.invariant-loop-at
-invariant-loop-at l = Linking l.marks l.capacity l.first l.initial.entries l.entries l.at l.left
-
-abbrev pub decreases-loop-at : goal.decreases-loop-at
-decreases-loop-at l = l.left
+abbrev pub invariant-loop : goal.invariant-loop
+invariant-loop l = Linking l.marks l.capacity l.first l.initial.entries l.entries l.at l.counter

@@ -1,46 +1,22 @@
--- `repair::repair::repair` meets its contract: the current buffer is chosen once.
-use borrow.Author.Rules.{rules}
-use Rattle.model.specs.Calls as calls
-use Rattle.memory.proofs.Orientation.{written_first, written_second}
+-- `repair::repair::repair` meets its contract: a state that is not sound is refused.
 use Rattle.model.specs.Repair as definition
+use Rattle.memory.proofs.Orientation.{writing_bad_state}
+use Rattle.memory.proofs.Tested.{lent_first, lent_second}
+use Rattle.repair.proofs.Orienting.{repair_first, repair_second}
 use Rattle.repair.proofs.repair.repair.Goals as goal
 
-pub repair_in-requires : goal.repair_in-requires
-unfolding definition.repair calls.writing
-repair_in-requires c = search rules
+pub repair_sound-requires : goal.repair_sound-requires
+repair_sound-requires c = search (lent_second, c.in_ok-require_sound.ensures)
 
-pub repair_in-requires-else-s : goal.repair_in-requires-else-s
-unfolding definition.repair calls.writing
-repair_in-requires-else-s c = search rules
+pub repair_sound-requires-else-s : goal.repair_sound-requires-else-s
+repair_sound-requires-else-s c = search (lent_first, c.in_ok-require_sound.ensures)
 
-pub shape_of-first-then-s : goal.shape_of-first-then-s
-unfolding definition.repair calls.writing
-shape_of-first-then-s c = search rules
-
-pub shape_of-second-then-s : goal.shape_of-second-then-s
-unfolding definition.repair calls.writing
-shape_of-second-then-s c = search rules
-
-pub shape_of-entries-then-s : goal.shape_of-entries-then-s
-unfolding definition.repair calls.writing
-shape_of-entries-then-s c = search rules
+pub returns-in_err-require_sound : goal.returns-in_err-require_sound
+unfolding definition.repair
+returns-in_err-require_sound c = writing_bad_state _ _ _ _ _ _ c.from_residual.ensures.1 c.in_err-require_sound.ensures _
 
 pub returns-then-s : goal.returns-then-s
-unfolding definition.repair calls.writing
-returns-then-s c = search written_second
-
-pub shape_of-first-else-s : goal.shape_of-first-else-s
-unfolding definition.repair calls.writing
-shape_of-first-else-s c = search rules
-
-pub shape_of-second-else-s : goal.shape_of-second-else-s
-unfolding definition.repair calls.writing
-shape_of-second-else-s c = search rules
-
-pub shape_of-entries-else-s : goal.shape_of-entries-else-s
-unfolding definition.repair calls.writing
-shape_of-entries-else-s c = search rules
+returns-then-s c = search (repair_second, c.in_ok-require_sound.ensures)
 
 pub returns-else-s : goal.returns-else-s
-unfolding definition.repair calls.writing
-returns-else-s c = search written_first
+returns-else-s c = search (repair_first, c.in_ok-require_sound.ensures)

@@ -16,6 +16,7 @@ use Rattle.model.specs.Calls.{After, resize, suggested, crowded, growth_due, gro
 use Rattle.model.proofs.Power.{power_of}
 use Rattle.model.proofs.AddLeaves.{Growable, AddLeaves, add_leaves}
 use Rattle.std.specs.Prelude.{Result, Ok, Err}
+use Rattle.std.specs.Result.{result_unwrap_or}
 
 -- ---- the test
 
@@ -36,15 +37,12 @@ wanted s t full size e f h = rw (← e, f) h
 
 -- ---- the resize
 
--- what it answers, as an add's answer
-module _ (s : State) (a : Result State Error) (x y z : List ℕ) (meant : After (Result State Error)) (e : After.after a x y z ≡ meant) where
-  pub begun : (t : State) → a ≡ Ok t → After.after (Ok t) x y z ≡ grown_by s meant
-  unfolding grown_by
-  begun t d = ap (grown_by s) (rw d at e)
-
-  pub not_begun : (error : Error) → a ≡ Err error → After.after (Ok s) x y z ≡ grown_by s meant
-  unfolding grown_by
-  not_begun error d = ap (grown_by s) (rw d at e)
+-- the state that it leaves, or else the one before it
+pub resized_or : (s : State) (a : Result State Error) (x y z : List ℕ) (meant : After (Result State Error)) → After.after a x y z ≡ meant
+    → (t : State) → t ≡ result_unwrap_or a s → After.after (Ok t) x y z ≡ grown_by s meant
+unfolding grown_by
+resized_or s (Ok n) x y z meant e t h = rw h (ap (grown_by s) e)
+resized_or s (Err error) x y z meant e t h = rw h (ap (grown_by s) e)
 
 -- it begins where the wanted size is above the present one: the definition's two tests
 module _ (s : State) (first second entries : List ℕ) where
@@ -76,18 +74,18 @@ module _ (s : State) (first second entries : List ℕ) where
 
 -- ---- the add
 
-module _ (s : State) (first second entries : List ℕ) (key value : ℕ) (a : Result State Error) (x y z : List ℕ)
-    (e : After.after a x y z ≡ add_after_step s first second entries key value) where
-  pub growable : (t : State) → a ≡ Ok t → Growable t
-  unfolding AddLeaves
-  growable t d = subst AddLeaves (sym (rw d at e)) (add_leaves key value s first second entries)
-
-  pub add_refused : (error : Error) → a ≡ Err error
+module _ (s : State) (first second entries : List ℕ) (key value : ℕ) (x y z : List ℕ) where
+  pub add_refused : (error : Error) → After.after (Err error) x y z ≡ add_after_step s first second entries key value
       → After.after (Err error) x y z ≡ add s first second entries key value
   unfolding add then_grown
-  add_refused error d = ap then_grown (rw d at e)
+  add_refused error e = ap then_grown e
 
-  pub add_grown : (t : State) (b : Result State Error) (v w : List ℕ) → a ≡ Ok t
-      → After.after b v w z ≡ grown t x y z → After.after b v w z ≡ add s first second entries key value
-  unfolding add then_grown
-  add_grown t b v w d g = g ∙ ap then_grown (rw d at e)
+  module _ (t : State) (e : After.after (Ok t) x y z ≡ add_after_step s first second entries key value) where
+    pub growable : Growable t
+    unfolding AddLeaves
+    growable = subst AddLeaves (sym e) (add_leaves key value s first second entries)
+
+    pub add_grown : (b : Result State Error) (v w : List ℕ) → After.after b v w z ≡ grown t x y z
+        → After.after b v w z ≡ add s first second entries key value
+    unfolding add then_grown
+    add_grown b v w g = g ∙ ap then_grown e

@@ -1,7 +1,7 @@
 // Add a key (SPECIFICATION, "Add"), and grow if there is one table and it is crowded then ("Growth"). It is a timed call: an
 // add that does not grow pays a few comparisons of the state's numbers for it. The suggested size is computed behind them, and
 // the resize, which copies the state, stands in a function of its own, off the quick path.
-ghost use Rattle.std.specs.Prelude.{◌≡◌, true, ◌&&◌, not, cond};
+ghost use Rattle.std.specs.Prelude.{◌≡◌, true, ◌&&◌, not, cond, Ok};
 ghost use Rattle.model.specs.Memory.{keys_held};
 ghost use Rattle.model.specs.Calls as calls;
 ghost use Rattle.model.specs.Calls.After.{after};
@@ -10,7 +10,7 @@ ghost use Rattle.model.proofs.AddLeaves.{Growable};
 use dict_add::add::add_after_step;
 use dict_suggest_look::suggest::suggest_for;
 use dict_tables::resize::resize;
-use model::{FORCE_RATIO, Error, State};
+use model::{Error, FORCE_RATIO, State};
 
 // Too many keys for the table: as many as it has buckets, where it may grow, or so many more that it grows all the same.
 fn is_crowded(s: State) -> bool
@@ -36,28 +36,27 @@ fn wanted_size(s: State) -> u32
 }
 
 // The same resize as the call's. It may be refused for want of room in the other buffer, and the add is answered all the same.
-fn grow_to(first: &mut [u32], second: &mut [u32], entries: &[u32], s: State, size: u32) -> Result<State, Error>
-    ensures { after result first.new second.new entries.now
+// A call of its own, off the quick path: the state goes into memory for it.
+#[cold]
+#[inline(never)]
+fn grow_to(first: &mut [u32], second: &mut [u32], entries: &[u32], s: State, size: u32) -> State
+    ensures { after (Ok result) first.new second.new entries.now
         ≡ calls.grown_by s (calls.resize s first.old second.old entries.now size) }
 {
-    let resized = resize(first, second, entries, s, size);
-    match resized {
-        Ok(n) => Ok(n),
-        Err(_) => Ok(s),
-    }
+    resize(first, second, entries, s, size).unwrap_or(s)
 }
 
 // What follows an add that was answered, and left this state.
-fn grow(first: &mut [u32], second: &mut [u32], entries: &[u32], s: State) -> Result<State, Error>
+fn grow(first: &mut [u32], second: &mut [u32], entries: &[u32], s: State) -> State
     requires { Growable s }
-    ensures { after result first.new second.new entries.now
+    ensures { after (Ok result) first.new second.new entries.now
         ≡ calls.grown s first.old second.old entries.now }
 {
     let size = wanted_size(s);
     if s.old_size < size {
         grow_to(first, second, entries, s, size)
     } else {
-        Ok(s)
+        s
     }
 }
 
@@ -72,9 +71,6 @@ pub fn add(
     ensures { after result first.new second.new entries.new
         ≡ calls.add s first.old second.old entries.old key value }
 {
-    let answer = add_after_step(first, second, entries, s, key, value);
-    match answer {
-        Err(e) => Err(e),
-        Ok(n) => grow(first, second, entries, n),
-    }
+    let added = add_after_step(first, second, entries, s, key, value)?;
+    Ok(grow(first, second, entries, added))
 }

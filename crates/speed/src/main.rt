@@ -23,14 +23,13 @@
 
 mod order;
 
-ghost use Rattle.std.specs.Prelude.{◌≤◌, length};
-
-use order::{Parsed, number_of_keys, parse_order};
+use order::{number_of_keys, parse_order};
 use speed_calls::keys::MAX_KEYS;
-use speed_calls::start::ORDER_ROOM;
+use speed_calls::padding::ORDER_ROOM;
 use speed_rounds::order::Order;
 use speed_rounds::rounds::all_rounds;
 use std::io::{self, Read, Stdin, Stdout};
+use store::Store;
 
 // Three numbers for each entry, and two in a walk's list for each key.
 const ENTRY_ROOM: usize = MAX_KEYS * 3;
@@ -39,38 +38,35 @@ const LIST_ROOM: usize = MAX_KEYS * 2;
 
 // The front of a buffer. No order asks for more than the whole.
 fn front(buffer: &mut [u32], length: usize) -> &mut [u32] {
-    if length <= buffer.len() {
-        &mut buffer[0..length]
-    } else {
-        buffer
-    }
+    let end = length.min(buffer.len());
+    &mut buffer[..end]
 }
 
 // The buffers are as long as the most keys need them; the rounds get what the order's keys need.
 fn run(order: Order, padding: &[u8; ORDER_ROOM]) -> u32 {
     let n = order.capacity as usize;
-    let count = number_of_keys(order);
     let mut first = [0u32; MAX_KEYS];
     let mut second = [0u32; MAX_KEYS];
     let mut entries = [0u32; ENTRY_ROOM];
     let mut list = [0u32; LIST_ROOM];
     let mut keys = [0u32; MAX_KEYS];
-    all_rounds(
+    let mut store = Store::new(
         front(&mut first, n),
         front(&mut second, n),
         front(&mut entries, n * 3),
+    );
+    all_rounds(
+        &mut store,
         front(&mut list, n * 2),
-        front(&mut keys, count),
+        front(&mut keys, number_of_keys(order)),
         order,
         padding,
     )
 }
 
-// Reads until the buffer is full or the input ends, and answers how many bytes there are at its front. A read that fails counts
-// as the end.
-fn read_input(input: &mut Stdin, text: &mut [u8]) -> usize
-    ensures { result ≤ length text.new }
-{
+// Reads until the buffer is full or the input ends, and answers what there is at its front. A read that fails counts as the
+// end.
+fn read_input<'a>(input: &mut Stdin, text: &'a mut [u8]) -> &'a [u8] {
     let mut filled = 0;
     while filled < text.len() {
         let more = input.read(&mut text[filled..]).unwrap_or(0);
@@ -79,22 +75,19 @@ fn read_input(input: &mut Stdin, text: &mut [u8]) -> usize
         }
         filled += more;
     }
-    filled
-}
-
-fn answer(output: &Stdout, text: &[u8], padding: &[u8; ORDER_ROOM]) -> io::Result<()> {
-    let parsed = parse_order(text);
-    match parsed {
-        Parsed::Bad => println!(output; "bad order"),
-        Parsed::Good(order) => println!(output; "{}", run(order, padding)),
-    }
+    &text[..filled]
 }
 
 fn main(rt: HostRuntime) {
-    let mut input = rt.stdin();
-    let output = rt.stdout();
-    let mut text = [0u8; ORDER_ROOM];
-    let length = read_input(&mut input, &mut text);
-    let padding = text;
-    answer(&output, &text[..length], &padding).ok();
+    let mut room = [0u8; ORDER_ROOM];
+    let length = read_input(&mut rt.stdin(), &mut room).len();
+    let padding = room;
+    answer(&rt.stdout(), &room[..length], &padding).ok();
+}
+
+fn answer(output: &Stdout, text: &[u8], padding: &[u8; ORDER_ROOM]) -> io::Result<()> {
+    match parse_order(text) {
+        Some(order) => println!(output; "{}", run(order, padding)),
+        None => println!(output; "bad order"),
+    }
 }

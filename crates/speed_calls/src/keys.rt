@@ -1,6 +1,5 @@
 // The keys, and the ways through them. They are scattered numbers or the cells of a die.
 use model::LARGEST_CAPACITY;
-use std::num::{wrapping_add_u32, wrapping_add_usize, wrapping_sub_usize};
 
 // As many keys as the largest store can hold, and as many buckets.
 pub const MAX_KEYS: usize = LARGEST_CAPACITY as usize;
@@ -13,6 +12,15 @@ const MULTIPLIER: u64 = 48271;
 
 const PRIME: u64 = 2147483647;
 
+// What the keys are.
+#[derive(Clone, Copy)]
+pub enum Keys {
+    // Scattered numbers.
+    Scattered,
+    // The cells of so many scan chains, in turn.
+    Cells(u32),
+}
+
 // The number after one of them. It also seeds the rounds.
 pub fn next_key(key: u32) -> u32 {
     (key as u64 * MULTIPLIER % PRIME) as u32
@@ -22,9 +30,9 @@ pub fn next_key(key: u32) -> u32 {
 // keys are random, from none to a handful.
 fn scatter(keys: &mut [u32]) {
     let mut key = 1;
-    for i in 0..keys.len() {
+    for place in keys.iter_mut() {
         key = next_key(key);
-        keys[i] = key;
+        *place = key;
     }
 }
 
@@ -40,18 +48,17 @@ fn cell(number: u32, scan_chains: u32) -> u32 {
 // Cells spread evenly over so many scan chains, from position 0 on. In the largest table a cell's bucket is its position,
 // so there a bucket has as many keys as there are scan chains.
 fn spread(keys: &mut [u32], scan_chains: u32) {
-    let mut number = 0;
-    for i in 0..keys.len() {
-        keys[i] = cell(number, scan_chains);
-        number = wrapping_add_u32(number, 1);
+    let mut number: u32 = 0;
+    for place in keys.iter_mut() {
+        *place = cell(number, scan_chains);
+        number = number.wrapping_add(1);
     }
 }
 
-pub fn make_keys(keys: &mut [u32], scan_chains: u32) {
-    if scan_chains == 0 {
-        scatter(keys);
-    } else {
-        spread(keys, scan_chains);
+pub fn make_keys(keys: &mut [u32], kind: Keys) {
+    match kind {
+        Keys::Scattered => scatter(keys),
+        Keys::Cells(scan_chains) => spread(keys, scan_chains),
     }
 }
 
@@ -67,7 +74,7 @@ pub struct Path {
 // Another way for each seed, so that a processor cannot learn the branches of one round from those of the round before:
 // the place is made of the seed's lowest bits, the step of those above its lowest fifteen.
 pub fn scattered_path(keys: usize, seed: u32) -> Path {
-    let mask = wrapping_sub_usize(keys, 1);
+    let mask = keys.wrapping_sub(1);
     Path {
         at: seed as usize & mask,
         step: ((seed >> 15) as usize & mask) | 1,
@@ -76,28 +83,32 @@ pub fn scattered_path(keys: usize, seed: u32) -> Path {
 }
 
 // Scattered keys come in the seed's order, cells in turn, as a log has them.
-pub fn path_of(keys: usize, scan_chains: u32, seed: u32) -> Path {
-    if scan_chains == 0 {
-        scattered_path(keys, seed)
-    } else {
-        Path {
+pub fn path_of(keys: usize, kind: Keys, seed: u32) -> Path {
+    match kind {
+        Keys::Scattered => scattered_path(keys, seed),
+        Keys::Cells(_) => Path {
             at: 0,
             step: 1,
-            mask: wrapping_sub_usize(0, 1),
+            mask: usize::MAX,
+        },
+    }
+}
+
+impl Path {
+    pub(crate) fn next(self) -> Path {
+        Path {
+            at: self.at.wrapping_add(self.step) & self.mask,
+            ..self
         }
     }
 }
 
-pub(crate) fn next_place(p: Path) -> Path {
-    Path {
-        at: wrapping_add_usize(p.at, p.step) & p.mask,
-        step: p.step,
-        mask: p.mask,
-    }
+// The key at a place; there are no others.
+pub(crate) fn key_at(keys: &[u32], path: Path) -> u32 {
+    number_at(keys, path.at)
 }
 
-// The key at a place; there are no others.
-pub(crate) fn key_at(keys: &[u32], p: Path) -> u32 {
-    let at = p.at;
-    if at < keys.len() { keys[at] } else { 0 }
+// A number of a buffer, 0 where there is none.
+pub fn number_at(buffer: &[u32], at: usize) -> u32 {
+    buffer.get(at).copied().unwrap_or(0)
 }

@@ -3,6 +3,6 @@
 
 pub mod changes;
 pub mod keys;
+pub mod padding;
 pub mod reads;
-pub mod start;
 pub mod whole;

@@ -1,4 +1,5 @@
 // What is to be timed.
+use speed_calls::keys::Keys;
 
 // What a round does that starts the store anew.
 #[derive(Clone, Copy)]
@@ -46,7 +47,7 @@ pub enum Work {
 pub struct Order {
     pub work: Work,
     pub capacity: u32,
-    // How many scan chains the keys are cells of. 0: they are scattered ones, as many as the capacity.
-    pub scan_chains: u32,
+    // Scattered ones are as many as the capacity.
+    pub keys: Keys,
     pub rounds: u32,
 }

@@ -2,7 +2,6 @@
 use crate::order::Build;
 use model::State;
 use speed_calls::keys::{Path, next_key, scattered_path};
-use std::num::wrapping_add_u32;
 
 // The buckets that a growing table starts with.
 const FEW_BUCKETS: u32 = 4;
@@ -27,55 +26,50 @@ pub(crate) struct Plan {
     pub path: Path,
     pub value: u32,
     pub count: usize,
-    pub rehash: bool,
-    pub adds: usize,
-    pub deletes: usize,
-    pub delete_path: Path,
+    // How many adds come during the rehash, where one begins.
+    pub rehash: Option<usize>,
+    // How many keys are deleted, and in which order.
+    pub deletes: Option<(usize, Path)>,
 }
 
 // As many buckets as the capacity, and all keys: one to a bucket, on the average.
 fn fill_plan(task: Task) -> Plan {
-    let path = task.path;
     Plan {
         capacity: task.capacity,
         size: task.capacity,
-        path,
+        path: task.path,
         value: task.seed,
         count: task.keys,
-        rehash: false,
-        adds: 0,
-        deletes: 0,
-        delete_path: path,
+        rehash: None,
+        deletes: None,
     }
 }
 
 fn growth_plan(task: Task) -> Plan {
-    let mut plan = fill_plan(task);
-    if FEW_BUCKETS < task.capacity {
-        plan.size = FEW_BUCKETS;
+    Plan {
+        size: task.capacity.min(FEW_BUCKETS),
+        ..fill_plan(task)
     }
-    plan
 }
 
 // The keys are deleted in another order than they were added.
 fn delete_plan(task: Task) -> Plan {
-    let mut plan = fill_plan(task);
-    plan.deletes = task.keys;
-    plan.delete_path = scattered_path(task.keys, next_key(task.seed));
-    plan
+    let path = scattered_path(task.keys, next_key(task.seed));
+    Plan {
+        deletes: Some((task.keys, path)),
+        ..fill_plan(task)
+    }
 }
 
 // Half of the keys in half as many buckets (one at least), and a rehash. What is deleted are the keys that were added first.
 fn half_plan(task: Task, adds: usize, deletes: usize) -> Plan {
-    let mut plan = fill_plan(task);
-    if 1 < task.capacity {
-        plan.size = task.capacity / 2;
+    Plan {
+        size: (task.capacity / 2).max(1),
+        count: task.keys / 2,
+        rehash: Some(adds),
+        deletes: Some((deletes, task.path)),
+        ..fill_plan(task)
     }
-    plan.count = task.keys / 2;
-    plan.rehash = true;
-    plan.adds = adds;
-    plan.deletes = deletes;
-    plan
 }
 
 // Half of the keys fill some 63 of 100 of half as many buckets, and an add or a delete during a rehash moves one: a quarter
@@ -93,22 +87,26 @@ pub(crate) fn plan_of(build: Build, task: Task) -> Plan {
 
 // How far a rehash has come: both numbers rise with each step.
 fn progress(s: State) -> u32 {
-    wrapping_add_u32(s.rehash_index, s.new_used)
+    s.rehash_index.wrapping_add(s.new_used)
 }
 
 // What the sum gets of the state that a repair leaves: the counts, the next bucket to rehash, and the first free entry.
 pub(crate) fn told_by_repair(s: State) -> u32 {
-    wrapping_add_u32(progress(s), wrapping_add_u32(s.old_used, s.free_head))
+    progress(s)
+        .wrapping_add(s.old_used)
+        .wrapping_add(s.free_head)
 }
 
 // What the sum gets of the state in which a round leaves the store: how far it has grown, and which entry was freed last.
 pub(crate) fn told_by(build: Build, s: State) -> u32 {
     match build {
         Build::Adds => 0,
-        Build::Growth => wrapping_add_u32(wrapping_add_u32(s.old_size, s.new_size), progress(s)),
+        Build::Growth => s
+            .old_size
+            .wrapping_add(s.new_size)
+            .wrapping_add(progress(s)),
         Build::Deletes => s.free_head,
-        Build::Halves => progress(s),
-        Build::HalvesAndAdds => progress(s),
-        Build::HalvesAndDeletes => wrapping_add_u32(progress(s), s.free_head),
+        Build::Halves | Build::HalvesAndAdds => progress(s),
+        Build::HalvesAndDeletes => progress(s).wrapping_add(s.free_head),
     }
 }

@@ -1,244 +1,155 @@
 // The rounds of each kind of work.
 use crate::order::{Build, Order, Use, Work};
 use crate::plan::{Plan, Task, plan_of, told_by, told_by_repair};
-use model::State;
 use speed_calls::changes::{Filling, add_some, delete_some, update_all};
-use speed_calls::keys::{make_keys, next_key, path_of, scattered_path};
+use speed_calls::keys::{make_keys, next_key, number_at, path_of, scattered_path};
+use speed_calls::padding::{ORDER_ROOM, hide};
 use speed_calls::reads::{find_all, iterate_all, walk_all};
-use speed_calls::start::{ORDER_ROOM, begin_pass, begin_rehash, end_pass, hide, new_store};
-use speed_calls::whole::{number_at, repair_whole, verify_whole};
-use std::num::wrapping_add_u32;
+use speed_calls::whole::verify_whole;
+use store::Store;
 
 // What the first order of the keys and the first values are made of.
 const SEED: u32 = 123456789;
 
-// What a round hands on to the next one.
-#[derive(Clone, Copy)]
-struct Round {
-    state: State,
-    sum: u32,
-}
-
 // A new store with the plan's first keys.
-fn fill(
-    first: &mut [u32],
-    second: &mut [u32],
-    entries: &mut [u32],
-    keys: &[u32],
-    plan: Plan,
-    padding: &[u8; ORDER_ROOM],
-) -> Filling {
-    let new = new_store(first, second, entries, plan.capacity, plan.size);
-    let state = hide(new, padding);
-    let path = plan.path;
+fn fill(store: &mut Store, keys: &[u32], plan: Plan, padding: &[u8; ORDER_ROOM]) -> Filling {
+    store.init(plan.capacity, plan.size).ok();
+    store.state = hide(store.state, padding);
     let empty = Filling {
-        state,
-        path,
+        path: plan.path,
         value: plan.value,
     };
-    add_some(first, second, entries, keys, empty, plan.count)
+    add_some(store, keys, empty, plan.count)
 }
 
-// A rehash to a table of that size, and so many adds during it.
-fn grow(
-    first: &mut [u32],
-    second: &mut [u32],
-    entries: &mut [u32],
-    keys: &[u32],
-    f: Filling,
-    size: u32,
-    adds: usize,
-    padding: &[u8; ORDER_ROOM],
-) -> State {
-    let begun = begin_rehash(first, second, entries, f.state, size);
-    let mut rehashing = f;
-    rehashing.state = hide(begun, padding);
-    let grown = add_some(first, second, entries, keys, rehashing, adds);
-    grown.state
-}
-
-// What a plan makes of a store, but for its deletes.
-fn build(
-    first: &mut [u32],
-    second: &mut [u32],
-    entries: &mut [u32],
-    keys: &[u32],
-    plan: Plan,
-    padding: &[u8; ORDER_ROOM],
-) -> State {
-    let filled = fill(first, second, entries, keys, plan, padding);
-    if plan.rehash {
-        let size = plan.capacity;
-        grow(
-            first, second, entries, keys, filled, size, plan.adds, padding,
-        )
-    } else {
-        filled.state
+// What a plan makes of a store.
+//
+// In a store for four keys or more the last add has begun the rehash by itself, and the resize is refused and changes nothing.
+// In one for two keys the other buffer is too short for the least suggestion, and the resize begins it; in one for one key
+// there is no other size, and nothing begins.
+fn build(store: &mut Store, keys: &[u32], plan: Plan, padding: &[u8; ORDER_ROOM]) {
+    let filled = fill(store, keys, plan, padding);
+    if let Some(adds) = plan.rehash {
+        store.resize(plan.capacity).ok();
+        store.state = hide(store.state, padding);
+        add_some(store, keys, filled, adds);
+    }
+    if let Some((count, path)) = plan.deletes {
+        delete_some(store, keys, path, count);
     }
 }
 
 // A round that starts the store anew. The sum, with what the state tells at its end.
 fn build_round(
-    first: &mut [u32],
-    second: &mut [u32],
-    entries: &mut [u32],
+    store: &mut Store,
     keys: &[u32],
-    b: Build,
+    work: Build,
     task: Task,
     sum: u32,
     padding: &[u8; ORDER_ROOM],
-) -> Round {
-    let plan = plan_of(b, task);
-    let built = build(first, second, entries, keys, plan, padding);
-    let path = plan.delete_path;
-    let state = delete_some(first, second, entries, keys, built, path, plan.deletes);
-    Round {
-        state,
-        sum: wrapping_add_u32(sum, told_by(b, state)),
-    }
+) -> u32 {
+    build(store, keys, plan_of(work, task), padding);
+    sum.wrapping_add(told_by(work, store.state))
 }
 
 // The sum, with what the pass handed out and the place at which it ended.
-fn pass_round(
-    first: &[u32],
-    second: &[u32],
-    entries: &[u32],
-    list: &mut [u32],
-    before: Round,
-    padding: &[u8; ORDER_ROOM],
-) -> Round {
-    let begun = begin_pass(first, second, entries, before.state);
-    let paused = hide(begun, padding);
-    let end = iterate_all(first, second, entries, list, paused, before.sum);
-    let state = end_pass(first, second, entries, paused);
-    Round {
-        state,
-        sum: wrapping_add_u32(end.sum, end.place),
-    }
+fn pass_round(store: &mut Store, list: &mut [u32], sum: u32, padding: &[u8; ORDER_ROOM]) -> u32 {
+    store.begin_safe().ok();
+    store.state = hide(store.state, padding);
+    let (place, total) = iterate_all(store, list, sum);
+    store.end_safe().ok();
+    total.wrapping_add(place)
 }
 
 // A round on the store as it is.
 fn use_round(
-    first: &[u32],
-    second: &[u32],
-    entries: &mut [u32],
+    store: &mut Store,
     list: &mut [u32],
     keys: &[u32],
-    u: Use,
+    work: Use,
     task: Task,
-    before: Round,
+    sum: u32,
     padding: &[u8; ORDER_ROOM],
-) -> Round {
-    let mut after = before;
-    let s = before.state;
-    match u {
-        Use::Finds => {
-            after.sum = find_all(first, second, entries, keys, s, task.path, before.sum);
-            after
-        }
+) -> u32 {
+    match work {
+        Use::Finds => find_all(store, keys, task.path, sum),
         Use::Updates => {
-            update_all(first, second, entries, keys, s, task.path, task.seed);
-            after
+            let from = Filling {
+                path: task.path,
+                value: task.seed,
+            };
+            update_all(store, keys, from);
+            sum
         }
-        Use::Walks => {
-            after.sum = walk_all(first, second, entries, list, s, before.sum);
-            after
-        }
-        Use::Passes => pass_round(first, second, entries, list, before, padding),
-        Use::Verifies => {
-            after.sum = verify_whole(first, second, entries, s, before.sum);
-            after
-        }
+        Use::Walks => walk_all(store, list, sum),
+        Use::Passes => pass_round(store, list, sum, padding),
+        Use::Verifies => verify_whole(store, sum),
     }
 }
 
 // The sum, with what the repair leaves: what its state tells, and a number of the entry buffer, another one in each round.
-fn repair_round(
-    first: &mut [u32],
-    second: &mut [u32],
-    entries: &mut [u32],
-    task: Task,
-    before: Round,
-    padding: &[u8; ORDER_ROOM],
-) -> Round {
-    let repaired = repair_whole(first, second, entries, before.state);
-    let state = hide(repaired, padding);
-    let place = scattered_path(task.capacity as usize, task.seed);
-    let left = wrapping_add_u32(told_by_repair(state), number_at(entries, place.at));
-    Round {
-        state,
-        sum: wrapping_add_u32(before.sum, left),
-    }
+fn repair_round(store: &mut Store, task: Task, sum: u32, padding: &[u8; ORDER_ROOM]) -> u32 {
+    store.repair().ok();
+    store.state = hide(store.state, padding);
+    let place = scattered_path(task.capacity as usize, task.seed).at;
+    let left = number_at(store.entries, place);
+    sum.wrapping_add(told_by_repair(store.state))
+        .wrapping_add(left)
 }
 
 fn one_round(
-    first: &mut [u32],
-    second: &mut [u32],
-    entries: &mut [u32],
+    store: &mut Store,
     list: &mut [u32],
     keys: &[u32],
     work: Work,
     task: Task,
-    before: Round,
+    sum: u32,
     padding: &[u8; ORDER_ROOM],
-) -> Round {
+) -> u32 {
     match work {
-        Work::Builds(b) => {
-            build_round(first, second, entries, keys, b, task, before.sum, padding)
-        }
-        Work::Uses(u) => { use_round(first, second, entries, list, keys, u, task, before, padding) }
-        Work::Repairs => repair_round(first, second, entries, task, before, padding),
+        Work::Builds(build) => build_round(store, keys, build, task, sum, padding),
+        Work::Uses(work) => use_round(store, list, keys, work, task, sum, padding),
+        Work::Repairs => repair_round(store, task, sum, padding),
     }
 }
 
 fn task_of(order: Order, keys: usize, seed: u32) -> Task {
-    let path = path_of(keys, order.scan_chains, seed);
     Task {
         capacity: order.capacity,
         keys,
-        path,
+        path: path_of(keys, order.keys, seed),
         seed,
     }
 }
 
 // Fills the store, and does the rounds, each with a seed of its own.
 fn do_rounds(
-    first: &mut [u32],
-    second: &mut [u32],
-    entries: &mut [u32],
+    store: &mut Store,
     list: &mut [u32],
     keys: &[u32],
     order: Order,
     padding: &[u8; ORDER_ROOM],
-) -> Round {
-    let work = order.work;
+) -> u32 {
     let task = task_of(order, keys.len(), SEED);
-    let mut last = build_round(first, second, entries, keys, Build::Adds, task, 0, padding);
+    let mut sum = build_round(store, keys, Build::Adds, task, 0, padding);
     let mut seed = SEED;
-    let mut left = order.rounds;
-    while 0 < left {
-        left -= 1;
+    for _ in 0..order.rounds {
         seed = next_key(seed);
         let task = task_of(order, keys.len(), seed);
-        last = one_round(
-            first, second, entries, list, keys, work, task, last, padding,
-        );
+        sum = one_round(store, list, keys, order.work, task, sum, padding);
     }
-    last
+    sum
 }
 
 // Makes the keys, does the rounds, and then a walk, so that the sum also tells what the store has come to hold.
 pub fn all_rounds(
-    first: &mut [u32],
-    second: &mut [u32],
-    entries: &mut [u32],
+    store: &mut Store,
     list: &mut [u32],
     keys: &mut [u32],
     order: Order,
     padding: &[u8; ORDER_ROOM],
 ) -> u32 {
-    make_keys(keys, order.scan_chains);
-    let last = do_rounds(first, second, entries, list, keys, order, padding);
-    let s = last.state;
-    walk_all(first, second, entries, list, s, last.sum)
+    make_keys(keys, order.keys);
+    let sum = do_rounds(store, list, keys, order, padding);
+    walk_all(store, list, sum)
 }

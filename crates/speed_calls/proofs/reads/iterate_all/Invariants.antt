@@ -1,5 +1,0 @@
--- `speed_calls::reads::iterate_all` is safe and ends.
-use Rattle.speed_calls.proofs.reads.iterate_all.Given as goal
-
-abbrev pub decreases-loop-left : goal.decreases-loop-left
-decreases-loop-left l = l.left

@@ -24,10 +24,11 @@ module _ (out : List ℕ) (number : ℕ) where
     number_line_end mid end w =
         room_then out 0 (decimal number) (10 ∷ []) mid end (omega (arith, ap length (number_line number))) w
 
-  pub number_line_wrote : (mid after : List ℕ) (end next : ℕ) → Wrote out 0 (decimal number) mid end
-      → Wrote mid end (10 ∷ []) after next → Wrote out 0 (answer_line number []) after next
-  number_line_wrote mid after end next v w =
-      rw (number_line number) (wrote_then out 0 (decimal number) (10 ∷ []) mid after end next v w)
+  -- what is behind the line's reference is what is behind the buffer's
+  pub number_line_wrote : (mid after left : List ℕ) (end next : ℕ) → Wrote out 0 (decimal number) mid end
+      → Wrote mid end (10 ∷ []) after next → left ≡ after → Wrote out 0 (answer_line number []) left next
+  number_line_wrote mid after left end next v w e =
+      rw (number_line number, e) (wrote_then out 0 (decimal number) (10 ∷ []) mid after end next v w)
 
 -- values in two parts
 
@@ -76,8 +77,8 @@ module _ (out values more : List ℕ) (room : length (answer_line 0 (values ++ m
         pub end_room : k + 1 ≤ length c
         end_room = room_then out 0 (decimal 0 ++ spaced values ++ spaced more) (10 ∷ []) c k spans all
 
-        pub result_wrote : (after : List ℕ) (next : ℕ) → Wrote c k (10 ∷ []) after next
-            → Wrote out 0 (answer_line 0 (values ++ more)) after next
-        result_wrote after next x =
-            rw (result_line values more)
+        pub result_wrote : (after left : List ℕ) (next : ℕ) → Wrote c k (10 ∷ []) after next → left ≡ after
+            → Wrote out 0 (answer_line 0 (values ++ more)) left next
+        result_wrote after left next x e =
+            rw (result_line values more, e)
             (wrote_then out 0 (decimal 0 ++ spaced values ++ spaced more) (10 ∷ []) c after k next all x)

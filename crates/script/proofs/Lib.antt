@@ -1,5 +1,4 @@
 -- What the readers and the writers keep, and what each of their steps gives.
-mod Naming
 mod Reading
 mod Words
 mod Ends

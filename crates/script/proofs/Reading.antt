@@ -1,19 +1,21 @@
 -- Reading a number, one digit a turn.
 -- Assumes nothing.
-use Prim.Native.Nat.{ℕ, zero, suc, ◌+◌, ◌*◌, ◌-◌, ◌^◌, ◌<◌, ◌≤◌}
-use mathlib.Core.Path.{◌≡◌, refl, sym, ap, ◌∙◌}
-use mathlib.Core.Bool.{Bool, true, false, ◌&&◌, ◌||◌, cond}
+use Prim.Native.Nat.{ℕ, ◌+◌, ◌*◌, ◌-◌, ◌^◌, ◌<◌, ◌≤◌}
+use mathlib.Core.Path.{◌≡◌, sym, ap, ◌∙◌}
+use mathlib.Core.Bool.{Bool, true, false, ◌&&◌, cond, and-false}
 use mathlib.Core.List.{List, ◌∷◌}
-use native.Mathlib.Nat.{pow-suc, pow-le-pow_right}
+use native.Mathlib.Nat.{pow-suc}
 use native.Mathlib.Numerals.{add-one}
 use native.Mathlib.Omega.{arith}
 use lib.ListN.{length, get_or, drop, drop_of_length-le}
 use lib.Seq.{drop-cons}
-use lib.Dec.{leb, ltb, eqb, eqb-suc-zero, lit<}
-use mir.Syntax.{w64}
-use mir.Val.{Fits}
-use borrow.Author.Tests.{ltb-true, ltb-false, lt-leb, le-leb}
-use Rattle.script.specs.declared.number.Number.{Number}
+use mathlib.Core.Logic.{◌⊎◌, inl, inr}
+use lib.Dec.{leb, eqb}
+use borrow.Author.Tests.{lt-leb, le-leb}
+use Rattle.std.proofs.lemmas.Bool.Decides.{nat_tests}
+use Rattle.std.proofs.Common.{Option, Some, None, Result, Ok, Err}
+use Rattle.std.specs.Char.{is_ascii_digit}
+use Rattle.std.specs.Result.{OkIff, result_ok}
 use Rattle.script.specs.Numbers.{number, is_digit, all_digits, value_after, most_digits, largest_number}
 
 -- so many bytes were digits, and the value so far and the bytes from here are the whole word's
@@ -27,141 +29,75 @@ pub record Reading (word : List ℕ) (value i : ℕ) : Type 0 where
 
 -- the definition by its four tests
 
-judged : Bool → Bool → Bool → Bool → ℕ → Number
-judged a b c d v = cond (a && b && c && d) (Number.Good v) Number.Bad
+judged : Bool → Bool → Bool → Bool → ℕ → Option ℕ
+judged a b c d v = cond (a && b && c && d) (Some v) None
 
-short_out : (a c d : Bool) (v : ℕ) → Number.Bad ≡ judged a false c d v
+short_out : (a c d : Bool) (v : ℕ) → None ≡ judged a false c d v
 unfolding judged
-short_out false c d v = refl
-short_out true c d v = refl
+short_out a c d v = rw and-false
 
-digit_out : (a b d : Bool) (v : ℕ) → Number.Bad ≡ judged a b false d v
+digit_out : (a b d : Bool) (v : ℕ) → None ≡ judged a b false d v
 unfolding judged
-digit_out false b d v = refl
-digit_out true false d v = refl
-digit_out true true d v = refl
+digit_out a b d v = rw and-false
 
-large_out : (a b c : Bool) (v : ℕ) → Number.Bad ≡ judged a b c false v
+large_out : (a b c : Bool) (v : ℕ) → None ≡ judged a b c false v
 unfolding judged
-large_out false b c v = refl
-large_out true false c v = refl
-large_out true true false v = refl
-large_out true true true v = refl
+large_out a b c v = rw and-false
 
-length_bad : (n : ℕ) (c d : Bool) (v : ℕ) → (eqb n 0 || ltb 10 n) ≡ true → Number.Bad ≡ judged (leb 1 n) (leb n 10) c d v
-unfolding judged
-length_bad zero c d v t = refl
-length_bad (suc n) c d v t =
-    rw (lt-leb (suc n) 10 (ltb-true 10 (suc n) (rw eqb-suc-zero at t))) (short_out (leb 1 (suc n)) c d v)
-
-length_good : (n : ℕ) → (eqb n 0 || ltb 10 n) ≡ false → (1 ≤ n) × (n ≤ 10)
-length_good zero t = let z : ◌≡◌ {A = ℕ} 0 1 = cc in absurd (omega arith)
-length_good (suc n) t = (omega arith, ltb-false 10 (suc n) (rw eqb-suc-zero at t))
-
-digit_not : (b : ℕ) → (ltb b 48 || ltb 57 b) ≡ true → is_digit b ≡ false
-unfolding is_digit
-digit_not b t = at (ltb b 48) refl t
-  where
-    none : (a : Bool) → (a && false) ≡ false
-    none true = refl
-    none false = refl
-
-    at : (x : Bool) → ltb b 48 ≡ x → (x || ltb 57 b) ≡ true → (leb 48 b && leb b 57) ≡ false
-    at true e t = rw (lt-leb 48 b (ltb-true b 48 e))
-    at false e t = rw (lt-leb b 57 (ltb-true 57 b t)) (none (leb 48 b))
-
-digit_range : (b : ℕ) → (ltb b 48 || ltb 57 b) ≡ false → (48 ≤ b) × (b ≤ 57)
-digit_range b t = at (ltb b 48) refl t
-  where
-    at : (x : Bool) → ltb b 48 ≡ x → (x || ltb 57 b) ≡ false → (48 ≤ b) × (b ≤ 57)
-    at true e t = let z : ◌≡◌ {A = ℕ} 0 1 = cc in absurd (omega arith)
-    at false e t = (ltb-false b 48 e, ltb-false 57 b t)
-
-pub digit_low : (b : ℕ) → (ltb b 48 || ltb 57 b) ≡ false → 48 ≤ b
-digit_low b t = (digit_range b t).0
-
-pub digit_high : (b : ℕ) → (ltb b 48 || ltb 57 b) ≡ false → b ≤ 57
-digit_high b t = (digit_range b t).1
-
-digit_is : (b : ℕ) → (48 ≤ b) × (b ≤ 57) → is_digit b ≡ true
-unfolding is_digit
-digit_is b h = rw (le-leb 48 b h.0, le-leb b 57 h.1)
+digit_high : (b : ℕ) → is_ascii_digit b ≡ true → b ≤ 57
+digit_high b e = grind (arith, nat_tests)
 
 module _ (word : List ℕ) where
-  pub reading_out : (eqb (length word) 0 || ltb 10 (length word)) ≡ true → Number.Bad ≡ number word
+  -- no digit, or more than ten
+  pub reading_out : (empty : Bool) → empty ≡ eqb (length word) 0 → (empty ≡ true) ⊎ ((empty ≡ false) × (10 < length word))
+      → None ≡ number word
   unfolding number most_digits judged
-  reading_out t = length_bad (length word) (all_digits word) (leb (value_after 0 word) largest_number) (value_after 0 word) t
-
-  pub reading_start : (eqb (length word) 0 || ltb 10 (length word)) ≡ false → Reading word 0 0
-  reading_start t =
-      let l = length_good (length word) t in
-      record { any = l.0; few = l.1; within = omega arith; bound = lit< tt; whole = refl; digits = refl }
+  reading_out empty k (inl e) = grind (arith, nat_tests)
+  reading_out empty k (inr h) = rw (lt-leb (length word) 10 h.1) (short_out (leb 1 (length word)) _ _ _)
 
   module _ (value i : ℕ) (h : Reading word value i) where
-    module _ (more : i < length word) where
+    module _ (more : i < length word) (digit : Bool) (k : digit ≡ is_ascii_digit (get_or word i 0)) where
       here : drop i word ≡ get_or word i 0 ∷ drop (i + 1) word
       here = rw (add-one i) (drop-cons word i 0 more)
 
-      pub reading_stop : (ltb (get_or word i 0) 48 || ltb 57 (get_or word i 0)) ≡ true → Number.Bad ≡ number word
+      same : digit ≡ is_digit (get_or word i 0)
+      unfolding is_digit
+      same = k
+
+      pub reading_stop : digit ≡ false → None ≡ number word
       unfolding number most_digits judged all_digits
-      reading_stop t =
+      reading_stop e =
           let d : all_digits word ≡ false
-          = sym h.digits ∙ ap all_digits here ∙ ap (λ (x : Bool). x && all_digits (drop (i + 1) word)) (digit_not (get_or word i 0) t) in
+          = sym h.digits ∙ ap all_digits here ∙ ap (λ (x : Bool). x && all_digits (drop (i + 1) word)) (sym same ∙ e) in
           rw d (digit_out (leb 1 (length word)) (leb (length word) 10) (leb (value_after 0 word) largest_number) (value_after 0 word))
 
-      module _ (t : (ltb (get_or word i 0) 48 || ltb 57 (get_or word i 0)) ≡ false) where
-        -- ten digits are few enough for 64 bits
-        below : value * 10 + (get_or word i 0 - 48) < 10 ^ 10
-        below =
-            let d = digit_range (get_or word i 0) t in
-            let f = h.few in
-            let b = h.bound in
-            let p : 10 ^ i ≤ 10 ^ 9 = pow-le-pow_right (lit< tt) {i = i} {j = 9} (omega arith) in
-            omega arith
-
-        pub reading_shift : Fits w64 (value * 10)
-        reading_shift = omega (arith, below)
-
-        pub reading_fits : Fits w64 (value * 10 + (get_or word i 0 - 48))
-        reading_fits = omega (arith, below)
-
-        pub reading_next : Reading word (value * 10 + (get_or word i 0 - 48)) (i + 1)
-        unfolding all_digits value_after
-        reading_next =
-            let d = digit_range (get_or word i 0) t in
-            let b = h.bound in
-            record {
-              any = h.any;
-              few = h.few;
-              within = omega arith;
-              bound = rw (add-one i) (omega (arith, pow-suc 10 i));
-              whole = ap (value_after value) (sym here) ∙ h.whole;
-              digits =
-                  ap (λ (x : Bool). x && all_digits (drop (i + 1) word)) (sym (digit_is (get_or word i 0) d))
-                  ∙ ap all_digits (sym here) ∙ h.digits;
-            }
+      pub reading_next : (d : ℕ) → d ≡ get_or word i 0 - 48 → digit ≡ true → Reading word (value * 10 + d) (i + 1)
+      unfolding all_digits value_after
+      reading_next d p e =
+          record {
+            any = h.any;
+            few = h.few;
+            within = omega arith;
+            bound = rw (add-one i) (omega (arith, pow-suc 10 i, h.bound, digit_high (get_or word i 0) (sym k ∙ e)));
+            whole = rw p (ap (value_after value) (sym here) ∙ h.whole);
+            digits =
+                ap (λ (x : Bool). x && all_digits (drop (i + 1) word)) (sym e ∙ same)
+                ∙ ap all_digits (sym here) ∙ h.digits;
+          }
 
     module _ (done : length word ≤ i) where
-      pub reading_value : value ≡ value_after 0 word
-      unfolding value_after
-      reading_value = ap (value_after value) (sym (drop_of_length-le word done)) ∙ h.whole
-
       all : all_digits word ≡ true
       unfolding all_digits
       all = sym h.digits ∙ ap all_digits (drop_of_length-le word done)
 
-      pub reading_good : value ≤ 4294967295 → Number.Good value ≡ number word
-      unfolding number most_digits largest_number
-      reading_good s =
-          let v = reading_value in
-          let a = h.any in
-          let f = h.few in
-          rw (le-leb 1 (length word) a, le-leb (length word) 10 f, all, le-leb (value_after 0 word) 4294967295 (omega arith))
-          (ap Number.Good v)
+      read : number word ≡ cond (leb value largest_number) (Some value) None
+      unfolding number most_digits value_after
+      read =
+          let v : value_after 0 word ≡ value = sym h.whole ∙ ap (value_after value) (drop_of_length-le word done) in
+          rw (v, le-leb 1 (length word) h.any, le-leb (length word) 10 h.few, all)
 
-      pub reading_large : 4294967295 < value → Number.Bad ≡ number word
-      unfolding number most_digits largest_number judged
-      reading_large s =
-          let v = reading_value in
-          rw (lt-leb (value_after 0 word) 4294967295 (omega arith))
-          (large_out (leb 1 (length word)) (leb (length word) 10) (all_digits word) (value_after 0 word))
+      pub reading_done : {E : Type 0} (r : Result ℕ E) (o : Option ℕ) → OkIff r (value < 2 ^ 32) value → o ≡ result_ok r
+          → o ≡ number word
+      unfolding largest_number
+      reading_done (Ok v) o k e = rw (read, le-leb value 4294967295 (omega arith)) (e ∙ ap Some k.1)
+      reading_done (Err _) o k e = rw (read, lt-leb value 4294967295 (omega arith)) e

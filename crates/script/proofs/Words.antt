@@ -1,172 +1,183 @@
--- The first word of a line, and what follows it.
+-- The words of a line, as its letter and its numbers are taken from it.
 -- Assumes nothing.
-use Prim.Native.Nat.{ℕ, zero, suc, ◌+◌, ◌-◌, ◌<◌, ◌≤◌}
-use mathlib.Core.Path.{◌≡◌, refl, sym, ap, ◌∙◌}
-use mathlib.Core.Bool.{Bool, true, false, not, cond}
+use Prim.Native.Nat.{ℕ, ◌<◌}
+use mathlib.Core.Path.{◌≡◌, refl, sym, ap, ◌∙◌, subst}
+use mathlib.Core.Bool.{Bool, true, false, cond}
 use mathlib.Core.List.{List, [], ◌∷◌}
-use native.Mathlib.Numerals.{add-one}
 use native.Mathlib.Omega.{arith}
-use lib.ListN.{length, get_or, take, drop, length-drop}
-use lib.Seq.{take_all, length-take-le}
-use lib.Dec.{eqb, ltb}
-use borrow.Author.Tests.{ltb-true, ltb-false}
-use Rattle.std.specs.List.{position_or_len}
-use Rattle.script.specs.declared.number.Number.{Number}
+use lib.ListN.{length, get_or}
+use lib.Dec.{eqb}
+use denote.Param.Members.{Mut}
+use denote.Ref.{Bor}
+use Rattle.std.proofs.Common.{Option, Some, None}
+use Rattle.std.specs.Prelude.{option_and_then}
+use Rattle.std.proofs.lemmas.Iterator.Splits.{YieldsList-from_slice_split}
+use Rattle.std.specs.Fn.{CalledAt}
+use Rattle.std.specs.Iterator.{AlwaysYields}
+use Rattle.std.specs.List.{slice_split, onto_first}
+use Rattle.std.specs.Slice.Iter.{split_rest, split_done, split_callee, split_steps}
+use Rattle.std.specs.declared.slice.Split.{Split}
 use Rattle.script.specs.declared.line.Arguments.{Arguments}
 use Rattle.script.specs.declared.line.Command.{Command}
 use Rattle.script.specs.Numbers.{number}
 use Rattle.script.specs.Lines.{space, split, begun, one, two, arguments, named, spoken, command}
 
--- where the mark first stands, or the length
-abbrev pub index_of : ℕ → List ℕ → ℕ
-index_of mark l = position_or_len (λ (b : ℕ). eqb b mark) l
+-- The parts between the marks are those that the library's split gives. There is always one.
 
--- and behind one byte more, which is the mark or not
-abbrev index_after : Bool → ℕ → ℕ
-index_after t n = cond (not t) (1 + n) 0
+module _ (mark : ℕ) where
+  pub part : (bs : List ℕ) → 0 < length (split mark bs)
+  unfolding split begun
+  part [] = omega arith
+  part (b ∷ bs) = at (eqb b mark) (split mark bs) (part bs)
+    where
+      at : (t : Bool) (ps : List (List ℕ)) → 0 < length ps → 0 < length (cond t ([] ∷ ps) (begun b ps))
+      at true ps h = omega arith
+      at false [] h = h
+      at false (p ∷ ps) h = omega arith
 
--- the mark is in none of the bytes
-pub alone : (mark : ℕ) (l : List ℕ) → index_of mark l ≡ length l → split mark l ≡ l ∷ []
-unfolding split begun
-alone mark [] e = refl
-alone mark (b ∷ bs) e = at (eqb b mark) (alone mark bs) e
-  where
-    at : (t : Bool) → (index_of mark bs ≡ length bs → split mark bs ≡ bs ∷ []) → index_after t (index_of mark bs) ≡ suc (length bs)
-        → cond t ([] ∷ split mark bs) (begun b (split mark bs)) ≡ (b ∷ bs) ∷ []
-    at true h e = absurd (omega arith)
-    at false h e = ap (λ (ws : List (List ℕ)). begun b ws) (h (omega arith))
+  put_first : (b : ℕ) (ps : List (List ℕ)) → 0 < length ps → onto_first b ps ≡ begun b ps
+  unfolding begun
+  put_first b [] h = absurd (omega arith)
+  put_first b (p ∷ ps) h = refl
 
--- the mark is in the bytes, first at that place
-pub parted : (mark : ℕ) (l : List ℕ) → index_of mark l < length l
-    → split mark l ≡ take (index_of mark l) l ∷ split mark (drop (suc (index_of mark l)) l)
-unfolding split begun
-parted mark [] h = absurd (omega arith)
-parted mark (b ∷ bs) h = at (eqb b mark) (parted mark bs) h
-  where
-    at : (t : Bool)
-        → (index_of mark bs < length bs
-        → split mark bs ≡ take (index_of mark bs) bs ∷ split mark (drop (suc (index_of mark bs)) bs))
-        → index_after t (index_of mark bs) < suc (length bs)
-        → cond t ([] ∷ split mark bs) (begun b (split mark bs))
-        ≡ take (index_after t (index_of mark bs)) (b ∷ bs) ∷ split mark (drop (suc (index_after t (index_of mark bs))) (b ∷ bs))
-    at true p h = refl
-    at false p h =
-        let next : 1 + index_of mark bs ≡ suc (index_of mark bs) = omega arith in
-        rw next (ap (λ (ws : List (List ℕ)). begun b ws) (p (omega arith)))
+  pub same_parts : (bs : List ℕ) → slice_split (λ (b : ℕ). eqb b mark) bs ≡ split mark bs
+  unfolding split
+  same_parts [] = refl
+  same_parts (b ∷ bs) =
+      rw (same_parts bs) (ap (λ (ps : List (List ℕ)). cond (eqb b mark) ([] ∷ split mark bs) ps) (put_first b (split mark bs) (part bs)))
 
--- there is always a part
-pub part : (mark : ℕ) (l : List ℕ) → 0 < length (split mark l)
-unfolding split begun
-part mark [] = omega arith
-part mark (b ∷ bs) = at (eqb b mark) (split mark bs) (part mark bs)
-  where
-    at : (t : Bool) (ps : List (List ℕ)) → 0 < length ps → 0 < length (cond t ([] ∷ ps) (begun b ps))
-    at true ps h = omega arith
-    at false [] h = h
-    at false (p ∷ ps) h = omega arith
+-- Words that are taken one after another.
 
-three : (a b : List ℕ) (words : List (List ℕ)) → 0 < length words → Arguments.Bad ≡ arguments (a ∷ b ∷ words)
-unfolding arguments
-three a b [] h = absurd (omega arith)
-three a b (c ∷ words) h = refl
+module _ {S A : Type 0} (steps : S → Option A → S → Type 0) (v : A → List ℕ) where
+  abbrev Gives : S → List (List ℕ) → Type 0
+  Gives s words = AlwaysYields steps v s words
 
--- What the code's search for a space says of the words of a text, by the place that it answers.
+  taken : (s t : S) (x : A) (words : List (List ℕ)) → Gives s words → steps s (Some x) t
+      → (more : List (List ℕ)) × (words ≡ v x ∷ more) × Gives t more
+  taken s t x [] y k = absurd (y x t k)
+  taken s t x (w ∷ ws) y k = let q = y.1 x t k in (ws, ap (λ (u : List ℕ). u ∷ ws) (sym q.0), q.1)
 
--- what is behind that place
-abbrev pub behind : List ℕ → ℕ → List ℕ
-behind text start = take (length text - start) (drop start text)
+  ended : (s t : S) (words : List (List ℕ)) → Gives s words → steps s None t → words ≡ []
+  ended s t [] y k = refl
+  ended s t (w ∷ ws) y k = absurd (y.0 t k)
 
-pub behind_all : (text : List ℕ) (start : ℕ) → behind text start ≡ drop start text
-behind_all text start = take_all (length text - start) (drop start text) (omega (arith, length-drop start text))
+-- The command that a line's words say, as a split of the line at its spaces gives them.
 
-module _ (text : List ℕ) (e : ℕ) (f : e ≡ index_of 32 text) where
-  pub word_alone : e ≡ length text → split space text ≡ text ∷ []
-  unfolding space
-  word_alone h = alone 32 text (sym f ∙ h)
-
-  pub word_first : e < length text → split space text ≡ take e text ∷ split space (drop (e + 1) text)
-  unfolding space
-  word_first h = rw (add-one e, f) (parted 32 text (omega arith))
-
-pub word_length : (text : List ℕ) (e : ℕ) → e ≤ length text → e ≡ length (take e text)
-word_length text e h = sym (length-take-le e text h)
-
--- the text behind the letter
-module _ (text : List ℕ) (e : ℕ) (f : e ≡ index_of 32 text) (n : Number) (g : n ≡ number (take e text)) where
-  pub one_word : (r : Arguments) → e ≡ length text → r ≡ one n → r ≡ arguments (split space text)
-  unfolding arguments
-  one_word r h p =
-      rw (word_alone text e f h) (p ∙ ap one (g ∙ ap number (take_all e text (omega arith))))
-
-  module _ (w : e ≤ length text) (h : e ≡ length text → ⊥) (d : ℕ)
-      (k : d ≡ index_of 32 (behind text (e + 1))) where
-    less : e < length text
-    less = at (ltb e (length text)) refl
-      where
-        at : (t : Bool) → ltb e (length text) ≡ t → e < length text
-        at true t = ltb-true e (length text) t
-        at false t = let v = ltb-false e (length text) t in absurd (h (omega arith))
-
-    words : split space text ≡ take e text ∷ split space (behind text (e + 1))
-    words = rw (behind_all text (e + 1)) (word_first text e f less)
-
-    pub many_words : d < length (behind text (e + 1)) → Arguments.Bad ≡ arguments (split space text)
-    unfolding arguments
-    many_words l =
-        rw (words, word_first (behind text (e + 1)) d k l)
-        (three (take e text) (take d (behind text (e + 1))) (split space (drop (d + 1) (behind text (e + 1))))
-        (part space (drop (d + 1) (behind text (e + 1)))))
-
-    pub two_words : (m : Number) (r : Arguments) → length (behind text (e + 1)) ≤ d → d ≤ length (behind text (e + 1))
-        → m ≡ number (behind text (e + 1)) → r ≡ two n m → r ≡ arguments (split space text)
-    unfolding arguments
-    two_words m r l u q p = rw (words, word_alone (behind text (e + 1)) d k (omega arith)) (p ∙ cc)
-
--- the letter
-single : (line : List ℕ) → length line ≡ 1 → line ≡ get_or line 0 0 ∷ []
+single : (word : List ℕ) → length word ≡ 1 → word ≡ get_or word 0 0 ∷ []
 single [] h = absurd (omega arith)
 single (b ∷ []) h = refl
 single (b ∷ a ∷ more) h = absurd (omega arith)
 
-front : (line : List ℕ) → 1 ≤ length line → take 1 line ≡ get_or line 0 0 ∷ []
-front [] h = absurd (omega arith)
-front (b ∷ more) h = refl
-
-no_letter : (word : List ℕ) (words : List (List ℕ)) → (length word ≡ 1 → ⊥) → Command.Bad ≡ spoken (word ∷ words)
+no_letter : (word : List ℕ) (words : List (List ℕ)) → (length word ≡ 1 → ⊥) → None ≡ spoken (word ∷ words)
 unfolding spoken
 no_letter [] words h = refl
 no_letter (b ∷ []) words h = absurd (h refl)
 no_letter (b ∷ a ∷ more) words h = refl
 
-module _ (line : List ℕ) (e : ℕ) (f : e ≡ index_of 32 line) where
-  pub letter_alone : (r : Command) → e ≡ 1 → length line ≡ 1 → r ≡ named (get_or line 0 0) Arguments.Zero → r ≡ command line
-  unfolding command spoken arguments
-  letter_alone r h l p = rw (word_alone line e f (omega arith), single line l) p
+two_none : (n : Option ℕ) → two n None ≡ None
+unfolding two
+two_none None = refl
+two_none (Some a) = refl
 
-  pub letter_more : (a : Arguments) (r : Command) → e ≡ 1 → e ≤ length line → (length line ≡ 1 → ⊥)
-      → a ≡ arguments (split space (behind line 2)) → r ≡ named (get_or line 0 0) a → r ≡ command line
-  unfolding command spoken
-  letter_more a r h u l q p =
-      let v : 1 < length line = past (length line) (omega arith) l in
-      let s : split space line ≡ (get_or line 0 0 ∷ []) ∷ split space (behind line 2)
-      = word_first line e f (omega arith)
-      ∙ ap (λ (k : ℕ). take k line ∷ split space (drop (k + 1) line)) h
-      ∙ rw (front line (omega arith), behind_all line 2) in
-      rw s (p ∙ ap (named (get_or line 0 0)) q)
-    where
-      past : (n : ℕ) → 1 ≤ n → (n ≡ 1 → ⊥) → 1 < n
-      past zero u l = absurd (omega arith)
-      past (suc zero) u l = absurd (l refl)
-      past (suc (suc n)) u l = omega arith
+-- the split that is left at some words
+pub record Left {F : Type 0} (g : Mut F (Bor ℕ × Unit {0}) Bool) (s : Split ℕ F) (words : List (List ℕ)) : Type 0 where
+  pub gives : Gives (split_steps g) (λ x. x.now) s words
 
-  pub letter_none : (e ≡ 1 → ⊥) → e ≤ length line → Command.Bad ≡ command line
-  unfolding command
-  letter_none h u = at (ltb e (length line)) refl
-    where
-      at : (t : Bool) → ltb e (length line) ≡ t → Command.Bad ≡ spoken (split space line)
-      at true t =
-          rw (word_first line e f (ltb-true e (length line) t))
-          (no_letter (take e line) (split space (drop (e + 1) line)) (λ o. h (omega (arith, length-take-le e line u))))
-      at false t =
-          let v = ltb-false e (length line) t in
-          rw (word_alone line e f (omega arith)) (no_letter line [] (λ o. h (omega arith)))
+-- at first it is at all words of the line, if its closure tells the spaces
+pub all_left : {F : Type 0} (g : Mut F (Bor ℕ × Unit {0}) Bool) (s t : Split ℕ F) (x : Option (Bor (List ℕ))) → split_steps g s x t
+    → (line : List ℕ) → split_rest s ≡ line → split_done s ≡ false → (f : F) → split_callee s ≡ f
+    → ((b : ℕ) (t : Bool) (q : F) → CalledAt g f b t q → (q ≡ f) × (t ≡ eqb b 32)) → Left g s (split space line)
+unfolding space
+all_left g s t x step line rest done f closure tests =
+    record {
+      gives =
+          subst (λ (ws : List (List ℕ)). Gives (split_steps g) (λ x. x.now) s ws) (same_parts 32 line)
+          (YieldsList-from_slice_split g (λ (b : ℕ). eqb b 32) line rest done closure tests).runs;
+    }
+
+module _ {F : Type 0} (g : Mut F (Bor ℕ × Unit {0}) Bool) where
+  next : (s t : Split ℕ F) (x : Bor (List ℕ)) (words : List (List ℕ)) → Left g s words → split_steps g s (Some x) t
+      → (more : List (List ℕ)) × (words ≡ x.now ∷ more) × Left g t more
+  next s t x words left step =
+      let q = taken (split_steps g) (λ x. x.now) s t x words left.gives step in (q.0, q.1, record { gives = q.2 })
+
+  last : (s t : Split ℕ F) (words : List (List ℕ)) → Left g s words → split_steps g s None t → words ≡ []
+  last s t words left step = ended (split_steps g) (λ x. x.now) s t words left.gives step
+
+  module _ (line : List ℕ) (s t : Split ℕ F) (x : Bor (List ℕ)) (all : Left g s (split space line)) (first : split_steps g s (Some x) t) where
+    behind_first : (more : List (List ℕ)) × (split space line ≡ x.now ∷ more) × Left g t more
+    behind_first = next s t x (split space line) all first
+
+    pub letter_short : length x.now < 1 → None ≡ command line
+    unfolding command
+    letter_short h = rw behind_first.1 (no_letter x.now behind_first.0 (λ e. omega arith))
+
+    pub letter_long : 1 < length x.now → None ≡ command line
+    unfolding command
+    letter_long h = rw behind_first.1 (no_letter x.now behind_first.0 (λ e. omega arith))
+
+    module _ (l : length x.now ≡ 1) (t' : Split ℕ F) where
+      -- by the words behind the letter
+      said : (ws : List (List ℕ)) → behind_first.0 ≡ ws → command line ≡ option_and_then (named (get_or x.now 0 0)) (arguments ws)
+      unfolding command spoken
+      said ws e = rw (behind_first.1, e, single x.now l)
+
+      pub no_numbers : (r : Option Command) → split_steps g t None t' → r ≡ named (get_or x.now 0 0) Arguments.Zero → r ≡ command line
+      unfolding arguments
+      no_numbers r k e = rw (said [] (last t t' behind_first.0 behind_first.2 k)) e
+
+      module _ (a : Bor (List ℕ)) (second : split_steps g t (Some a) t') (t'' : Split ℕ F) where
+        behind_second : (more : List (List ℕ)) × (behind_first.0 ≡ a.now ∷ more) × Left g t' more
+        behind_second = next t t' a behind_first.0 behind_first.2 second
+
+        module _ (n : Option ℕ) (p : n ≡ number a.now) where
+          module _ (k : split_steps g t' None t'') where
+            alone : command line ≡ option_and_then (named (get_or x.now 0 0)) (one n)
+            unfolding arguments
+            alone =
+                rw p
+                (said (a.now ∷ [])
+                (behind_second.1 ∙ ap (λ (ws : List (List ℕ)). a.now ∷ ws) (last t' t'' behind_second.0 behind_second.2 k)))
+
+            pub one_good : (i : ℕ) (r : Option Command) → n ≡ Some i → r ≡ named (get_or x.now 0 0) (Arguments.One i) → r ≡ command line
+            unfolding one
+            one_good i r e f = rw (alone, e) f
+
+            pub one_bad : (r : Option Command) → n ≡ None → r ≡ None → r ≡ command line
+            unfolding one
+            one_bad r e f = rw (alone, e) f
+
+        module _ (b : Bor (List ℕ)) (third : split_steps g t' (Some b) t'') (t₃ : Split ℕ F) where
+          behind_third : (more : List (List ℕ)) × (behind_second.0 ≡ b.now ∷ more) × Left g t'' more
+          behind_third = next t' t'' b behind_second.0 behind_second.2 third
+
+          pub many_words : (d : Bor (List ℕ)) → split_steps g t'' (Some d) t₃ → None ≡ command line
+          unfolding arguments
+          many_words d fourth =
+              let q = next t'' t₃ d behind_third.0 behind_third.2 fourth in
+              rw
+              (said (a.now ∷ b.now ∷ d.now ∷ q.0)
+              (behind_second.1
+              ∙ ap (λ (ws : List (List ℕ)). a.now ∷ ws) (behind_third.1 ∙ ap (λ (ws : List (List ℕ)). b.now ∷ ws) q.1)))
+
+          module _ (k : split_steps g t'' None t₃) where
+            both : command line ≡ option_and_then (named (get_or x.now 0 0)) (two (number a.now) (number b.now))
+            unfolding arguments
+            both =
+                said (a.now ∷ b.now ∷ [])
+                (behind_second.1
+                ∙ ap (λ (ws : List (List ℕ)). a.now ∷ ws)
+                (behind_third.1 ∙ ap (λ (ws : List (List ℕ)). b.now ∷ ws) (last t'' t₃ behind_third.0 behind_third.2 k)))
+
+            pub second_bad : (m : Option ℕ) (r : Option Command) → m ≡ number b.now → m ≡ None → r ≡ None → r ≡ command line
+            second_bad m r u e f = rw (both, ← u, e, two_none (number a.now)) f
+
+            module _ (n : Option ℕ) (p : n ≡ number a.now) where
+              pub first_bad : (r : Option Command) → n ≡ None → r ≡ None → r ≡ command line
+              unfolding two
+              first_bad r e f = rw (both, ← p, e) f
+
+              pub two_good : (m : Option ℕ) (i j : ℕ) (r : Option Command) → m ≡ number b.now → n ≡ Some i → m ≡ Some j
+                  → r ≡ named (get_or x.now 0 0) (Arguments.Two i j) → r ≡ command line
+              unfolding two
+              two_good m i j r u e v f = rw (both, ← p, e, ← u, v) f

@@ -8,12 +8,12 @@ use native.Mathlib.Numerals.{add-one}
 use native.Mathlib.Omega.{arith}
 use lib.ListN.{length, get_or, set, drop, length-set, length-append, drop_of_length-le}
 use lib.Seq.{drop-cons}
-use mir.Syntax.{w64}
-use mir.Val.{Fits}
+use Rattle.script.specs.declared.answer.Line.{Line}
 use Rattle.script.specs.Numbers.{decimal}
 use Rattle.script.specs.Lines.{space}
 use Rattle.script.specs.Answers.{spaced, put, Wrote}
-use Rattle.script.proofs.Digits.{decimal_one, decimal_more}
+use borrow.Author.Tests.{le-leb, lt-leb}
+use Rattle.script.proofs.Digits.{before_last, before_last_more, decimal_ends}
 
 put_then : (out : List ℕ) (at : ℕ) (xs ys : List ℕ) → put out at (xs ++ ys) ≡ put (put out at xs) (at + length xs) ys
 unfolding put
@@ -51,42 +51,33 @@ pub room_then : (a : List ℕ) (at : ℕ) (xs ys b : List ℕ) (m : ℕ) → at 
     → m + length ys ≤ length b
 room_then a at xs ys b m h w = omega (arith, w.behind, wrote_length a at xs b m w, length-append xs ys)
 
--- A number: a digit, or the digits of its tenth and then the last.
+-- A number: the digits of its tenth, if it has any, and then the last.
 
-module _ (out : List ℕ) (at n : ℕ) (room : at + length (decimal n) ≤ length out) where
-  module _ (last : n < 10) where
-    pub digit_room : at < length out
-    digit_room = omega (arith, ap length (decimal_one n last))
+-- the line is at the digits before the last
+module _ (out : List ℕ) (at n : ℕ) (l : Line) where
+  pub front_more : (m : Line) → l ≡ m → 10 ≤ n → Wrote out at (decimal (n / 10)) m.out.now m.written
+      → Wrote out at (before_last n) l.out.now l.written
+  unfolding before_last
+  front_more m e more w = rw (le-leb 10 n more, e) w
 
-    pub digit_wrote : Wrote out at (decimal n) (set out at (48 + n)) (at + 1)
-    digit_wrote = rw (decimal_one n last) (wrote_byte out at (48 + n))
+pub front_none : (l m : Line) (n : ℕ) → l ≡ m → n < 10 → Wrote m.out.now m.written (before_last n) l.out.now l.written
+unfolding before_last put
+front_none l m n e last = rw (lt-leb 10 n last, e) (record { behind = omega arith; buffer = refl })
 
-  module _ (more : 10 ≤ n) (fits : n < 2 ^ 32) where
-    both : length (decimal n) ≡ length (decimal (n / 10)) + 1
-    both = ap length (decimal_more n more fits) ∙ length-append (decimal (n / 10)) ((48 + n % 10) ∷ [])
+module _ (out : List ℕ) (at n : ℕ) (room : at + length (decimal n) ≤ length out) (fits : n < 2 ^ 32) where
+  number_spans : length (decimal n) ≡ length (before_last n) + 1
+  number_spans = ap length (decimal_ends n fits) ∙ length-append (before_last n) ((48 + n % 10) ∷ [])
 
-    pub tenth_room : at + length (decimal (n / 10)) ≤ length out
-    tenth_room = omega (arith, both)
+  pub tenth_room : 10 ≤ n → at + length (decimal (n / 10)) ≤ length out
+  tenth_room more = omega (arith, number_spans, ap length (before_last_more n more))
 
-    module _ (mid : List ℕ) (next : ℕ) (w : Wrote out at (decimal (n / 10)) mid next) where
-      pub last_room : next < length mid
-      last_room = omega (arith, both, w.behind, wrote_length out at (decimal (n / 10)) mid next w)
+  module _ (mid : List ℕ) (next : ℕ) (w : Wrote out at (before_last n) mid next) where
+    pub last_room : next + 1 ≤ length mid
+    last_room = omega (arith, number_spans, w.behind, wrote_length out at (before_last n) mid next w)
 
-      pub last_fits : length out < 2 ^ 64 → Fits w64 (next + 1)
-      last_fits h = omega (arith, last_room, wrote_length out at (decimal (n / 10)) mid next w)
-
-      pub number_wrote : Wrote out at (decimal n) (set mid next (48 + n % 10)) (next + 1)
-      number_wrote =
-          rw (decimal_more n more fits)
-          (wrote_then out at (decimal (n / 10)) ((48 + n % 10) ∷ []) mid (set mid next (48 + n % 10)) next (next + 1)
-          w (wrote_byte mid next (48 + n % 10)))
-
--- a value: a space and a number
-pub value_wrote : (out : List ℕ) (at value : ℕ) (mid after : List ℕ) (digits next : ℕ) → Wrote out at (32 ∷ []) mid digits
-    → Wrote mid digits (decimal value) after next → Wrote out at (space ∷ decimal value) after next
-unfolding space
-value_wrote out at value mid after digits next v w =
-    wrote_then out at (32 ∷ []) (decimal value) mid after digits next v w
+    pub number_wrote : (after : List ℕ) (behind : ℕ) → Wrote mid next ((48 + n % 10) ∷ []) after behind → Wrote out at (decimal n) after behind
+    number_wrote after behind v =
+        rw (decimal_ends n fits) (wrote_then out at (before_last n) ((48 + n % 10) ∷ []) mid after next behind w v)
 
 -- Values, one a turn: those from here, put in from here, come to all of them put in from the start.
 
@@ -108,15 +99,25 @@ module _ (start : List ℕ) (at : ℕ) (values out : List ℕ) (next i : ℕ) (h
     spans : length (spaced (drop i values)) ≡ suc (length (decimal (get_or values i 0))) + length (spaced (drop (i + 1) values))
     spans = ap length here ∙ length-append (space ∷ decimal (get_or values i 0)) (spaced (drop (i + 1) values))
 
-    pub value_room : at + length (spaced values) ≤ length start → next + length (space ∷ decimal (get_or values i 0)) ≤ length out
+    value_room : at + length (spaced values) ≤ length start → next + length (space ∷ decimal (get_or values i 0)) ≤ length out
     value_room r =
         let k = h.kept in
         let e = h.reach in
         omega (arith, spans)
 
-    pub values_next : (after : List ℕ) (behind : ℕ) → Wrote out next (space ∷ decimal (get_or values i 0)) after behind
-        → Writing start at values after behind (i + 1)
-    values_next after behind w =
+    module _ (room : at + length (spaced values) ≤ length start) where
+      pub space_room : next + 1 ≤ length out
+      space_room = omega (arith, value_room room)
+
+      pub digits_room : (mid : List ℕ) (digits : ℕ) → Wrote out next (32 ∷ []) mid digits
+          → digits + length (decimal (get_or values i 0)) ≤ length mid
+      digits_room mid digits w = room_then out next (32 ∷ []) (decimal (get_or values i 0)) mid digits (value_room room) w
+
+    pub values_next : (mid after : List ℕ) (digits behind : ℕ) → Wrote out next (32 ∷ []) mid digits
+        → Wrote mid digits (decimal (get_or values i 0)) after behind → Writing start at values after behind (i + 1)
+    unfolding space
+    values_next mid after digits behind v u =
+        let w = wrote_then out next (32 ∷ []) (decimal (get_or values i 0)) mid after digits behind v u in
         let e = h.reach in
         let b = w.behind in
         record {

@@ -1,6 +1,5 @@
 -- A line of a script: a letter, then its numbers, with one space before each.
-use Rattle.std.specs.Prelude.{ℕ, cond, List, [], ◌∷◌, eqb}
-use Rattle.script.specs.declared.number.Number.{Number}
+use Rattle.std.specs.Prelude.{ℕ, cond, Option, Some, None, option_and_then, List, [], ◌∷◌, eqb}
 use Rattle.script.specs.declared.line.Arguments.{Arguments}
 use Rattle.script.specs.declared.line.Command.{Command}
 use Rattle.script.specs.Numbers.{number}
@@ -23,43 +22,42 @@ split mark (b ∷ bs) = cond (eqb b mark) ([] ∷ split mark bs) (begun b (split
 
 -- The numbers of a line: none, one or two, each good.
 
-unfoldable pub one : Number → Arguments
-one Number.Bad = Arguments.Bad
-one (Number.Good a) = Arguments.One a
+unfoldable pub one : Option ℕ → Option Arguments
+one None = None
+one (Some a) = Some (Arguments.One a)
 
-unfoldable pub two : Number → Number → Arguments
-two Number.Bad second = Arguments.Bad
-two (Number.Good a) Number.Bad = Arguments.Bad
-two (Number.Good a) (Number.Good b) = Arguments.Two a b
+unfoldable pub two : Option ℕ → Option ℕ → Option Arguments
+two None second = None
+two (Some a) None = None
+two (Some a) (Some b) = Some (Arguments.Two a b)
 
-unfoldable pub arguments : List (List ℕ) → Arguments
-arguments [] = Arguments.Zero
+unfoldable pub arguments : List (List ℕ) → Option Arguments
+arguments [] = Some Arguments.Zero
 arguments (a ∷ []) = one (number a)
 arguments (a ∷ b ∷ []) = two (number a) (number b)
-arguments (a ∷ b ∷ c ∷ words) = Arguments.Bad
+arguments (a ∷ b ∷ c ∷ words) = None
 
 -- The letters are N 78, A 65, V 86; D 68, F 70, R 82, C 67; S 83.
-unfoldable pub named : ℕ → Arguments → Command
-named letter Arguments.Bad = Command.Bad
-named letter Arguments.Zero = cond (eqb letter 83) Command.RehashStep Command.Bad
+unfoldable pub named : ℕ → Arguments → Option Command
+named letter Arguments.Zero = cond (eqb letter 83) (Some Command.RehashStep) None
 named letter (Arguments.One a) =
-    cond (eqb letter 68) (Command.Delete a)
-    (cond (eqb letter 70) (Command.Find a)
-    (cond (eqb letter 82) (Command.Resize a)
-    (cond (eqb letter 67) (Command.Scan a) Command.Bad)))
+    cond (eqb letter 68) (Some (Command.Delete a))
+    (cond (eqb letter 70) (Some (Command.Find a))
+    (cond (eqb letter 82) (Some (Command.Resize a))
+    (cond (eqb letter 67) (Some (Command.Scan a)) None)))
 named letter (Arguments.Two a b) =
-    cond (eqb letter 78) (Command.Init a b)
-    (cond (eqb letter 65) (Command.Add a b)
-    (cond (eqb letter 86) (Command.Update a b) Command.Bad))
+    cond (eqb letter 78) (Some (Command.Init a b))
+    (cond (eqb letter 65) (Some (Command.Add a b))
+    (cond (eqb letter 86) (Some (Command.Update a b)) None))
 
 -- the first word is one letter
-unfoldable pub spoken : List (List ℕ) → Command
-spoken [] = Command.Bad
-spoken ([] ∷ words) = Command.Bad
-spoken ((letter ∷ []) ∷ words) = named letter (arguments words)
-spoken ((letter ∷ b ∷ more) ∷ words) = Command.Bad
+unfoldable pub spoken : List (List ℕ) → Option Command
+spoken [] = None
+spoken ([] ∷ words) = None
+spoken ((letter ∷ []) ∷ words) = option_and_then (named letter) (arguments words)
+spoken ((letter ∷ b ∷ more) ∷ words) = None
 
-unfoldable pub command : List ℕ → Command
+unfoldable pub command : List ℕ → Option Command
 command line = spoken (split space line)
 
 -- The lines of a script. A line feed ends a line, and the last one may lack it; an empty script has no line.

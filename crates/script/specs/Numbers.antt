@@ -1,6 +1,5 @@
 -- A number as a script writes it, and as an answer does.
-use Rattle.std.specs.Prelude.{ℕ, zero, suc, ◌+◌, ◌*◌, ◌-◌, ◌/◌, ◌%◌, Bool, true, ◌&&◌, cond, List, [], ◌∷◌, ◌++◌, length, leb, ltb}
-use Rattle.script.specs.declared.number.Number.{Number}
+use Rattle.std.specs.Prelude.{ℕ, zero, suc, ◌+◌, ◌*◌, ◌-◌, ◌/◌, ◌%◌, Bool, true, ◌&&◌, cond, Option, Some, None, List, [], ◌∷◌, ◌++◌, length, leb, ltb}
 
 unfoldable pub most_digits : ℕ
 most_digits = 10
@@ -21,11 +20,11 @@ unfoldable pub value_after : ℕ → List ℕ → ℕ
 value_after n [] = n
 value_after n (b ∷ bs) = value_after (n * 10 + (b - 48)) bs
 
-unfoldable pub number : List ℕ → Number
+unfoldable pub number : List ℕ → Option ℕ
 number word =
     cond (leb 1 (length word) && leb (length word) most_digits && all_digits word && leb (value_after 0 word) largest_number)
-    (Number.Good (value_after 0 word))
-    Number.Bad
+    (Some (value_after 0 word))
+    None
 
 -- the decimal digits of n, no leading zeros, as long as there are at most so many
 unfoldable pub digits : ℕ → ℕ → List ℕ

@@ -1,6 +1,6 @@
 -- SPECIFICATION, "The program": what each line of a script writes and leaves, and what a script writes. Every call goes
 -- through model's `perform`, and `carry` keeps the store of a refused call.
-use Rattle.std.specs.Prelude.{ℕ, ◌*◌, cond, List, [], ◌∷◌, ◌++◌, length, get_or, take, replicate, leb, ltb}
+use Rattle.std.specs.Prelude.{ℕ, ◌*◌, cond, Option, Some, None, List, [], ◌∷◌, ◌++◌, length, get_or, take, replicate, leb, ltb}
 use Rattle.model.specs.Calls.{no_state}
 use Rattle.model.specs.Sequences.{KeyCall, Call, World, world, Outcome, perform, carry}
 use Rattle.script.specs.declared.line.Command.{Command}
@@ -39,7 +39,6 @@ unfoldable pub walked : World → Call → Ran
 walked w call = let o = perform w call in answered w o (handed_out o) o.lent
 
 unfoldable pub run_command : World → List ℕ → Command → Ran
-run_command w lent Command.Bad = record { written = answer_line bad_line []; world = w; lent = lent }
 run_command w lent (Command.Init capacity size) = called w lent (Call.init (limited capacity) (limited size))
 run_command w lent (Command.Add key value) = called w lent (Call.on key (KeyCall.add value))
 run_command w lent (Command.Update key value) = called w lent (Call.on key (KeyCall.update value))
@@ -49,8 +48,13 @@ run_command w lent (Command.Resize size) = called w lent (Call.resize (limited s
 run_command w lent Command.RehashStep = called w lent Call.rehash_step
 run_command w lent (Command.Scan cursor) = walked w (Call.scan cursor lent)
 
+-- what a line says, if it says anything
+unfoldable pub run_said : World → List ℕ → Option Command → Ran
+run_said w lent None = record { written = answer_line bad_line []; world = w; lent = lent }
+run_said w lent (Some command) = run_command w lent command
+
 unfoldable pub run_line : World → List ℕ → List ℕ → Ran
-run_line w lent line = run_command w lent (command line)
+run_line w lent line = run_said w lent (command line)
 
 -- A script. Each line finds what the one before left.
 

@@ -5,7 +5,6 @@ ghost use Rattle.script.specs.Numbers.{decimal};
 ghost use Rattle.script.specs.Lines.{space};
 ghost use Rattle.script.specs.Answers.{spaced, answer_line, Wrote};
 
-use crate::number::write_number;
 use model::Error;
 
 // The number of a refusal (SPECIFICATION, "Answers").
@@ -29,34 +28,46 @@ pub fn error_number(e: Error) -> u32
     }
 }
 
-fn write_byte(out: &mut [u8], at: usize, b: u8) -> usize
-    requires { at + 1 ≤ length out.old }
-    ensures { Wrote out.old at (b ∷ []) out.new result }
-{
-    out[at] = b;
-    at + 1
+// A line as it is written: the buffer, and how many bytes at its front have been written.
+#[derive(Drop)]
+struct Line<'a> {
+    out: &'a mut [u8],
+    written: usize,
 }
 
-// A value with its space.
-fn write_value(out: &mut [u8], at: usize, value: u32) -> usize
-    requires { at + length (space ∷ decimal value) ≤ length out.old }
-    ensures { Wrote out.old at (space ∷ decimal value) out.new result }
-{
-    let digits = write_byte(out, at, b' ');
-    write_number(out, digits, value)
-}
-
-fn write_values(out: &mut [u8], at: usize, values: &[u32]) -> usize
-    requires { at + length (spaced values.now) ≤ length out.old }
-    ensures { Wrote out.old at (spaced values.now) out.new result }
-{
-    let mut next = at;
-    let mut i = 0;
-    while i < values.len() {
-        next = write_value(out, next, values[i]);
-        i += 1;
+impl Line<'_> {
+    fn byte(&mut self, b: u8)
+        requires { self.old.written + 1 ≤ length self.old.out.now }
+        ensures same_buffer { self.new.out.ghost_name ≡ self.old.out.ghost_name }
+        ensures wrote { Wrote self.old.out.now self.old.written (b ∷ []) self.new.out.now self.new.written }
+    {
+        self.out[self.written] = b;
+        self.written += 1;
     }
-    next
+
+    // The digits before the last, then the last.
+    fn number(&mut self, n: u32)
+        requires { self.old.written + length (decimal n) ≤ length self.old.out.now }
+        ensures same_buffer { self.new.out.ghost_name ≡ self.old.out.ghost_name }
+        ensures wrote { Wrote self.old.out.now self.old.written (decimal n) self.new.out.now self.new.written }
+    {
+        if 10 <= n {
+            self.number(n / 10);
+        }
+        self.byte(b'0' + (n % 10) as u8);
+    }
+
+    // Each value with its space.
+    fn values(&mut self, values: &[u32])
+        requires { self.old.written + length (spaced values.now) ≤ length self.old.out.now }
+        ensures same_buffer { self.new.out.ghost_name ≡ self.old.out.ghost_name }
+        ensures wrote { Wrote self.old.out.now self.old.written (spaced values.now) self.new.out.now self.new.written }
+    {
+        for value in values {
+            self.byte(b' ');
+            self.number(*value);
+        }
+    }
 }
 
 // A number alone, from the front of the buffer: what a refusal writes, and a call that answers 0 and nothing more.
@@ -64,8 +75,10 @@ pub fn write_number_line(out: &mut [u8], number: u32) -> usize
     requires { length (answer_line number []) ≤ length out.old }
     ensures { Wrote out.old 0 (answer_line number []) out.new result }
 {
-    let end = write_number(out, 0, number);
-    write_byte(out, end, b'\n')
+    let mut line = Line { out, written: 0 };
+    line.number(number);
+    line.byte(b'\n');
+    line.written
 }
 
 // 0 and the result's values, which come in two parts.
@@ -73,8 +86,10 @@ pub fn write_result_line(out: &mut [u8], values: &[u32], more: &[u32]) -> usize
     requires { length (answer_line 0 (values.now ++ more.now)) ≤ length out.old }
     ensures { Wrote out.old 0 (answer_line 0 (values.now ++ more.now)) out.new result }
 {
-    let first = write_number(out, 0, 0);
-    let second = write_values(out, first, values);
-    let end = write_values(out, second, more);
-    write_byte(out, end, b'\n')
+    let mut line = Line { out, written: 0 };
+    line.number(0);
+    line.values(values);
+    line.values(more);
+    line.byte(b'\n');
+    line.written
 }

@@ -1,15 +1,14 @@
 // What a line of a script says.
 ghost use Rattle.std.specs.Prelude.{◌≡◌, length, drop};
-ghost use Rattle.script.specs.Lines.{space, split, one, two, arguments, named, command, lines_of};
+ghost use Rattle.script.specs.Lines.{named, command, lines_of};
 ghost use Rattle.script.specs.Places.{Reaches, lines_from};
 
-use crate::number::{Number, parse_number};
+use crate::number::parse_number;
 use crate::scan::find;
 
-// A line of a script (SPECIFICATION, "The script"), by its letter. Anything else is Bad.
+// A line of a script (SPECIFICATION, "The script"), by its letter.
 #[derive(Clone, Copy)]
 pub enum Command {
-    Bad,
     Init { capacity: u32, size: u32 },
     Add { key: u32, value: u32 },
     Update { key: u32, value: u32 },
@@ -23,109 +22,54 @@ pub enum Command {
 // The numbers after the letter.
 #[derive(Clone, Copy)]
 pub enum Arguments {
-    Bad,
     Zero,
     One(u32),
     Two(u32, u32),
 }
 
-fn one_number(first: Number) -> Arguments
-    ensures { result ≡ one first }
-{
-    match first {
-        Number::Bad => Arguments::Bad,
-        Number::Good(a) => Arguments::One(a),
-    }
-}
-
-fn two_numbers(first: Number, second: Number) -> Arguments
-    ensures { result ≡ two first second }
-{
-    match first {
-        Number::Bad => Arguments::Bad,
-        Number::Good(a) => match second {
-            Number::Bad => Arguments::Bad,
-            Number::Good(b) => Arguments::Two(a, b),
-        },
-    }
-}
-
-// The numbers in what follows the letter and its space.
-fn parse_arguments(text: &[u8]) -> Arguments
-    ensures { result ≡ arguments (split space text.now) }
-{
-    let end = find(text, b' ');
-    let first = parse_number(&text[..end]);
-    if end == text.len() {
-        return one_number(first);
-    }
-    let start = end + 1;
-    let rest = &text[start..];
-    if find(rest, b' ') < rest.len() {
-        return Arguments::Bad;
-    }
-    two_numbers(first, parse_number(rest))
-}
-
-fn command_of(letter: u8, numbers: Arguments) -> Command
+#[tactic(auto, unfolding(crate::specs::Lines::named))]
+fn command_of(letter: u8, numbers: Arguments) -> Option<Command>
     ensures { result ≡ named letter numbers }
 {
-    match numbers {
-        Arguments::Bad => Command::Bad,
-        Arguments::Zero => match letter {
-            b'S' => Command::RehashStep,
-            _ => Command::Bad,
-        },
-        Arguments::One(a) => match letter {
-            b'D' => Command::Delete(a),
-            b'F' => Command::Find(a),
-            b'R' => Command::Resize(a),
-            b'C' => Command::Scan(a),
-            _ => Command::Bad,
-        },
-        Arguments::Two(a, b) => match letter {
-            b'N' => Command::Init {
-                capacity: a,
-                size: b,
-            },
-            b'A' => Command::Add { key: a, value: b },
-            b'V' => Command::Update { key: a, value: b },
-            _ => Command::Bad,
-        },
+    match (letter, numbers) {
+        (b'N', Arguments::Two(capacity, size)) => Some(Command::Init { capacity, size }),
+        (b'A', Arguments::Two(key, value)) => Some(Command::Add { key, value }),
+        (b'V', Arguments::Two(key, value)) => Some(Command::Update { key, value }),
+        (b'D', Arguments::One(key)) => Some(Command::Delete(key)),
+        (b'F', Arguments::One(key)) => Some(Command::Find(key)),
+        (b'R', Arguments::One(size)) => Some(Command::Resize(size)),
+        (b'S', Arguments::Zero) => Some(Command::RehashStep),
+        (b'C', Arguments::One(cursor)) => Some(Command::Scan(cursor)),
+        _ => None,
     }
 }
 
-// A line without its line feed. Its first word is the letter.
-pub fn parse_line(line: &[u8]) -> Command
+// A line without its line feed: a letter, and up to two numbers, with one space before each. Anything else says nothing.
+pub fn parse_line(line: &[u8]) -> Option<Command>
     ensures { result ≡ command line.now }
 {
-    let end = find(line, b' ');
-    if end == 1 {
-        let letter = line[0];
-        if line.len() == 1 {
-            return command_of(letter, Arguments::Zero);
+    let mut words = line.split(|b| *b == b' ');
+    let Some(&[letter]) = words.next() else {
+        return None;
+    };
+    match (words.next(), words.next(), words.next()) {
+        (None, _, _) => command_of(letter, Arguments::Zero),
+        (Some(a), None, _) => command_of(letter, Arguments::One(parse_number(a)?)),
+        (Some(a), Some(b), None) => {
+            command_of(letter, Arguments::Two(parse_number(a)?, parse_number(b)?))
         }
-        command_of(letter, parse_arguments(&line[2..]))
-    } else {
-        Command::Bad
+        _ => None,
     }
 }
 
-// The line that starts at a place of a script, by where it ends. The next one starts behind its line feed.
-#[derive(Clone, Copy)]
-pub enum NextLine {
-    None,
-    Until(usize),
-}
-
-pub fn next_line(script: &[u8], from: usize) -> NextLine
+// Where the line ends that starts at a place of a script. The next one starts behind its line feed.
+pub fn next_line(script: &[u8], from: usize) -> Option<usize>
     ensures script_value { lines_of (drop from script.now) ≡ lines_from script.now from result }
     ensures reaches { Reaches (length script.now) from result }
 {
     if from < script.len() {
-        let end = from + find(&script[from..], b'\n');
-        NextLine::Until(end)
+        Some(from + find(&script[from..], b'\n'))
     } else {
-        NextLine::None
+        None
     }
 }

@@ -7,8 +7,5 @@ pub fn find(text: &[u8], mark: u8) -> usize
     ensures value { result ≡ position_or_len (λ b. b == mark) text.now }
     ensures within { result ≤ length text.now }
 {
-    match text.iter().position(|b| *b == mark) {
-        Some(n) => n,
-        None => text.len(),
-    }
+    text.iter().position(|b| *b == mark).unwrap_or(text.len())
 }

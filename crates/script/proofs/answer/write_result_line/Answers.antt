@@ -1,18 +1,21 @@
 -- `script::answer::write_result_line` meets its contract: 0, the values of both parts, then a line feed.
+use Rattle.std.proofs.Common.{arith}
 use Rattle.script.proofs.Answering.{result_room, values_room, more_room, end_room, result_wrote}
 use Rattle.script.proofs.answer.write_result_line.Goals as goal
 
-pub write_number-first-requires : goal.write_number-first-requires
-write_number-first-requires c = search result_room
+pub number-requires : goal.number-requires
+number-requires c = search result_room
 
-pub write_values-second-requires : goal.write_values-second-requires
-write_values-second-requires c = search values_room
+pub values-requires : goal.values-requires
+values-requires c = search values_room
 
-pub write_values-end-requires : goal.write_values-end-requires
-write_values-end-requires c = search more_room
+pub values-requires-2 : goal.values-requires-2
+values-requires-2 c = search more_room
 
-pub write_byte-requires : goal.write_byte-requires
-write_byte-requires c = search end_room
+pub byte-requires : goal.byte-requires
+byte-requires c = search end_room
 
 pub returns : goal.returns
-returns c = search result_wrote
+returns c =
+    result_wrote _ _ _ c.requires _ _ c.number.ensures.wrote _ _ c.values.ensures.wrote _ _ c.values-2.ensures.wrote _ _ _ c.byte.ensures.wrote
+    (grind arith)

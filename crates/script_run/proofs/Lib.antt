@@ -2,4 +2,4 @@
 mod Calls
 mod Room
 mod Walk
-mod Commands
+mod Lines

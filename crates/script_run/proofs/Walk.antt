@@ -1,36 +1,37 @@
 -- A walk call: what it hands out fits the list that it was lent, and is written behind its values.
 -- Assumes nothing.
 use Prim.Native.Nat.{ℕ, ◌*◌, ◌≤◌}
-use mathlib.Core.Path.{◌≡◌, refl, sym, ap, ◌∙◌, subst}
+use mathlib.Core.Path.{◌≡◌, refl, sym, subst}
 use mathlib.Core.Bool.{Bool, true, false, cond}
 use mathlib.Core.Option.{Option, none, some}
-use mathlib.Core.List.{List}
+use mathlib.Core.List.{List, [], ◌∷◌}
 use native.Mathlib.Omega.{arith}
-use lib.ListN.{length, take}
+use lib.ListN.{length}
 use lib.Dec.{leb, eqb}
 use borrow.Author.Tests.{leb-true}
 use Rattle.model.specs.declared.State.{State}
-use Rattle.model.specs.Answers.{Reply, reply, scan_reply}
+use Rattle.model.specs.Answers.{reply, scan_reply}
 use Rattle.model.specs.Memory.{keys_held}
 use Rattle.model.specs.Calls.{sound, oriented, checked, reading}
 use Rattle.model.specs.Walk.{AfterScan, scanned}
 use Rattle.model.specs.Walk as walk
-use Rattle.model.specs.Sequences.{World, world, kept, kept_scan, carry}
+use Rattle.model.specs.Sequences.{World, world, kept, kept_scan, carry, carried_state}
 use Rattle.script.specs.Answers.{answer_line}
 use Rattle.script.specs.Program.{Ran, answered, handed_out}
-use Rattle.script_run.specs.declared.answer.Reply as code
+use Rattle.script_run.specs.declared.answer.Refusal.{Refusal}
 use Rattle.script_run.specs.declared.answer.Values.{Values}
-use Rattle.script_run.specs.Runs.{replied, values_of, handed, handed_by, outcome, Replies, Leaves}
-use Rattle.script_run.proofs.Calls.{known_replies}
-use Rattle.std.specs.Prelude.{Result, Ok, Err}
+use Rattle.script_run.specs.Answers.{values_of, handed, refusal_number, scan_refusal, done_line, line_of, Fits}
+use Rattle.script_run.specs.Runs.{Leaves}
+use Rattle.script_run.proofs.Calls.{refused_leaves}
+use Rattle.std.proofs.Common.{Result, Ok, Err}
+use Rattle.std.specs.Prelude.{IsErrAnd}
 use Rattle.model.specs.declared.ScanError.{ScanError}
 
--- an answer that is known, with its reply
-pub scan_replies : {a b : Result (ℕ × ℕ) ScanError} (s : State) (r : code.Reply) (number : ℕ) (values : Values) (t : State) → a ≡ b
-    → r ≡ replied number values t → reply number (values_of values) t ≡ scan_reply s b → handed values ≡ handed_by b
-    → Replies r (scan_reply s) a (handed_by a)
-scan_replies {a} s r number values t h k e p =
-    known_replies (scan_reply s) r number values t (handed_by a) h k e (p ∙ ap handed_by (sym h))
+-- two numbers for each key of a walk call that is answered 0
+unfoldable handed_by : Result (ℕ × ℕ) ScanError → ℕ
+handed_by (Ok (next, count)) = count * 2
+handed_by (Err (ScanError.Short count)) = 0
+handed_by (Err (ScanError.Refused e)) = 0
 
 -- there are places for what is handed out
 unfoldable Fit : ℕ → AfterScan → Type 0
@@ -72,25 +73,22 @@ module _ (s : State) (first second entries lent : List ℕ) (cursor : ℕ) where
   abbrev ran : AfterScan → Ran
   ran d = answered w (kept_scan w d) (handed_out (kept_scan w d)) (kept_scan w d).lent
 
-  -- of one that is short no value is written, whatever its second value says
-  same : (a : Result (ℕ × ℕ) ScanError) (lent' : List ℕ)
-      → answered w (outcome (scan_reply s a) first second entries) (take (handed_by a) lent') lent' ≡ ran (AfterScan.after a lent')
-  unfolding kept_scan kept handed_out handed_by world answered carry outcome scan_reply reply answer_line
-  same (Ok (next, count)) lent' = refl
-  same (Err (ScanError.Short count)) lent' = refl
-  same (Err (ScanError.Refused e)) lent' = refl
+  refused : (lent' : List ℕ) (e : ScanError) (r : Result Values Refusal) → IsErrAnd r (λ f. f ≡ scan_refusal e)
+      → Leaves (ran (AfterScan.after (Err e) lent')) r w lent'
+  unfolding kept_scan kept handed_out scan_reply scan_refusal reply answered answer_line carry carried_state world line_of refusal_number Fits
+  refused lent' e (Ok v) h = elim h [ ]
+  refused lent' (ScanError.Short count) (Err f) h = rw h (record { same = refl; fits = tt })
+  refused lent' (ScanError.Refused e) (Err f) h = refused_leaves s first second entries lent' e (0 ∷ 0 ∷ []) s first second entries [] (Err f) h
 
-  pub scan_leaves : (a : Result (ℕ × ℕ) ScanError) (lent' : List ℕ) (r : code.Reply) → AfterScan.after a lent' ≡ walk.scan s first second entries lent cursor
-      → length lent' ≡ length lent → Replies r (scan_reply s) a (handed_by a)
-      → Leaves (ran (walk.scan s first second entries lent cursor)) w r first second entries lent'
-  unfolding Fit
-  scan_leaves a lent' r c k q =
-      let f : handed_by a ≤ length lent = subst (Fit (length lent)) (sym c) scan_fits in
-      subst (λ (d : AfterScan). Leaves (ran d) w r first second entries lent') c
-      (record {
-        runs =
-            ap (λ (q : Reply State). answered w (outcome q first second entries) (take (handed r.values) lent') lent') q.reply
-            ∙ ap (λ (k : ℕ). answered w (outcome (scan_reply s a) first second entries) (take k lent') lent') q.handed
-            ∙ same a lent';
-        fits = omega (arith, q.handed);
-      })
+  module _ {a : Result (ℕ × ℕ) ScanError} {lent' : List ℕ} (c : AfterScan.after a lent' ≡ walk.scan s first second entries lent cursor) where
+    pub walk_done : length lent' ≡ length lent → {next count : ℕ} → a ≡ Ok (next, count)
+        → Leaves (ran (walk.scan s first second entries lent cursor)) (Ok (Values.Walk next count)) w lent'
+    unfolding kept_scan kept handed_out handed_by scan_reply reply answered carry carried_state world line_of done_line values_of handed Fit Fits
+    walk_done k {next} {count} e =
+        let f : Fit (length lent) (AfterScan.after a lent') = subst (Fit (length lent)) (sym c) scan_fits in
+        let g : handed_by (Ok (next, count)) ≤ length lent = subst (λ (b : Result (ℕ × ℕ) ScanError). handed_by b ≤ length lent) e f in
+        rw (← c, e) (record { same = refl; fits = omega arith })
+
+    pub walk_refused : {e : ScanError} {r : Result Values Refusal} → a ≡ Err e → IsErrAnd r (λ f. f ≡ scan_refusal e)
+        → Leaves (ran (walk.scan s first second entries lent cursor)) r w lent'
+    walk_refused {e = e} {r = r} k h = rw (← c, k) (refused lent' e r h)

@@ -1,11 +1,10 @@
-// What a call replies, and the line that it is written as.
-ghost use Rattle.std.specs.Prelude.{◌≡◌, ◌++◌, take};
-ghost use Rattle.model.specs.Answers.{error_number};
-ghost use Rattle.script.specs.Answers.{answer_line};
-ghost use Rattle.script_run.specs.Runs.{replied, values_of, handed, Room, Written, Told};
+// What a line is answered with, and the line that this is written as.
+ghost use Rattle.std.specs.Prelude.{◌≡◌, ◌≤◌, length};
+ghost use Rattle.script_run.specs.declared.answer.Refusal.TheVariants.{Store};
+ghost use Rattle.script_run.specs.Answers.{pair_room, line_room, refusal_number, scan_refusal, done_line, line_of, Fits, Room, Written};
 
 use crate::PROGRAM_LIMIT;
-use model::{Error, State};
+use model::{Error, ScanError, Unstarted};
 use script::answer::{error_number, write_number_line, write_result_line};
 
 // The places that a walk call is lent: two for each key.
@@ -15,7 +14,7 @@ pub const PAIR_ROOM: usize = PROGRAM_LIMIT * 2;
 // its space.
 pub const LINE_ROOM: usize = 2 + (2 + PAIR_ROOM) * 11;
 
-// The values of an answer. Those of a walk call are written with the pairs that it handed out.
+// The values behind a 0. Those of a walk call are written with the pairs that it handed out.
 #[derive(Clone, Copy)]
 pub(crate) enum Values {
     None,
@@ -24,76 +23,83 @@ pub(crate) enum Values {
     Walk(u32, u32),
 }
 
-// An answer's number, its values, and the state that comes back (SPECIFICATION, "Answers").
+// Why a line is answered with another number.
 #[derive(Clone, Copy)]
-pub(crate) struct Reply {
-    pub(crate) number: u32,
-    pub(crate) values: Values,
-    pub(crate) state: State,
+pub(crate) enum Refusal {
+    // The line says nothing.
+    BadLine,
+    // The list is short of room for the keys of a walk call.
+    Short,
+    // The store refused its call.
+    Store(Error),
 }
 
-// A reply with that number.
-pub(crate) fn numbered(number: u32, values: Values, state: State) -> Reply
-    ensures { result ≡ replied number values state }
-{
-    Reply {
-        number,
-        values,
-        state,
+impl From<Error> for Refusal {
+    ghost from_gives = { λ e refusal. refusal ≡ Store e };
+
+    fn from(e: Error) -> Refusal {
+        Refusal::Store(e)
     }
 }
 
-// A refusal, whose number is the error's.
-pub(crate) fn refused(e: Error, values: Values, state: State) -> Reply
-    ensures { result ≡ replied (error_number e) values state }
-{
-    numbered(error_number(e), values, state)
+impl From<Unstarted> for Refusal {
+    ghost from_gives = { λ e refusal. refusal ≡ Store e.error };
+
+    fn from(e: Unstarted) -> Refusal {
+        Refusal::Store(e.error)
+    }
 }
 
-// The state for the next line, and how many bytes this one wrote.
-#[derive(Clone, Copy)]
-pub struct LineAnswer {
-    pub state: State,
-    pub length: usize,
+impl From<ScanError> for Refusal {
+    ghost from_gives = { λ e refusal. refusal ≡ scan_refusal e };
+
+    #[tactic(auto, unfolding(crate::specs::Answers::scan_refusal))]
+    fn from(e: ScanError) -> Refusal {
+        match e {
+            ScanError::Short(_) => Refusal::Short,
+            ScanError::Refused(e) => Refusal::Store(e),
+        }
+    }
+}
+
+impl From<Refusal> for u32 {
+    ghost from_gives = { λ refusal number. number ≡ refusal_number refusal };
+
+    #[tactic(auto, unfolding(crate::specs::Answers::refusal_number, script::specs::Answers::bad_line))]
+    fn from(refusal: Refusal) -> u32 {
+        match refusal {
+            Refusal::BadLine => 10,
+            Refusal::Short => 9,
+            Refusal::Store(e) => error_number(e),
+        }
+    }
 }
 
 // 0 and the values, from the front of the buffer.
 fn write_values(out: &mut [u8], pairs: &[u32], values: Values) -> usize
     requires { Room out.old pairs.now values }
-    ensures { Written (answer_line 0 (values_of values ++ take (handed values) pairs.now))
-        out.old out.new result }
+    ensures { Written (done_line values pairs.now) out.old out.new result }
 {
-    let none = [0u32; 0];
     match values {
-        Values::None => write_number_line(out, 0),
-        Values::One(a) => {
-            let one = [a];
-            write_result_line(out, &one, &none)
-        }
-        Values::Two(a, b) => {
-            let two = [a, b];
-            write_result_line(out, &two, &none)
-        }
+        Values::None => write_result_line(out, &[], &[]),
+        Values::One(a) => write_result_line(out, &[a], &[]),
+        Values::Two(a, b) => write_result_line(out, &[a, b], &[]),
         Values::Walk(next, count) => {
-            let two = [next, count];
             let end = count as usize * 2;
-            write_result_line(out, &two, &pairs[..end])
+            write_result_line(out, &[next, count], &pairs[..end])
         }
     }
 }
 
-// Writes a reply. The state that came back goes on to the next line only from a call that is answered 0.
-pub(crate) fn write_reply(out: &mut [u8], pairs: &[u32], s: State, reply: Reply) -> LineAnswer
-    requires { Room out.old pairs.now reply.values }
-    ensures { Told s reply pairs.now out.old out.new result.state result.length }
+// An answer's line.
+pub(crate) fn write_answer(out: &mut [u8], pairs: &[u32], answer: Result<Values, Refusal>) -> usize
+    requires line_room { line_room ≤ length out.old }
+    requires pair_room { length pairs.now ≤ pair_room }
+    requires fits { Fits answer pairs.now }
+    ensures { Written (line_of answer pairs.now) out.old out.new result }
 {
-    let state = reply.state;
-    if reply.number == 0 {
-        let values = reply.values;
-        let length = write_values(out, pairs, values);
-        LineAnswer { state, length }
-    } else {
-        let length = write_number_line(out, reply.number);
-        LineAnswer { state: s, length }
+    match answer {
+        Ok(values) => write_values(out, pairs, values),
+        Err(refusal) => write_number_line(out, u32::from(refusal)),
     }
 }

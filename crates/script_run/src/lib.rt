@@ -1,4 +1,4 @@
-// One line of a script, run against the store (SPECIFICATION, "The program"): its call is made, and then what it replies is
+// One line of a script, run against the store (SPECIFICATION, "The program"): its call is made, and then what that answers is
 // written as a line.
 #![tactic(auto)]
 
@@ -7,4 +7,3 @@ pub const PROGRAM_LIMIT: usize = 4096;
 
 pub mod answer;
 pub mod line;
-mod replies;

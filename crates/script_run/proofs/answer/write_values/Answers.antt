@@ -1,14 +1,15 @@
 -- `script_run::answer::write_values` meets its contract: whatever the values are, they have room in a line.
-use Rattle.script_run.specs.Runs.{values_of, handed}
-use Rattle.script_run.proofs.Room.{number_room, values_room, values_written, pairs_taken}
+use Rattle.script_run.specs.Answers.{values_of, handed}
+use Rattle.script_run.proofs.Room.{values_room, values_written, pairs_taken}
 use Rattle.script_run.proofs.answer.write_values.Goals as goal
-
-pub write_number_line-requires : goal.write_number_line-requires
-write_number_line-requires c = search number_room
 
 pub write_result_line-requires : goal.write_result_line-requires
 unfolding values_of handed
 write_result_line-requires c = search values_room
+
+pub write_result_line-requires-in-One : goal.write_result_line-requires-in-One
+unfolding values_of handed
+write_result_line-requires-in-One c = search values_room
 
 pub write_result_line-requires-in-Two : goal.write_result_line-requires-in-Two
 unfolding values_of handed

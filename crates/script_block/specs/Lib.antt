@@ -1,3 +1,2 @@
--- What a block has, for a reader; then what the functions below it ask and hand up.
+-- What a block has.
 pub mod Blocks
-pub mod Turns

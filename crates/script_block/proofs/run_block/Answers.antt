@@ -1,22 +1,24 @@
 -- The goals of `run_block` that the search leaves.
+use Rattle.std.proofs.Common.{refl, rules}
 use Rattle.script.specs.Program.{program_limit}
-use Rattle.script_block.proofs.Gathering.{gathering_start, room_left, more_left, turn_less, gathering_next, block_done}
+use Rattle.script_block.proofs.Gathering.{gathering_start, gathering_next, whole_next, none_left}
 use Rattle.script_block.proofs.run_block.Goals as goal
 
-pub loop-at-init : goal.loop-at-init
-loop-at-init c = search gathering_start
-
-pub run_one-at-requires : goal.run_one-at-requires
+pub loop-filled-init : goal.loop-filled-init
 unfolding program_limit
-run_one-at-requires c = record { room = search room_left; next_in_bounds = search more_left }
+loop-filled-init c = search (rules, gathering_start)
 
-pub loop-at-smaller : goal.loop-at-smaller
+pub loop-filled-preserved : goal.loop-filled-preserved
 unfolding program_limit
-loop-at-smaller c = search turn_less
+loop-filled-preserved c =
+    record {
+      same_buffers = search rules;
+      pairs = search rules;
+      block = search whole_next;
+      gathering =
+          gathering_next _ _ _ _ _ _ _ _ _ c.loop-filled.invariant.gathering _ _ _ _ _ _ c.loop-filled.invariant.block refl
+          c.loop-filled-test.true c.run_line-length.ensures.runs c.in-Some.ensures.script_value c.in-Some.ensures.reaches;
+    }
 
-pub loop-at-preserved : goal.loop-at-preserved
-loop-at-preserved c = search gathering_next
-
-pub returns : goal.returns
-unfolding program_limit
-returns c = search block_done
+pub returns-in_default-clause-runs_block : goal.returns-in_default-clause-runs_block
+returns-in_default-clause-runs_block c = search none_left

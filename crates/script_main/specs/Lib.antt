@@ -1,2 +1,0 @@
--- What came of reading the script.
-pub mod Input

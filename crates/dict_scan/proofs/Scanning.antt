@@ -1,121 +1,73 @@
--- What a walk call answers and writes, from the passes over its group: the count, the test of the room, the pairs written.
+-- What a walk call answers and writes, from the two readings of its group: the count, the test of the room, the pairs written.
 -- Assumes nothing.
 use Prim.Native.Nat.{ℕ, ◌+◌, ◌*◌, ◌^◌, ◌≤◌, ◌<◌}
-use mathlib.Core.Path.{◌≡◌, sym}
-use mathlib.Core.Bool.{true}
+use mathlib.Core.Path.{◌≡◌}
 use mathlib.Core.List.{List}
-use mathlib.Core.Option.{Option}
 use native.Mathlib.Omega.{arith}
 use lib.ListN.{length, get_or}
-use borrow.Author.Tests.{lt-ltb, le-ltb}
+use Rattle.std.specs.Prelude.{Ok, Err, Result}
+use Rattle.std.specs.Result.{IsErrAnd}
 use Rattle.cursor.specs.Next.{next}
 use Rattle.cursor.specs.Group.{one_table}
+use Rattle.model.specs.declared.Error.{Error}
+use Rattle.model.specs.declared.ScanError.{ScanError}
 use Rattle.model.specs.Keys.{bucket_of}
-use Rattle.model.specs.Limits.{legal_size}
-use Rattle.model.specs.Memory.{chain, in_bucket, listed}
-use Rattle.model.specs.Walk.{AfterScan, joined, at_most, scanned}
+use Rattle.model.specs.Memory.{in_bucket}
+use Rattle.model.specs.Walk.{AfterScan, at_most, scanned}
 use Rattle.model.proofs.AtMost.{at_most_sound}
 use Rattle.memory.specs.Length.{length_of}
 use Rattle.memory.proofs.Counted.{counted}
-use Rattle.scan_group.specs.Chains.{cursor_chain, chains, group_chains, linked, all_linked}
+use Rattle.scan_group.specs.declared.lent.Entries.{Entries}
+use Rattle.scan_group.specs.declared.lent.LiveTable.{LiveTable}
+use Rattle.scan_group.specs.declared.lent.Group.{Group}
+use Rattle.scan_group.specs.Chains.{table_chain, table_chains, larger_buckets, group_chains, group_linked}
 use Rattle.scan_group.specs.Written.{written, Writable}
-use Rattle.scan_group.proofs.Buckets.{buckets_from, one_answered, two_answered}
+use Rattle.scan_group.proofs.Buckets.{sizes_of, one_answered, two_answered}
 use Rattle.scan_group.proofs.Chains.{joined_parts, linked_same, all_linked_same}
-use Rattle.scan_group.proofs.HandingOut.{scanned_written, writable}
-use Rattle.dict_scan.specs.Tables.{Both, Two}
-use Rattle.dict_scan.specs.Groups.{scanned_two, scanned_both}
-use Rattle.std.specs.Prelude.{Ok, Result}
-use Rattle.model.specs.declared.Error.{Error}
+use Rattle.scan_group.proofs.HandingOut.{scanned_damaged, scanned_short, scanned_written, writable}
+use Rattle.dict_scan.specs.Groups.{scanned_two}
 
 -- One live table: the bucket is the cursor's.
 
-pub one_handed_out : (entries list : List ℕ) (capacity used size cursor b head turned : ℕ) (a : AfterScan)
-    → legal_size size ≡ true → b ≡ bucket_of cursor size → ((c : ℕ) → size ≡ 2 ^ c → turned ≡ next size cursor)
-    → a ≡ scanned entries list turned (chain (in_bucket size b) entries capacity used head)
-    → a ≡ scanned entries list (one_table size cursor).answered (cursor_chain entries capacity used head size cursor)
-one_handed_out entries list capacity used size cursor b head turned a g i t e =
-    rw (i, one_answered size cursor turned g t) at e
+pub one_handed_out : (e : Entries) (t : LiveTable) (list : List ℕ) (cursor b turned : ℕ) (a : AfterScan)
+    → (b ≡ bucket_of cursor t.size) × (b < t.size) → ((c : ℕ) → t.size ≡ 2 ^ c → turned ≡ next t.size cursor)
+    → a ≡ scanned e.fields.now list turned (table_chain e t b)
+    → a ≡ scanned e.fields.now list (one_table t.size cursor).answered (table_chain e t (bucket_of cursor t.size))
+one_handed_out e t list cursor b turned a i n h = rw (i.0, one_answered t.size cursor turned t.legal n) at h
 
 -- Two live tables.
 
-module _ (entries larger list : List ℕ) (capacity small_used large_used small large cursor head : ℕ) where
-  -- the entries of the group as they are read, and as they are written
-  abbrev pub read : Option (List ℕ)
-  read = group_chains entries larger capacity small_used large_used head small large cursor
-
-  abbrev pub walked : Option (List ℕ)
-  walked = joined (linked entries head) (all_linked entries larger (buckets_from small large cursor))
-
-  module _ (limit n : ℕ) (r : Result ℕ Error) (s : r ≡ Ok n) (l : r ≡ length_of (at_most limit read))
-      (g : Both larger entries capacity small_used large_used small large) (h : n * 2 ≤ length list) where
-    same_group : walked ≡ at_most limit read
-    unfolding group_chains
-    same_group =
-        let bs = buckets_from small large cursor in
-        let (same, sound) = at_most_sound limit read _ (counted r n _ s l).0 in
-        let p =
-        joined_parts (cursor_chain entries capacity small_used head small cursor)
-        (chains (in_bucket large) entries capacity large_used larger bs) sound in
-        let fit = g.larger_reads.entries_fit in
-        rw (same, linked_same entries capacity small_used fit (omega arith) _ head p.left, all_linked_same entries capacity large_used fit (omega arith) _ larger bs p.right)
-
-    pub two_writable : Writable list 0 walked
-    two_writable = writable entries list 0 _ r l n s _ same_group h
-
-  pub two_written : (n : ℕ) (r : Result ℕ Error) (turned : ℕ) (list' : List ℕ)
-      → Both larger entries capacity small_used large_used small large
-      → r ≡ length_of (at_most (small_used + large_used) read) → r ≡ Ok n → n * 2 ≤ length list
-      → ((c : ℕ) → small ≡ 2 ^ c → turned ≡ next small cursor)
-      → list' ≡ written entries list 0 (listed walked)
-      → AfterScan.after (Ok (turned, n)) list'
-      ≡ scanned_two entries list capacity head larger small_used large_used small large cursor
+module _ (g : Group) (list : List ℕ) (r : Result ℕ Error)
+    (l : r ≡ length_of (at_most (g.small.used + g.large.used) (group_chains g))) where
+  pub two_damaged : (a : Result (ℕ × ℕ) ScanError) (x : Error) → IsErrAnd a (λ refusal. refusal ≡ ScanError.Refused x)
+      → r ≡ Err x → AfterScan.after a list ≡ scanned_two g list
   unfolding scanned_two
-  two_written n r turned list' g l s h t w =
-      rw (two_answered larger small large cursor turned g.larger_reads.sizes t)
-      (scanned_written entries list _ _ r l n s list' _ (same_group (small_used + large_used) n r s l g h) h w)
+  two_damaged a x gives u = scanned_damaged g.entries.fields.now list _ _ r l a x gives u
 
--- The smaller one first.
+  module _ (n : ℕ) (s : r ≡ Ok n) where
+    pub two_short : length list < n * 2 → AfterScan.after (Err (ScanError.Short n)) list ≡ scanned_two g list
+    unfolding scanned_two
+    two_short h = scanned_short g.entries.fields.now list _ _ r l n s h
 
-turned : (current other entries : List ℕ) (capacity old_used new_used old new : ℕ)
-    → Two current other entries capacity old_used new_used old new → Two other current entries capacity new_used old_used new old
-turned current other entries capacity old_used new_used old new g =
-    record {
-      old_in = g.new_in;
-      new_in = g.old_in;
-      sizes_differ = λ e. g.sizes_differ (sym e);
-      entries_fit = g.entries_fit;
-      keys_fit = omega arith;
-    }
+    module _ (h : n * 2 ≤ length list) where
+      -- the entries of the group are written as they were read
+      same_group : group_linked g ≡ at_most (g.small.used + g.large.used) (group_chains g)
+      unfolding group_chains
+      same_group =
+          let b = bucket_of g.cursor g.small.size in
+          let (same, sound) = at_most_sound (g.small.used + g.large.used) (group_chains g) _ (counted r n _ s l).0 in
+          let p = joined_parts (table_chain g.entries g.small b) (table_chains g.entries g.large (larger_buckets g)) sound in
+          let fit = g.entries.entries_fit in
+          let few = g.keys_fit in
+          rw (same, linked_same g.entries.fields.now g.entries.capacity g.small.used fit (omega arith) (in_bucket g.small.size b) (get_or g.small.buckets.now b 0) p.left, all_linked_same g.entries.fields.now g.entries.capacity g.large.used fit (omega arith) (in_bucket g.large.size) g.large.buckets.now (larger_buckets g) p.right)
 
-pub old_smaller_reads : (current other entries : List ℕ) (capacity old_used new_used old new : ℕ)
-    → Two current other entries capacity old_used new_used old new → old < new
-    → Both other entries capacity old_used new_used old new
-old_smaller_reads current other entries capacity old_used new_used old new g l =
-    record {
-      larger_reads =
-          record {
-            sizes = record { small_legal = g.old_in.legal; large_in = g.new_in; smaller = l };
-            entries_fit = g.entries_fit;
-          };
-      keys_fit = g.keys_fit;
-    }
+      pub two_writable : Writable list (group_linked g)
+      two_writable = writable g.entries.fields.now list 0 _ r l n s _ same_group h
 
-pub new_smaller_reads : (current other entries : List ℕ) (capacity old_used new_used old new : ℕ)
-    → Two current other entries capacity old_used new_used old new → new ≤ old
-    → Both current entries capacity new_used old_used new old
-new_smaller_reads current other entries capacity old_used new_used old new g l =
-    old_smaller_reads other current entries capacity new_used old_used new old
-    (turned current other entries capacity old_used new_used old new g) (omega (arith, g.sizes_differ))
-
-module _ (entries list : List ℕ) (capacity : ℕ) (current other : List ℕ) (old_used new_used old new cursor head : ℕ) (a : AfterScan) where
-  pub old_smaller : old < new → head ≡ get_or current (bucket_of cursor old) 0
-      → a ≡ scanned_two entries list capacity head other old_used new_used old new cursor
-      → a ≡ scanned_both entries list capacity current other old_used new_used old new cursor
-  unfolding scanned_both
-  old_smaller l i e = rw (lt-ltb old new l, ← i) e
-
-  pub new_smaller : new ≤ old → head ≡ get_or other (bucket_of cursor new) 0
-      → a ≡ scanned_two entries list capacity head current new_used old_used new old cursor
-      → a ≡ scanned_both entries list capacity current other old_used new_used old new cursor
-  unfolding scanned_both
-  new_smaller l i e = rw (le-ltb old new l, ← i) e
+      pub two_written : (turned : ℕ) (list' : List ℕ) → ((c : ℕ) → g.small.size ≡ 2 ^ c → turned ≡ next g.small.size g.cursor)
+          → list' ≡ written g.entries.fields.now list (group_linked g)
+          → AfterScan.after (Ok (turned, n)) list' ≡ scanned_two g list
+      unfolding scanned_two
+      two_written turned list' t w =
+          rw (two_answered g.small.size g.large.size g.cursor turned (sizes_of g) t)
+          (scanned_written g.entries.fields.now list _ _ r l n s list' _ same_group h w)

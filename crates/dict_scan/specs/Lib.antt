@@ -1,3 +1,2 @@
--- What the functions below the walk call ask of the state and the tables, and what they do with two live tables.
-pub mod Tables
+-- What a walk call does with two live tables.
 pub mod Groups

@@ -1,171 +1,189 @@
--- What is handed out: of the last live table, from the search in it; and from the live tables to the call.
+-- What is handed out: the search in the live tables is that of the definitions, over the places of both.
 -- Assumes nothing.
-use Prim.Native.Nat.{ℕ, ◌+◌, ◌-◌, ◌≤◌, ◌<◌}
+use Prim.Native.Nat.{ℕ, ◌+◌, ◌-◌, ◌<◌}
 use mathlib.Core.Path.{◌≡◌, refl, sym, ap, ◌∙◌}
 use mathlib.Core.Bool.{Bool, true, false}
 use mathlib.Core.List.{List}
-use mathlib.Core.Option.{Option, none, some, map}
+use mathlib.Core.Option as maybe
 use native.Mathlib.Numerals.{add-one}
 use native.Mathlib.Omega.{arith}
-use lib.ListN.{length, get_or}
+use lib.ListN.{length}
+use lib.Pow.{pow_mono}
 use borrow.Author.Tests.{lt-ltb, le-ltb}
+use mir.Syntax.{w32}
+use mir.Val.{Fits}
+use Rattle.std.specs.Prelude.{Some, None, Ok}
 use Rattle.model.specs.declared.State.{State}
 use Rattle.model.specs.declared.Table.{Table}
-use Rattle.model.specs.declared.Error.{Error}
-use Rattle.model.specs.Memory.{size_of, used_of, buckets_of, Place, head_at, budget_at, belongs, chain_at, chain, in_bucket}
+use Rattle.model.specs.Limits.{legal_size, largest_exponent}
+use Rattle.model.specs.Memory.{size_of, buckets_of, Place, head_at, chain_at}
 use Rattle.model.specs.Walk.{Tables, tables_by, tables_of, AfterScan, scanned}
 use Rattle.model.specs.Iterators.{bucket_at, end_place, first_from, first_place, filled, handed, iterate}
+use Rattle.model.proofs.Power.{power_of}
 use Rattle.model.proofs.FirstPlace.{first_agree}
 use Rattle.memory.specs.Lent.{sound_lent}
-use Rattle.memory.proofs.Orientation.{read_first, read_second, reading_refused, reading_sound}
-use Rattle.iterator.specs.Tables.{filled_in, first_filled, below, handed_last}
+use Rattle.memory.proofs.Orientation.{reading_sound}
+use Rattle.scan_group.specs.declared.lent.LiveTable.{LiveTable}
+use Rattle.scan_group.specs.declared.lent.Lent.{Lent}
+use Rattle.scan_group.specs.Chains.{table_chain}
+use Rattle.scan_group.specs.Lent.{IsNew, Reads}
+use Rattle.scan_group.proofs.Places.{current_of, other_of, oriented_call, place_chain, old_lent, new_lent}
+use Rattle.iterator.specs.Tables.{filled_in, first_filled}
 use Rattle.iterator.proofs.Searching.{or_else, first_shifted, first_tables}
-use Rattle.std.specs.Prelude.{Ok, Err}
-use Rattle.model.specs.declared.ScanError.{ScanError}
 
--- what the search's number says
-found : (size b : ℕ) (o : Option ℕ) → b < size → below size b ≡ o → o ≡ some b
-unfolding below
-found size b o l e = sym (rw (lt-ltb b size l) at e)
+-- The places: those of the old table, or the only one, then those of the new one.
 
-not_found : (size b : ℕ) (o : Option ℕ) → size ≤ b → below size b ≡ o → o ≡ none
-unfolding below
-not_found size b o l e = sym (rw (le-ltb b size l) at e)
+bucket_at_old : (rehashing : Bool) (old new b : ℕ) → b < old → bucket_at (tables_by rehashing old new) b ≡ Place.bucket Table.Old b
+unfolding tables_by bucket_at
+bucket_at_old true old new b l = rw (lt-ltb b old l)
+bucket_at_old false old new b l = refl
 
--- Of the last live table.
+module _ (s : State) (current other entries list : List ℕ) (place : ℕ) where
+  wanted : AfterScan
+  wanted = handed s current other entries list (first_place (filled s current other) (tables_of s) place)
 
-module _ (entries list : List ℕ) (capacity used size : ℕ) (buckets : List ℕ) (base from b : ℕ)
-    (e : below size b ≡ first_filled buckets from size) where
-  pub last_found : (a : AfterScan) → b < size
-      → a ≡ scanned entries list (base + b + 1) (chain (in_bucket size b) entries capacity used (get_or buckets b 0))
-      → a ≡ handed_last entries list capacity used size buckets base (first_filled buckets from size)
-  unfolding handed_last
-  last_found a l h = rw (found size b _ l e) h
+  old_at : (b : ℕ) → b < s.old_size → bucket_at (tables_of s) b ≡ Place.bucket Table.Old b
+  unfolding tables_of
+  old_at b l = bucket_at_old s.rehashing s.old_size s.new_size b l
 
-  pub last_end : size ≤ b
-      → AfterScan.after (Ok ((base + size), 0)) list
-      ≡ handed_last entries list capacity used size buckets base (first_filled buckets from size)
-  unfolding handed_last
-  last_end l = rw (not_found size b _ l e)
+  in_old : first_from (filled s current other) place (s.old_size - place) ≡ first_filled current place s.old_size
+  unfolding first_filled first_place end_place filled filled_in head_at buckets_of
+  in_old =
+      first_agree (filled s current other) (filled_in current) (Tables.one s.old_size) place (λ b from l. rw (old_at b l))
 
--- From the place where the last table begins, to the end.
+  -- with one table
 
-module _ (s : State) (current other entries list : List ℕ) (t : Table) (base : ℕ)
-    (at : (b : ℕ) → bucket_at (tables_of s) (base + b) ≡ Place.bucket t b) (end : end_place (tables_of s) ≡ base + size_of s t) where
-  filled_last : (b : ℕ) → filled s current other (base + b) ≡ filled_in (buckets_of current other t) b
-  unfolding filled filled_in head_at
-  filled_last b = rw (at b)
-
-  handed_last_lem : (o : Option ℕ)
-      → handed_last entries list s.capacity (used_of s t) (size_of s t) (buckets_of current other t) base o
-      ≡ handed s current other entries list (map (λ b. base + b) o)
-  unfolding handed handed_last chain_at budget_at head_at belongs
-  handed_last_lem none = rw end
-  handed_last_lem (some b) = rw (at b, add-one)
-
-  last_table : (from : ℕ)
-      → handed_last entries list s.capacity (used_of s t) (size_of s t) (buckets_of current other t) base
-      (first_filled (buckets_of current other t) from (size_of s t))
-      ≡ handed s current other entries list (first_from (filled s current other) (base + from) (size_of s t - from))
-  unfolding first_filled first_place end_place
-  last_table from =
-      handed_last_lem _
-      ∙ ap (handed s current other entries list) (sym (first_shifted _ _ base from _ filled_last))
-
--- With one live table it is the last, with two the new one is, once the old one has no filled bucket left.
-
-module _ (s : State) (current other entries list : List ℕ) (place : ℕ) (a : AfterScan) where
   module _ (e : s.rehashing ≡ false) where
     one_table : tables_of s ≡ Tables.one s.old_size
     unfolding tables_of tables_by
     one_table = ap (λ (t : Bool). tables_by t s.old_size s.new_size) e
 
-    only_at : (b : ℕ) → bucket_at (tables_of s) (0 + b) ≡ Place.bucket Table.Old b
-    unfolding bucket_at
-    only_at b = rw one_table (ap (Place.bucket Table.Old) (omega arith))
+    in_one : first_place (filled s current other) (tables_of s) place ≡ first_filled current place s.old_size
+    unfolding first_place end_place
+    in_one = ap (λ t. first_from (filled s current other) place (end_place t - place)) one_table ∙ in_old
 
-    only_end : end_place (tables_of s) ≡ s.old_size
-    unfolding end_place
-    only_end = rw one_table
+    only_end : first_filled current place s.old_size ≡ maybe.none → AfterScan.after (Ok (s.old_size, 0)) list ≡ wanted
+    unfolding wanted handed end_place
+    only_end n = rw (in_one, n, one_table)
 
-    pub resting_handed : a
-        ≡ handed_last entries list s.capacity s.old_used s.old_size current 0
-        (first_filled current place s.old_size)
-        → a ≡ handed s current other entries list (first_place (filled s current other) (tables_of s) place)
-    unfolding first_place size_of used_of buckets_of
-    resting_handed h =
-        h
-        ∙ last_table s current other entries list Table.Old 0 only_at (omega (arith, only_end)) place
-        ∙ ap (handed s current other entries list)
-        (rw only_end (ap (λ n. first_from (filled s current other) n (s.old_size - place)) (omega arith)))
+  -- .. and with two
 
   module _ (e : s.rehashing ≡ true) where
     two_tables_lem : tables_of s ≡ Tables.two s.old_size s.new_size
     unfolding tables_of tables_by
     two_tables_lem = ap (λ (t : Bool). tables_by t s.old_size s.new_size) e
 
-    old_at : (b : ℕ) → b < s.old_size → bucket_at (tables_of s) b ≡ Place.bucket Table.Old b
-    unfolding bucket_at
-    old_at b l = rw (two_tables_lem, lt-ltb b s.old_size l)
-
     new_at : (b : ℕ) → bucket_at (tables_of s) (s.old_size + b) ≡ Place.bucket Table.New b
     unfolding bucket_at
     new_at b =
         rw (two_tables_lem, le-ltb (s.old_size + b) s.old_size (omega arith)) (ap (Place.bucket Table.New) (omega arith))
 
-    both_end : end_place (tables_of s) ≡ s.old_size + s.new_size
-    unfolding end_place
-    both_end = rw two_tables_lem
-
-    -- the places of the old table, then those of the new one
-    in_old : first_from (filled s current other) place (s.old_size - place) ≡ first_filled current place s.old_size
-    unfolding first_filled first_place end_place filled filled_in head_at buckets_of
-    in_old =
-        first_agree (filled s current other) (filled_in current) (Tables.one s.old_size) place (λ b from l. rw (old_at b l))
+    filled_new : (b : ℕ) → filled s current other (s.old_size + b) ≡ filled_in other b
+    unfolding filled filled_in head_at buckets_of
+    filled_new b = rw (new_at b)
 
     in_both : first_place (filled s current other) (tables_of s) place
         ≡ or_else (first_filled current place s.old_size)
-        (first_from (filled s current other) (s.old_size + (place - s.old_size)) (s.new_size - (place - s.old_size)))
-    unfolding first_place
-    in_both = rw (both_end, ← in_old) (first_tables (filled s current other) place s.old_size s.new_size)
+        (maybe.map (λ b. s.old_size + b) (first_filled other (place - s.old_size) s.new_size))
+    unfolding first_place end_place first_filled
+    in_both =
+        ap (λ t. first_from (filled s current other) place (end_place t - place)) two_tables_lem
+        ∙ first_tables (filled s current other) place s.old_size s.new_size
+        ∙ ap (λ o. or_else o (first_from (filled s current other) (s.old_size + (place - s.old_size)) (s.new_size - (place - s.old_size)))) in_old
+        ∙ ap (or_else (first_filled current place s.old_size)) (first_shifted _ _ s.old_size _ _ filled_new)
 
-    module _ (b : ℕ) (search : below s.old_size b ≡ first_filled current place s.old_size) where
-      pub old_handed : b < s.old_size
-          → a
-          ≡ scanned entries list (b + 1)
-          (chain (in_bucket s.old_size b) entries s.capacity s.old_used (get_or current b 0))
-          → a ≡ handed s current other entries list (first_place (filled s current other) (tables_of s) place)
-      unfolding handed or_else chain_at budget_at head_at belongs size_of used_of buckets_of
-      old_handed l h = rw (in_both, found s.old_size b _ l search, old_at b l) (rw add-one at h)
+    module _ (n : first_filled current place s.old_size ≡ maybe.none) where
+      new_found : (b : ℕ) → first_filled other (place - s.old_size) s.new_size ≡ maybe.some b
+          → scanned entries list (s.old_size + b + 1) (chain_at s current other entries (Place.bucket Table.New b)) ≡ wanted
+      unfolding wanted handed or_else
+      new_found b f = rw (in_both, n, f, new_at b, add-one)
 
-      pub new_handed : s.old_size ≤ b
-          → (from : ℕ) → from ≡ place - s.old_size
-          → a
-          ≡ handed_last entries list s.capacity s.new_used s.new_size other s.old_size
-          (first_filled other from s.new_size)
-          → a ≡ handed s current other entries list (first_place (filled s current other) (tables_of s) place)
-      unfolding or_else size_of used_of buckets_of
-      new_handed l from f h =
-          rw (in_both, not_found s.old_size b _ l search, ← f)
-          (h ∙ last_table s current other entries list Table.New s.old_size new_at both_end from)
+      both_end : first_filled other (place - s.old_size) s.new_size ≡ maybe.none
+          → AfterScan.after (Ok (s.old_size + s.new_size, 0)) list ≡ wanted
+      unfolding wanted handed or_else end_place
+      both_end f = rw (in_both, n, f, two_tables_lem)
+
+  old_found : (b : ℕ) → b < s.old_size → first_filled current place s.old_size ≡ maybe.some b
+      → scanned entries list (b + 1) (chain_at s current other entries (Place.bucket Table.Old b)) ≡ wanted
+  unfolding wanted handed or_else
+  old_found b l f = pick s.rehashing refl
+    where
+      pick : (rehashing : Bool) → s.rehashing ≡ rehashing
+          → scanned entries list (b + 1) (chain_at s current other entries (Place.bucket Table.Old b)) ≡ wanted
+      pick true e = rw (in_both e, f, old_at b l, add-one)
+      pick false e = rw (in_one e, f, old_at b l, add-one)
+
+-- two tables have few enough places
+pub places_fit : (t u : LiveTable) → Fits w32 (t.size + u.size)
+unfolding legal_size largest_exponent
+places_fit t u =
+    let p = power_of largest_exponent t.size t.legal in
+    let q = power_of largest_exponent u.size u.legal in
+    omega (arith, pow_mono p.1, pow_mono q.1)
 
 -- The call on the lent buffers.
 
-module _ (s : State) (first second entries list : List ℕ) (place : ℕ) where
-  pub iterate_bad_state : (t : Bool) → t ≡ sound_lent (length first) (length second) (length entries) s → t ≡ false
-      → AfterScan.after (Err (ScanError.Refused Error.BadState)) list ≡ iterate s first second entries list place
-  unfolding iterate
-  iterate_bad_state t e h = reading_refused s first second entries t e _ _ h
+module _ (s : State) (first second entries list : List ℕ) (place : ℕ)
+    (h : sound_lent (length first) (length second) (length entries) s ≡ true) (l : Lent) (k : Reads s first second entries l)
+    (a : AfterScan) where
+  answered : a ≡ wanted s (current_of s first second) (other_of s first second) entries list place
+      → a ≡ iterate s first second entries list place
+  unfolding iterate wanted
+  answered e = e ∙ reading_sound s first second entries true (sym h) _ _ _ refl (oriented_call s _ first second)
 
-  module _ (h : sound_lent (length first) (length second) (length entries) s ≡ true) (a : AfterScan) where
-    pub iterate_first : s.second_is_current ≡ false
-        → a ≡ handed s first second entries list (first_place (filled s first second) (tables_of s) place)
-        → a ≡ iterate s first second entries list place
-    unfolding iterate
-    iterate_first f e = reading_sound s first second entries true (sym h) _ _ a refl (read_first _ _ first second a f e)
+  -- out of the old table
+  pub from_old : (b : ℕ)
+      → (first_filled l.old.buckets.now place l.old.size ≡ maybe.some b) × (b < l.old.size)
+      → a ≡ scanned l.entries.fields.now list (b + 1) (table_chain l.entries l.old b) → a ≡ iterate s first second entries list place
+  unfolding size_of buckets_of
+  from_old b f e =
+      let i = old_lent s first second entries l k in
+      let found : first_filled (current_of s first second) place s.old_size ≡ maybe.some b =
+      rw (i.table_is.buckets_are, i.table_is.size_is) at f.0 in
+      let inside : b < s.old_size = rw i.table_is.size_is at f.1 in
+      answered
+      (e
+      ∙ rw (place_chain s _ _ entries Table.Old l.entries l.old i b, i.fields_are)
+      (old_found s (current_of s first second) (other_of s first second) entries list place b inside found))
 
-    pub iterate_second : s.second_is_current ≡ true
-        → a ≡ handed s second first entries list (first_place (filled s second first) (tables_of s) place)
-        → a ≡ iterate s first second entries list place
-    unfolding iterate
-    iterate_second f e = reading_sound s first second entries true (sym h) _ _ a refl (read_second _ _ first second a f e)
+  module _ (n : first_filled l.old.buckets.now place l.old.size ≡ maybe.none) where
+    none_in_old : first_filled (current_of s first second) place s.old_size ≡ maybe.none
+    unfolding size_of buckets_of
+    none_in_old =
+        let i = old_lent s first second entries l k in
+        rw (i.table_is.buckets_are, i.table_is.size_is) at n
+
+    pub end_of_one : l.new ≡ None → a ≡ AfterScan.after (Ok (l.old.size, 0)) list → a ≡ iterate s first second entries list place
+    end_of_one o e =
+        answered
+        (e
+        ∙ rw k.old_is.size_is
+        (only_end s (current_of s first second) (other_of s first second) entries list place (rw o at k.new_is) none_in_old))
+
+    module _ (t : LiveTable) (o : l.new ≡ Some t) (from : ℕ) (m : from ≡ place - l.old.size) where
+      new : IsNew s (other_of s first second) t
+      new = rw o at k.new_is
+
+      from_is : from ≡ place - s.old_size
+      from_is = rw k.old_is.size_is at m
+
+      -- out of the new one
+      pub from_new : (b : ℕ) → (first_filled t.buckets.now from t.size ≡ maybe.some b) × (b < t.size)
+          → a ≡ scanned l.entries.fields.now list (l.old.size + b + 1) (table_chain l.entries t b)
+          → a ≡ iterate s first second entries list place
+      from_new b f e =
+          let i = new_lent s first second entries l k t o in
+          answered
+          (e
+          ∙ rw (place_chain s _ _ entries Table.New l.entries t i b, i.fields_are, k.old_is.size_is)
+          (new_found s (current_of s first second) (other_of s first second) entries list place new.rehashing none_in_old b
+          (rw (new.is_table.buckets_are, new.is_table.size_is, from_is) at f.0)))
+
+      pub end_of_both : first_filled t.buckets.now from t.size ≡ maybe.none
+          → a ≡ AfterScan.after (Ok (l.old.size + t.size, 0)) list → a ≡ iterate s first second entries list place
+      end_of_both f e =
+          answered
+          (e
+          ∙ rw (k.old_is.size_is, new.is_table.size_is)
+          (both_end s (current_of s first second) (other_of s first second) entries list place new.rehashing none_in_old
+          (rw (new.is_table.buckets_are, new.is_table.size_is, from_is) at f)))

@@ -10,9 +10,9 @@ use native.Mathlib.Nat.{zero-add, add-zero, suc-add}
 use native.Mathlib.Numerals.{add-one}
 use native.Mathlib.Omega.{arith}
 use lib.ListN.{get_or}
-use borrow.Author.Tests.{eq-eqb, ne_eqb, lt-ltb, le-ltb}
+use borrow.Author.Tests.{eq-eqb, ne_eqb}
 use Rattle.model.specs.Iterators.{end_place, first_from, first_place}
-use Rattle.iterator.specs.Tables.{filled_in, first_filled, below}
+use Rattle.iterator.specs.Tables.{filled_in, first_filled}
 
 -- the second where the first is none
 unfoldable pub or_else : Option ℕ → Option ℕ → Option ℕ
@@ -67,28 +67,24 @@ module _ (buckets : List ℕ) (from size : ℕ) where
   abbrev pub Searching : ℕ → Type 0
   Searching b = first_filled buckets b size ≡ first_filled buckets from size
 
-  pub searching_start : Searching from
-  searching_start = refl
-
   module _ (b : ℕ) (h : Searching b) where
     here : (left : ℕ) → size - b ≡ left → first_from (filled_in buckets) b left ≡ first_filled buckets from size
     unfolding first_filled first_place end_place
     here left e = ap (first_from (filled_in buckets) b) (sym e) ∙ h
 
-    pub searching_end : size ≤ b → below size b ≡ first_filled buckets from size
-    unfolding first_from below
-    searching_end l = rw (le-ltb b size l) (here 0 (omega arith))
+    pub searching_end : size ≤ b → first_filled buckets from size ≡ none
+    unfolding first_from
+    searching_end l = sym (here 0 (omega arith))
 
-    module _ (l : b < size) where
+    module _ (l : b < size) (head : ℕ) (i : head ≡ get_or buckets b 0) where
       next : suc (size - (b + 1)) ≡ size - b
       next = omega arith
 
-      pub searching_found : (get_or buckets b 0 ≡ 0 → ⊥) → below size b ≡ first_filled buckets from size
-      unfolding first_from below filled_in
-      searching_found f =
-          rw (lt-ltb b size l) (rw (ne_eqb (get_or buckets b 0) 0 f) at (here (suc (size - (b + 1))) (sym next)))
+      pub searching_found : (head ≡ 0 → ⊥) → first_filled buckets from size ≡ some b
+      unfolding first_from filled_in
+      searching_found f = sym (rw (← i, ne_eqb head 0 f) at (here (suc (size - (b + 1))) (sym next)))
 
-      pub searching_next : get_or buckets b 0 ≡ 0 → Searching (b + 1)
+      pub searching_next : head ≡ 0 → Searching (b + 1)
       unfolding first_filled first_place end_place first_from filled_in
       searching_next e =
-          rw (add-one b) (rw (eq-eqb (get_or buckets b 0) 0 e, add-one b) at (here (suc (size - (b + 1))) (sym next)))
+          rw (add-one b) (rw (← i, eq-eqb head 0 e, add-one b) at (here (suc (size - (b + 1))) (sym next)))

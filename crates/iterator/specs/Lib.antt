@@ -1,2 +1,2 @@
--- What the functions below the calls ask of a table, look for in it and hand out of it.
+-- What the pass call looks for in a table.
 pub mod Tables

@@ -3,29 +3,31 @@
 -- Assumes nothing.
 use Prim.Native.Nat.{ℕ, suc, ◌/◌, ◌%◌, ◌^◌, ◌≤◌, ◌<◌}
 use mathlib.Core.Path.{◌≡◌, refl, sym, ap, ◌∙◌}
-use mathlib.Core.Bool.{Bool, true, false, cond}
-use mathlib.Core.List.{List, [], ◌∷◌}
+use mathlib.Core.Bool.{Bool, true, false}
+use mathlib.Core.List.{List, ◌∷◌}
 use native.Mathlib.Nat.{mod-eq_of_lt}
 use native.Mathlib.Omega.{arith}
-use lib.Dec.{ltb}
-use lib.ListN.{length}
-use borrow.Author.Tests.{lt-ltb, le-ltb}
+use lib.Dec.{ltb, leb}
+use borrow.Author.Tests.{lt-ltb, le-ltb, leb-true, leb-false}
 use Rattle.cursor.specs.Next.{next}
 use Rattle.cursor.specs.Group.{between_zero, sweep, one_table, two_tables}
 use Rattle.cursor.proofs.NextCursor.{next_lt}
 use Rattle.cursor.proofs.Sweep.{sweep_stop, sweep_on}
-use Rattle.cursor.proofs.LargeBuckets.{sweep_unbounded, two_answers}
+use Rattle.cursor.specs.Member.{In}
+use Rattle.cursor.proofs.LargeBuckets.{sweep_unbounded, two_answers, two_large}
+use Rattle.model.specs.Keys.{bucket_of, hash}
 use Rattle.model.specs.Limits.{legal_size, largest_exponent}
 use Rattle.model.proofs.Power.{power_of, exponent_lt}
-use Rattle.scan_group.specs.Tables.{Sizes}
+use Rattle.scan_group.specs.Sweep.{buckets_left}
+use Rattle.std.specs.Prelude.{Some, Option}
+use Rattle.std.specs.Bool.{then_some}
+use Rattle.scan_group.specs.declared.sweep.Sweep.{Sweep}
+use Rattle.scan_group.specs.declared.lent.Group.{Group}
+use Rattle.scan_group.specs.Chains.{larger_buckets}
 
 -- the buckets from the cursor on
 abbrev pub buckets_from : ℕ → ℕ → ℕ → List ℕ
 buckets_from small large at = (two_tables small large at).large
-
--- those behind the first
-pub behind : ℕ → ℕ → ℕ → List ℕ
-behind small large at = cond (ltb (next large at) small) [] (buckets_from small large (next large at))
 
 -- two sizes as powers of two
 record Exponents (small large : ℕ) : Type 0 where
@@ -54,12 +56,18 @@ between small large at e =
     go : (c : ℕ) → c ≤ 32 → large ≡ 2 ^ c → next large at < large
     go c s q = rw q (next_lt c at s)
 
-module _ (larger : List ℕ) (small large : ℕ) (h : Sizes larger small large) where
+-- two legal sizes
+pub record Sizes (small large : ℕ) : Type 0 where
+  pub small_legal : legal_size small ≡ true
+  pub large_legal : legal_size large ≡ true
+  pub smaller : small < large
+
+module _ (small large : ℕ) (h : Sizes small large) where
   exponents : Exponents small large
   unfolding legal_size largest_exponent
   exponents =
       let p = power_of largest_exponent small h.small_legal in
-      let q = power_of largest_exponent large h.large_in.legal in
+      let q = power_of largest_exponent large h.large_legal in
       record {
         b = p.0;
         c = q.0;
@@ -70,36 +78,43 @@ module _ (larger : List ℕ) (small large : ℕ) (h : Sizes larger small large) 
       }
 
   module _ (at : ℕ) where
-    split_at : (t : Bool) → ltb (next large at) small ≡ t
-        → buckets_from small large at ≡ at % large ∷ cond t [] (buckets_from small large (next large at))
-    unfolding two_tables
-    split_at true e =
-        ap (λ s. s.buckets)
-        (one_more small large at exponents ∙ sweep_stop (large / small) small large at (between small large at exponents ∙ e))
+    -- the bucket of the cursor comes first, and the others unless the next cursor is below the smaller size
+    split_at : (more : Bool) → leb small (next large at) ≡ more
+        → buckets_from small large at ≡ at % large ∷ buckets_left small large (then_some more (next large at))
+    unfolding two_tables buckets_left
     split_at false e =
         ap (λ s. s.buckets)
-        (one_more small large at exponents ∙ sweep_on (large / small) small large at (between small large at exponents ∙ e))
-
-    -- the bucket of the cursor comes first
-    pub split : buckets_from small large at ≡ at % large ∷ behind small large at
-    unfolding behind
-    split = split_at (ltb (next large at) small) refl
+        (one_more small large at exponents ∙ sweep_stop (large / small) small large at (between small large at exponents ∙ lt-ltb _ _ (leb-false _ _ e)))
+    split_at true e =
+        ap (λ s. s.buckets)
+        (one_more small large at exponents ∙ sweep_on (large / small) small large at (between small large at exponents ∙ le-ltb _ _ (leb-true _ _ e)))
 
     module _ (turned : ℕ) (n : (c : ℕ) → large ≡ 2 ^ c → turned ≡ next large at) where
       turned_is : turned ≡ next large at
       turned_is = let e = exponents in n e.c e.large_is
 
-      pub behind_last : turned < small → behind small large at ≡ []
-      unfolding behind
-      behind_last l = rw (← turned_is, lt-ltb turned small l)
+      step : (b : ℕ) → b ≡ bucket_of at large
+          → buckets_left small large (Some at) ≡ b ∷ buckets_left small large (then_some (leb small turned) turned)
+      unfolding buckets_left bucket_of hash
+      step b i = rw (i, turned_is) (split_at (leb small (next large at)) refl)
 
-      pub behind_more : small ≤ turned → behind small large at ≡ buckets_from small large turned
-      unfolding behind
-      behind_more l = rw (← turned_is, le-ltb turned small l)
+pub sweep_step : (s : Sweep) (at turned b : ℕ) (rest : Option ℕ) → s.next ≡ Some at
+    → ((c : ℕ) → s.large ≡ 2 ^ c → turned ≡ next s.large at) → rest ≡ then_some (leb s.small turned) turned
+    → (b ≡ bucket_of at s.large) × (b < s.large)
+    → buckets_left s.small s.large s.next ≡ b ∷ buckets_left s.small s.large rest
+sweep_step s at turned b rest e n r i =
+    rw (e, r) (step s.small s.large (record { small_legal = s.small_legal; large_legal = s.large_legal; smaller = s.smaller }) at turned n b i.0)
 
-      -- one fewer are left
-      pub fewer : small ≤ turned → length (buckets_from small large turned) < length (buckets_from small large at)
-      fewer l = rw (split, behind_more l) (omega arith)
+-- the sizes of a group, and its larger table's buckets, all of them below its size
+pub sizes_of : (g : Group) → Sizes g.small.size g.large.size
+sizes_of g = record { small_legal = g.small.legal; large_legal = g.large.legal; smaller = g.smaller }
+
+pub larger_below : (g : Group) (x : ℕ) → In x (larger_buckets g) → x < g.large.size
+larger_below g x i = let e = exponents _ _ (sizes_of g) in go e.b e.c e.less e.short e.small_is e.large_is i
+  where
+    go : (b c : ℕ) → b < c → c ≤ 32 → g.small.size ≡ 2 ^ b → g.large.size ≡ 2 ^ c
+        → In x (two_tables g.small.size g.large.size g.cursor).large → x < g.large.size
+    go b c l s p q = rw (p, q) ((two_large b c g.cursor l s).below x)
 
 -- a call answers the next cursor, with two live tables that of the smaller size
 pub one_answered : (size cursor turned : ℕ) → legal_size size ≡ true → ((c : ℕ) → size ≡ 2 ^ c → turned ≡ next size cursor)
@@ -107,10 +122,10 @@ pub one_answered : (size cursor turned : ℕ) → legal_size size ≡ true → (
 unfolding legal_size one_table
 one_answered size cursor turned h t = let p = power_of largest_exponent size h in t p.0 p.2
 
-pub two_answered : (larger : List ℕ) (small large cursor turned : ℕ) → Sizes larger small large
+pub two_answered : (small large cursor turned : ℕ) → Sizes small large
     → ((c : ℕ) → small ≡ 2 ^ c → turned ≡ next small cursor) → turned ≡ (two_tables small large cursor).answered
-two_answered larger small large cursor turned h t =
-    let e = exponents larger small large h in
+two_answered small large cursor turned h t =
+    let e = exponents small large h in
     t e.b e.small_is ∙ sym (go e.b e.c e.less e.short e.small_is e.large_is)
   where
     go : (b c : ℕ) → b < c → c ≤ 32 → small ≡ 2 ^ b → large ≡ 2 ^ c → (two_tables small large cursor).answered ≡ next small cursor

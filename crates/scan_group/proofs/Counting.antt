@@ -1,26 +1,28 @@
--- Counting the entries of the larger table's buckets, one chain a turn, and those of both tables, up to a limit.
+-- Counting the entries of a group, one chain a turn, up to a limit.
 -- Assumes nothing.
-use Prim.Native.Nat.{ℕ, ◌+◌, ◌-◌, ◌^◌, ◌≤◌, ◌<◌, min}
+use Prim.Native.Nat.{ℕ, ◌+◌, ◌-◌, ◌≤◌, ◌<◌, min}
 use mathlib.Core.Path.{◌≡◌, refl, sym, ap, ◌∙◌}
-use mathlib.Core.Bool.{Bool}
-use mathlib.Core.List.{List, []}
+use mathlib.Core.List.{List, [], ◌∷◌}
 use mathlib.Core.Option.{Option, none, some}
 use native.Mathlib.Omega.{arith}
 use lib.ListN.{length, get_or, length-append}
-use mir.Syntax.{w32}
-use mir.Val.{Fits}
-use Rattle.cursor.specs.Next.{next}
-use Rattle.model.specs.Keys.{bucket_of, hash}
+use Rattle.std.proofs.Common.{inl, inr}
+use Rattle.std.specs.Prelude.{Result, Ok, Err}
+use Rattle.std.specs.Result.{IsErrAnd}
+use Rattle.std.proofs.lemmas.Result.{err_from_is_err_and}
+use Rattle.cursor.specs.Member.{In}
+use Rattle.model.specs.declared.Error.{Error}
+use Rattle.model.specs.Keys.{bucket_of}
 use Rattle.model.specs.Memory.{chain, in_bucket, listed}
 use Rattle.model.specs.Walk.{joined, at_most}
 use Rattle.model.proofs.AtMost.{at_most_few, at_most_some, at_most_joined, chain_at_most}
-use Rattle.memory.specs.Length.{bucket_chain, length_of}
+use Rattle.memory.specs.Length.{length_of}
 use Rattle.memory.proofs.Counted.{counted, uncounted}
-use Rattle.scan_group.specs.Chains.{cursor_chain, chains}
-use Rattle.scan_group.specs.Tables.{Larger}
-use Rattle.scan_group.proofs.Buckets.{buckets_from, behind, split, behind_last, behind_more}
-use Rattle.std.specs.Prelude.{Result, Ok, Err}
-use Rattle.model.specs.declared.Error.{Error}
+use Rattle.scan_group.specs.declared.lent.Entries.{Entries}
+use Rattle.scan_group.specs.declared.lent.LiveTable.{LiveTable}
+use Rattle.scan_group.specs.declared.lent.Group.{Group}
+use Rattle.scan_group.specs.Chains.{chains, table_chain, table_chains, larger_buckets, group_chains}
+use Rattle.scan_group.proofs.Buckets.{larger_below}
 
 -- The lengths of two parts give that of the whole.
 
@@ -35,21 +37,18 @@ joined_length none b = refl
 joined_length (some ns) none = refl
 joined_length (some ns) (some ms) = ap Ok (length-append ns ms)
 
-plus_nothing : (q : Result ℕ Error) → plus (Ok 0) q ≡ q
-unfolding plus
-plus_nothing (Err e) = refl
-plus_nothing (Ok m) = ap Ok (omega arith)
-
 plus_more : (n m : ℕ) (q : Result ℕ Error)
     → plus (Ok (n + m)) q ≡ plus (Ok n) (plus (Ok m) q)
 unfolding plus
 plus_more n m (Err e) = refl
 plus_more n m (Ok k) = ap Ok (omega arith)
 
--- A chain is read no further than what is left of the limit.
-limited : (test : ℕ → Bool) (entries : List ℕ) (capacity used left head budget : ℕ) (r : Result ℕ Error) → budget ≡ min used left
-    → r ≡ length_of (chain test entries capacity budget head) → r ≡ length_of (at_most left (chain test entries capacity used head))
-limited test entries capacity used left head budget r b l = rw (l, b, chain_at_most test entries capacity used left head)
+-- a chain is read no further than what is left of the limit
+pub limited : (e : Entries) (t : LiveTable) (b left head budget : ℕ) (r : Result ℕ Error) → head ≡ get_or t.buckets.now b 0
+    → budget ≡ min t.used left → r ≡ length_of (chain (in_bucket t.size b) e.fields.now e.capacity budget head)
+    → r ≡ length_of (at_most left (table_chain e t b))
+limited e t b left head budget r i m l =
+    rw (l, m, i, chain_at_most (in_bucket t.size b) e.fields.now e.capacity t.used left (get_or t.buckets.now b 0))
 
 -- A part of some entries is counted first, and what it leaves of the limit is that of the others.
 
@@ -76,110 +75,80 @@ module _ (limit : ℕ) (a : Option (List ℕ)) (r : Result ℕ Error) (f : r ≡
     part_on n s =
         ap (λ k. plus (Ok n) (length_of (at_most (limit - k) b))) (sym (part_is n s).0) ∙ (rw s at both)
 
--- the entries counted, and those of the buckets from here on, are those of all the buckets
-pub record Counting (entries larger : List ℕ) (capacity used limit small large cursor at left : ℕ) : Type 0 where
+-- The entries counted, and those of the buckets that are left, are those of the whole group.
+pub record Counting (g : Group) (limit left : ℕ) (bs : List ℕ) : Type 0 where
   pub fits : left ≤ limit
-  pub same : plus (Ok (limit - left)) (length_of (at_most left (chains (in_bucket large) entries capacity used larger (buckets_from small large at))))
-      ≡ length_of (at_most limit (chains (in_bucket large) entries capacity used larger (buckets_from small large cursor)))
+  pub below : (x : ℕ) → In x bs → x < g.large.size
+  pub same : plus (Ok (limit - left)) (length_of (at_most left (table_chains g.entries g.large bs)))
+      ≡ length_of (at_most limit (group_chains g))
 
-module _ (entries larger : List ℕ) (capacity used limit small large : ℕ) (g : Larger larger entries capacity small large)
-    (cursor : ℕ) where
-  counted_all : Result ℕ Error
-  counted_all = length_of (at_most limit (chains (in_bucket large) entries capacity used larger (buckets_from small large cursor)))
+-- what `?` answers
+handed_on : (r : Result ℕ Error) (x : Error) (whole : Result ℕ Error) → IsErrAnd r (λ e. e ≡ x) → x ≡ Error.Damaged
+    → Err Error.Damaged ≡ whole → r ≡ whole
+handed_on r x whole gives d e = let p = err_from_is_err_and r gives in rw (p.1, p.2, d) e
 
-  pub counting_start : Counting entries larger capacity used limit small large cursor cursor limit
-  counting_start =
-      let nothing : limit - limit ≡ 0 = omega arith in
-      record { fits = omega arith; same = rw nothing (plus_nothing _) }
+module _ (g : Group) (limit b : ℕ) (r : Result ℕ Error) (l : r ≡ length_of (at_most limit (table_chain g.entries g.small b)))
+    (i : (b ≡ bucket_of g.cursor g.small.size) × (b < g.small.size)) where
+  -- the smaller table's chain
+  whole : (q : Result ℕ Error) → q ≡ length_of (at_most limit (joined (table_chain g.entries g.small b) (table_chains g.entries g.large (larger_buckets g))))
+      → q ≡ length_of (at_most limit (group_chains g))
+  unfolding group_chains
+  whole q e = rw i.0 at e
 
-  module _ (at left b budget : ℕ) (h : Counting entries larger capacity used limit small large cursor at left)
-      (i : b ≡ bucket_of at large) (r : Result ℕ Error) (few : budget ≡ min used left)
-      (l : r ≡ length_of (bucket_chain large entries capacity budget larger b)) where
-    -- this chain, ..
-    chain_here : Option (List ℕ)
-    chain_here = bucket_chain large entries capacity used larger b
+  pub first_out : (a : Result ℕ Error) (x : Error) → IsErrAnd a (λ e. e ≡ x) → r ≡ Err x
+      → a ≡ length_of (at_most limit (group_chains g))
+  first_out a x gives u =
+      handed_on a x _ gives (uncounted r x _ u l).1 (whole _ (part_out limit _ r l (table_chains g.entries g.large (larger_buckets g)) x u))
 
-    -- .. and those behind it
-    chains_behind : Option (List ℕ)
-    chains_behind = chains (in_bucket large) entries capacity used larger (behind small large at)
-
-    -- this one, within what is left of the limit
-    this : r ≡ length_of (at_most left chain_here)
-    unfolding chain_here
-    this = limited (in_bucket large b) entries capacity used left (get_or larger b 0) budget r few l
-
-    here : plus (Ok (limit - left)) (length_of (at_most left (joined chain_here chains_behind)))
-        ≡ counted_all
-    unfolding counted_all chain_here chains_behind chains bucket_of hash
-    here = rw i (rw (split larger small large g.sizes at) at h.same)
-
-    pub counting_out : (x : Error) → r ≡ Err x
-        → Err Error.Damaged ≡ length_of (at_most limit (chains (in_bucket large) entries capacity used larger (buckets_from small large cursor)))
-    unfolding plus counted_all
-    counting_out x u = rw (← part_out left chain_here r this chains_behind x u) at here
-
-    module _ (n : ℕ) (s : r ≡ Ok n) where
-      pub counting_fits : n ≤ left
-      counting_fits = (part_is left chain_here r this n s).1
-
-      pub counting_within : left - n ≤ limit
-      counting_within = omega (arith, h.fits)
-
-      on : plus (Ok (limit - (left - n))) (length_of (at_most (left - n) chains_behind)) ≡ counted_all
-      on =
-          let n_fits = counting_fits in
-          let left_fits = h.fits in
-          let more : limit - (left - n) ≡ limit - left + n = omega arith in
-          rw more
-          (plus_more (limit - left) n _
-          ∙ (rw (← part_on left chain_here r this chains_behind n s) at here))
-
-      module _ (turned : ℕ) (t : (c : ℕ) → large ≡ 2 ^ c → turned ≡ next large at) where
-        pub counting_end : turned < small
-            → Ok (limit - (left - n))
-            ≡ length_of (at_most limit (chains (in_bucket large) entries capacity used larger (buckets_from small large cursor)))
-        unfolding counted_all chains_behind chains listed length_of plus
-        counting_end e =
-            let none_left = behind_last larger small large g.sizes at turned t e in
-            ap Ok (omega arith) ∙ (rw (none_left, at_most_few (left - n) (some []) (omega arith)) at on)
-
-        pub counting_next : small ≤ turned → Counting entries larger capacity used limit small large cursor turned (left - n)
-        unfolding counted_all chains_behind
-        counting_next e =
-            record { fits = counting_within; same = rw (behind_more larger small large g.sizes at turned t e) at on }
-
--- The smaller table's chain, and the larger one's.
-
-module _ (entries : List ℕ) (capacity used limit head budget small cursor b : ℕ) (i : b ≡ bucket_of cursor small)
-    (first : Result ℕ Error) (few : budget ≡ min used limit)
-    (f : first ≡ length_of (chain (in_bucket small b) entries capacity budget head)) where
-  first_within : first ≡ length_of (at_most limit (cursor_chain entries capacity used head small cursor))
-  first_within = rw i at (limited (in_bucket small b) entries capacity used limit head budget first few f)
-
-  module _ (n : ℕ) (s : first ≡ Ok n) where
+  module _ (n : ℕ) (u : r ≡ Ok n) where
     pub first_fits : n ≤ limit
-    first_fits = (part_is limit (cursor_chain entries capacity used head small cursor) first first_within n s).1
+    first_fits = (part_is limit _ r l n u).1
 
-    -- no sum is above the limit
-    pub both_fit : (more : Option (List ℕ)) (rest : Result ℕ Error) (m : ℕ) → rest ≡ length_of (at_most (limit - n) more)
-        → rest ≡ Ok m → Fits w32 limit → Fits w32 (n + m)
-    both_fit more rest m t u fit = omega (arith, first_fits, (part_is (limit - n) more rest t m u).1)
+    pub counting_start : (bs : List ℕ) → bs ≡ larger_buckets g → Counting g limit (limit - n) bs
+    counting_start bs e =
+        let fits = first_fits in
+        let one : limit - (limit - n) ≡ n = omega arith in
+        record {
+          fits = omega arith;
+          below = rw e (larger_below g);
+          same = rw (one, e) (whole _ (part_on limit _ r l (table_chains g.entries g.large (larger_buckets g)) n u));
+        }
 
-  module _ (more : Option (List ℕ)) where
-    pub first_out : (x : Error) → first ≡ Err x
-        → Err Error.Damaged ≡ length_of (at_most limit (joined (cursor_chain entries capacity used head small cursor) more))
-    first_out x u = part_out limit (cursor_chain entries capacity used head small cursor) first first_within more x u
+module _ (g : Group) (limit left : ℕ) (bs rest : List ℕ) (h : Counting g limit left bs) where
+  pub counting_end : bs ≡ [] → Ok (limit - left) ≡ length_of (at_most limit (group_chains g))
+  unfolding chains length_of plus listed
+  counting_end e = ap Ok (omega arith) ∙ (rw (e, at_most_few left (some []) (omega arith)) at h.same)
 
-    module _ (n : ℕ) (s : first ≡ Ok n) (rest : Result ℕ Error) (t : rest ≡ length_of (at_most (limit - n) more)) where
-      whole : plus (Ok n) rest ≡ length_of (at_most limit (joined (cursor_chain entries capacity used head small cursor) more))
-      whole = ap (plus (Ok n)) t ∙ part_on limit (cursor_chain entries capacity used head small cursor) first first_within more n s
+  module _ (b : ℕ) (e : bs ≡ b ∷ rest) where
+    pub next_below : b < g.large.size
+    next_below = (rw e at h.below) b (inl refl)
 
-      pub rest_out : (x : Error) → rest ≡ Err x
-          → Err Error.Damaged ≡ length_of (at_most limit (joined (cursor_chain entries capacity used head small cursor) more))
+    module _ (r : Result ℕ Error) (l : r ≡ length_of (at_most left (table_chain g.entries g.large b))) where
+      here : plus (Ok (limit - left)) (length_of (at_most left (joined (table_chain g.entries g.large b) (table_chains g.entries g.large rest))))
+          ≡ length_of (at_most limit (group_chains g))
+      unfolding chains
+      here = rw e at h.same
+
+      pub counting_out : (a : Result ℕ Error) (x : Error) → IsErrAnd a (λ e. e ≡ x) → r ≡ Err x
+          → a ≡ length_of (at_most limit (group_chains g))
       unfolding plus
-      rest_out x u = ap Err (sym (uncounted rest x (at_most (limit - n) more) u t).1) ∙ (rw u at whole)
+      counting_out a x gives u =
+          handed_on a x _ gives (uncounted r x _ u l).1 (rw (← part_out left _ r l (table_chains g.entries g.large rest) x u) at here)
 
-      pub both_counted : (m : ℕ) → rest ≡ Ok m
-          → Ok (n + m) ≡ length_of (at_most limit (joined (cursor_chain entries capacity used head small cursor) more))
-      unfolding plus
-      both_counted m u = rw u at whole
+      module _ (n : ℕ) (u : r ≡ Ok n) where
+        pub counting_fits : n ≤ left
+        counting_fits = (part_is left _ r l n u).1
+
+        pub counting_next : Counting g limit (left - n) rest
+        counting_next =
+            let n_fits = counting_fits in
+            let left_fits = h.fits in
+            let more : limit - (left - n) ≡ limit - left + n = omega arith in
+            record {
+              fits = omega arith;
+              below = λ x i. (rw e at h.below) x (inr i);
+              same =
+                  rw more
+                  (plus_more (limit - left) n _
+                  ∙ (rw (← part_on left _ r l (table_chains g.entries g.large rest) n u) at here));
+            }

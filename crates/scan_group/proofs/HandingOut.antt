@@ -1,52 +1,53 @@
 -- What is answered and written, from the two readings of some chains: the count, the test of the room, the pairs written.
 -- Assumes nothing.
-use Prim.Native.Nat.{ℕ, suc, ◌+◌, ◌*◌, ◌≤◌, ◌<◌}
+use Prim.Native.Nat.{ℕ, ◌*◌, ◌≤◌, ◌<◌}
 use mathlib.Core.Path.{◌≡◌, refl, sym, ap, ◌∙◌}
-use mathlib.Core.Bool.{Bool, true, false}
-use mathlib.Core.List.{List, [], ◌∷◌, ◌++◌}
+use mathlib.Core.Bool.{true, false}
+use mathlib.Core.List.{List}
 use mathlib.Core.Option.{Option, some}
 use native.Mathlib.Omega.{arith}
-use lib.ListN.{length, set, drop}
-use lib.Seq.{sets, sets-eq}
+use lib.ListN.{length, get_or}
 use lib.Dec.{leb}
 use borrow.Author.Tests.{le-leb, lt-leb}
+use Rattle.std.specs.Prelude.{Ok, Err, Result}
+use Rattle.std.specs.Result.{IsErrAnd}
+use Rattle.std.proofs.lemmas.Result.{err_from_is_err_and}
 use Rattle.model.specs.declared.Error.{Error}
-use Rattle.model.specs.Memory.{key_of, value_of, chain, listed}
-use Rattle.model.specs.Walk.{AfterScan, pairs, scanned}
-use Rattle.model.proofs.Pairs.{length_pairs}
+use Rattle.model.specs.declared.ScanError.{ScanError}
+use Rattle.model.specs.declared.State.{State}
+use Rattle.model.specs.Calls.{reading}
+use Rattle.model.specs.Memory.{chain, in_bucket, listed}
+use Rattle.model.specs.Walk.{AfterScan, scanned}
 use Rattle.memory.specs.Length.{length_of}
+use Rattle.memory.specs.Lent.{sound_lent}
+use Rattle.memory.proofs.Orientation.{reading_refused}
 use Rattle.memory.proofs.Counted.{counted, uncounted}
-use Rattle.scan_group.specs.Tables.{One}
-use Rattle.scan_group.specs.Chains.{linked}
+use Rattle.scan_group.specs.declared.lent.Entries.{Entries}
+use Rattle.scan_group.specs.declared.lent.LiveTable.{LiveTable}
+use Rattle.scan_group.specs.Chains.{linked, table_chain}
 use Rattle.scan_group.specs.Written.{written, Writable}
 use Rattle.scan_group.proofs.Chains.{linked_same}
-use Rattle.std.specs.Prelude.{Ok, Err, Result}
-use Rattle.model.specs.declared.ScanError.{ScanError}
 
--- from the front of the list, the pairs and then what was there
-
-written_sets : (entries list : List ℕ) (to : ℕ) (ns : List ℕ) → written entries list to ns ≡ sets list to (pairs entries ns)
-unfolding written pairs
-written_sets entries list to [] = refl
-written_sets entries list to (n ∷ ns) =
-    let one : to + 1 ≡ suc to = omega arith in
-    let two : to + 2 ≡ suc (suc to) = omega arith in
-    rw (one, two) (written_sets entries (set (set list to (key_of entries n)) (suc to) (value_of entries n)) (suc (suc to)) ns)
-
-written_front : (entries list ns : List ℕ) → length ns * 2 ≤ length list
-    → written entries list 0 ns ≡ pairs entries ns ++ drop (length ns * 2) list
-written_front entries list ns h =
-    let l = length_pairs entries ns in
-    let all : 0 + length (pairs entries ns) ≡ length ns * 2 = omega arith in
-    written_sets entries list 0 ns ∙ (rw all at (sets-eq (pairs entries ns) list 0 (omega arith)))
+-- a state that is not sound is refused, and the list stays
+pub list_kept : (s : State) (first second entries list : List ℕ) (a : Result (ℕ × ℕ) ScanError) (x : Error)
+    (call : List ℕ → List ℕ → AfterScan) → IsErrAnd a (λ refusal. refusal ≡ ScanError.Refused x)
+    → (x ≡ Error.BadState) × (sound_lent (length first) (length second) (length entries) s ≡ false)
+    → AfterScan.after a list
+    ≡ reading s first second entries (AfterScan.after (Err (ScanError.Refused Error.BadState)) list) call
+list_kept s first second entries list a x call gives h =
+    let p = err_from_is_err_and a gives in
+    rw (p.1, p.2, h.0) (reading_refused s first second entries _ refl _ call h.1)
 
 -- the three answers, once the chains were counted
 
 module _ (entries list : List ℕ) (answered : ℕ) (o : Option (List ℕ)) (r : Result ℕ Error) (e : r ≡ length_of o) where
-  pub scanned_damaged : (x : Error) → r ≡ Err x
-      → AfterScan.after (Err (ScanError.Refused Error.Damaged)) list ≡ scanned entries list answered o
+  pub scanned_damaged : (a : Result (ℕ × ℕ) ScanError) (x : Error) → IsErrAnd a (λ refusal. refusal ≡ ScanError.Refused x)
+      → r ≡ Err x → AfterScan.after a list ≡ scanned entries list answered o
   unfolding scanned
-  scanned_damaged x u = rw (uncounted r x o u e).0
+  scanned_damaged a x gives u =
+      let p = err_from_is_err_and a gives in
+      let (none_read, damaged) = uncounted r x o u e in
+      rw (p.1, p.2, damaged, none_read)
 
   module _ (n : ℕ) (s : r ≡ Ok n) where
     as_counted : scanned entries list answered (some (listed o)) ≡ scanned entries list answered o
@@ -60,32 +61,46 @@ module _ (entries list : List ℕ) (answered : ℕ) (o : Option (List ℕ)) (r :
         ap (λ m. AfterScan.after (Err (ScanError.Short m)) list) (sym k) ∙ rw none at as_counted
 
     -- the chains that were written are those that were counted
-    pub scanned_written : (list' : List ℕ) (p : Option (List ℕ)) → p ≡ o → n * 2 ≤ length list
-        → list' ≡ written entries list 0 (listed p)
+    pub scanned_written : (list' : List ℕ) (p : Option (List ℕ)) → p ≡ o → n * 2 ≤ length list → list' ≡ written entries list p
         → AfterScan.after (Ok (answered, n)) list' ≡ scanned entries list answered o
     unfolding scanned
     scanned_written list' p same l w =
         let k = (counted r n o s e).1 in
-        let front = written_front entries list (listed o) (omega arith) in
         let room : leb (length (listed o) * 2) (length list) ≡ true = le-leb (length (listed o) * 2) (length list) (omega arith) in
-        rw (w, same, front, ← k) (rw room at as_counted)
+        rw (w, same, ← k) (rw room at as_counted)
 
-    pub writable : (p : Option (List ℕ)) → p ≡ o → n * 2 ≤ length list → Writable list 0 p
+    pub writable : (p : Option (List ℕ)) → p ≡ o → n * 2 ≤ length list → Writable list p
     writable p same l =
         let (sound, k) = counted r n o s e in
-        let here : Writable list 0 o = record { sound = sound; fits = omega arith } in
+        let here : Writable list o = record { sound = sound; fits = omega arith } in
         rw same here
 
--- One chain.
+-- One bucket's chain.
 
-module _ (test : ℕ → Bool) (entries list : List ℕ) (capacity used size head n : ℕ) (r : Result ℕ Error) (g : One entries capacity used size)
-    (l : r ≡ length_of (chain test entries capacity used head)) (s : r ≡ Ok n) (h : n * 2 ≤ length list) where
-  same_chain : linked entries head ≡ chain test entries capacity used head
-  same_chain = linked_same entries capacity used g.entries_fit g.used_fits test head (counted r n _ s l).0
+module _ (e : Entries) (t : LiveTable) (list : List ℕ) (b head : ℕ) (i : head ≡ get_or t.buckets.now b 0) (r : Result ℕ Error)
+    (l : r ≡ length_of (chain (in_bucket t.size b) e.fields.now e.capacity t.used head)) (next : ℕ) where
+  read : r ≡ length_of (table_chain e t b)
+  read = rw i at l
 
-  pub one_writable : Writable list 0 (linked entries head)
-  one_writable = writable entries list 0 _ r l n s _ same_chain h
+  pub one_damaged : (a : Result (ℕ × ℕ) ScanError) (x : Error) → IsErrAnd a (λ refusal. refusal ≡ ScanError.Refused x)
+      → r ≡ Err x → AfterScan.after a list ≡ scanned e.fields.now list next (table_chain e t b)
+  one_damaged a x gives u = scanned_damaged e.fields.now list next _ r read a x gives u
 
-  pub one_written : (next : ℕ) (list' : List ℕ) → list' ≡ written entries list 0 (listed (linked entries head))
-      → AfterScan.after (Ok (next, n)) list' ≡ scanned entries list next (chain test entries capacity used head)
-  one_written next list' w = scanned_written entries list next _ r l n s list' _ same_chain h w
+  module _ (n : ℕ) (s : r ≡ Ok n) where
+    pub one_short : length list < n * 2
+        → AfterScan.after (Err (ScanError.Short n)) list ≡ scanned e.fields.now list next (table_chain e t b)
+    one_short h = scanned_short e.fields.now list next _ r read n s h
+
+    module _ (g : t.used ≤ e.capacity) (h : n * 2 ≤ length list) where
+      same_chain : linked e.fields.now head ≡ table_chain e t b
+      same_chain =
+          rw i
+          (linked_same e.fields.now e.capacity t.used e.entries_fit g (in_bucket t.size b) (get_or t.buckets.now b 0)
+          (counted r n _ s read).0)
+
+      pub one_writable : Writable list (linked e.fields.now head)
+      one_writable = writable e.fields.now list next _ r read n s _ same_chain h
+
+      pub one_written : (list' : List ℕ) → list' ≡ written e.fields.now list (linked e.fields.now head)
+          → AfterScan.after (Ok (next, n)) list' ≡ scanned e.fields.now list next (table_chain e t b)
+      one_written list' w = scanned_written e.fields.now list next _ r read n s list' _ same_chain h w

@@ -5,3 +5,5 @@ pub mod Chains
 pub mod HandingOut
 mod Counting
 mod Writing
+pub mod SoundTables
+pub mod Places

@@ -7,10 +7,10 @@ use Rattle.model.specs.Keys.{bucket_of}
 use Rattle.model.specs.Memory.{chain, in_bucket, any_key}
 use Rattle.model.specs.Walk.{joined}
 use Rattle.model.proofs.Linked.{room}
-
--- the chain from that head, of the cursor's bucket in a table of that size
-abbrev pub cursor_chain : List ℕ → ℕ → ℕ → ℕ → ℕ → ℕ → Option (List ℕ)
-cursor_chain entries capacity used head size cursor = chain (in_bucket size (bucket_of cursor size)) entries capacity used head
+use Rattle.memory.specs.Length.{bucket_chain}
+use Rattle.scan_group.specs.declared.lent.Entries.{Entries}
+use Rattle.scan_group.specs.declared.lent.LiveTable.{LiveTable}
+use Rattle.scan_group.specs.declared.lent.Group.{Group}
 
 -- the test of the keys on a chain goes by its bucket
 unfoldable pub chains : (ℕ → ℕ → Bool) → List ℕ → ℕ → ℕ → List ℕ → List ℕ → Option (List ℕ)
@@ -18,11 +18,23 @@ chains test entries capacity used buckets [] = some []
 chains test entries capacity used buckets (b ∷ bs) =
     joined (chain (test b) entries capacity used (get_or buckets b 0)) (chains test entries capacity used buckets bs)
 
--- with two live tables: that of the cursor's bucket in the smaller one, then those of the larger one's buckets
-unfoldable pub group_chains : List ℕ → List ℕ → ℕ → ℕ → ℕ → ℕ → ℕ → ℕ → ℕ → Option (List ℕ)
-group_chains entries larger capacity small_used large_used head small large cursor =
-    joined (cursor_chain entries capacity small_used head small cursor)
-    (chains (in_bucket large) entries capacity large_used larger (two_tables small large cursor).large)
+-- the chain of a bucket of a live table, ..
+abbrev pub table_chain : Entries → LiveTable → ℕ → Option (List ℕ)
+table_chain e t b = bucket_chain t.size e.fields.now e.capacity t.used t.buckets.now b
+
+-- .. and those of some buckets
+abbrev pub table_chains : Entries → LiveTable → List ℕ → Option (List ℕ)
+table_chains e t bs = chains (in_bucket t.size) e.fields.now e.capacity t.used t.buckets.now bs
+
+-- the larger table's buckets of a group
+abbrev pub larger_buckets : Group → List ℕ
+larger_buckets g = (two_tables g.small.size g.large.size g.cursor).large
+
+-- the chain of the cursor's bucket in the smaller table, then those of the larger one's buckets
+unfoldable pub group_chains : Group → Option (List ℕ)
+group_chains g =
+    joined (table_chain g.entries g.small (bucket_of g.cursor g.small.size))
+    (table_chains g.entries g.large (larger_buckets g))
 
 -- a chain, and those of some buckets, with no limit but the entry buffer
 unfoldable pub linked : List ℕ → ℕ → Option (List ℕ)
@@ -30,3 +42,9 @@ linked entries head = chain any_key entries (room entries) (room entries) head
 
 unfoldable pub all_linked : List ℕ → List ℕ → List ℕ → Option (List ℕ)
 all_linked entries buckets bs = chains (λ b. any_key) entries (room entries) (room entries) buckets bs
+
+-- those of a group
+abbrev pub group_linked : Group → Option (List ℕ)
+group_linked g =
+    joined (linked g.entries.fields.now (get_or g.small.buckets.now (bucket_of g.cursor g.small.size) 0))
+    (all_linked g.entries.fields.now g.large.buckets.now (larger_buckets g))

@@ -1,4 +1,5 @@
--- What the two readings ask of the tables and see, and what the second one writes.
-pub mod Tables
+-- What the two readings see of the lent buffers, and the buckets of a group.
+pub mod Lent
 pub mod Chains
+pub mod Sweep
 pub mod Written

@@ -1,15 +1,14 @@
--- The pairs of some entries as they are written to the lent list, and what writing them asks.
-use Rattle.std.specs.Prelude.{ℕ, ◌+◌, ◌*◌, ◌≤◌, ◌≡◌, List, [], ◌∷◌, length, set}
+-- Writing the pairs of some chains to the lent list: what it asks, and what it leaves.
+use Rattle.std.specs.Prelude.{ℕ, ◌*◌, ◌≤◌, ◌≡◌, List, ◌++◌, length, drop}
 use Rattle.std.proofs.Math.Option.{Option, some}
-use Rattle.model.specs.Memory.{key_of, value_of, listed}
+use Rattle.model.specs.Memory.{listed}
+use Rattle.model.specs.Walk.{pairs}
 
--- from a place on
-unfoldable pub written : List ℕ → List ℕ → ℕ → List ℕ → List ℕ
-written entries list to [] = list
-written entries list to (n ∷ ns) =
-    written entries (set (set list to (key_of entries n)) (to + 1) (value_of entries n)) (to + 2) ns
-
--- they end, and there are two numbers for each
-pub record Writable (list : List ℕ) (to : ℕ) (read : Option (List ℕ)) : Type 0 where
+-- the chains end, and there are two places for each entry
+pub record Writable (list : List ℕ) (read : Option (List ℕ)) : Type 0 where
   pub sound : read ≡ some (listed read)
-  pub fits : to + length (listed read) * 2 ≤ length list
+  pub fits : length (listed read) * 2 ≤ length list
+
+-- the pairs at the front, and then what was there
+abbrev pub written : List ℕ → List ℕ → Option (List ℕ) → List ℕ
+written entries list read = pairs entries (listed read) ++ drop (length (listed read) * 2) list

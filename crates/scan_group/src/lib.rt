@@ -3,7 +3,10 @@
 // write only what they have counted.
 #![tactic(auto)]
 
-pub mod bucket;
 pub mod count;
+pub mod group;
 pub mod hand_out;
+pub mod lent;
+pub mod orient;
+pub mod sweep;
 pub mod write;

@@ -1,19 +1,22 @@
--- `dict_scan::scan::scan` meets its contract: a state that is not sound is refused, and with no keys held nothing is read.
-use Rattle.memory.proofs.Tested.{tested_lent}
-use Rattle.dict_scan.proofs.Lent.{held_fits, scan_bad_state, scan_nothing}
+-- `scan` meets its contract: a state that is not sound is refused, and with no keys held nothing is read.
+use Rattle.model.specs.Walk as walk
+use Rattle.scan_group.proofs.HandingOut.{list_kept}
+use Rattle.dict_scan.proofs.Lent.{held_fits, scan_nothing, one_scanned, two_scanned}
 use Rattle.dict_scan.proofs.scan.scan.Goals as goal
 
+pub returns-in_err-require_sound : goal.returns-in_err-require_sound
+unfolding walk.scan
+returns-in_err-require_sound c =
+    list_kept _ _ _ _ _ _ _ _ c.from_residual.ensures.1 c.in_err-require_sound.ensures
+
 pub overflow_add-s : goal.overflow_add-s
-overflow_add-s c = search held_fits
-
-pub scan_both_tables-requires : goal.scan_both_tables-requires
-scan_both_tables-requires c = search tested_lent
-
-pub scan_only_table-requires : goal.scan_only_table-requires
-scan_only_table-requires c = search tested_lent
+overflow_add-s c = search (held_fits, c.in_ok-require_sound.ensures)
 
 pub returns-then-s-eq0 : goal.returns-then-s-eq0
-returns-then-s-eq0 c = search scan_nothing
+returns-then-s-eq0 c = search (scan_nothing, c.in_ok-require_sound.ensures)
 
-pub returns-else-is_sound_lent : goal.returns-else-is_sound_lent
-returns-else-is_sound_lent c = search scan_bad_state
+pub returns-in-None : goal.returns-in-None
+returns-in-None c = search (one_scanned, c.in_ok-require_sound.ensures)
+
+pub returns-in-Some : goal.returns-in-Some
+returns-in-Some c = search (two_scanned, c.in_ok-require_sound.ensures)

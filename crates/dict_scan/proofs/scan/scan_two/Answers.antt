@@ -1,20 +1,15 @@
--- `dict_scan::scan::scan_two` meets its contract: each way out is a case of the definition.
-use borrow.Author.Rules.{rules}
-use Rattle.dict_scan.specs.Groups.{scanned_two}
-use Rattle.scan_group.proofs.HandingOut.{scanned_damaged, scanned_short}
-use Rattle.dict_scan.proofs.Scanning.{two_writable, two_written}
+-- `scan_two` meets its contract: each way out is a case of the definition.
+use Rattle.dict_scan.proofs.Scanning.{two_damaged, two_short, two_writable, two_written}
 use Rattle.dict_scan.proofs.scan.scan_two.Goals as goal
 
-pub write_group-requires : goal.write_group-requires
-write_group-requires c = record { sizes = search rules; writable = search two_writable }
+pub returns-in_err-total : goal.returns-in_err-total
+returns-in_err-total c = search (two_damaged, c.in_err-total.was)
 
-pub returns-in-Err : goal.returns-in-Err
-unfolding scanned_two
-returns-in-Err c = search scanned_damaged
+pub returns-then-list-total : goal.returns-then-list-total
+returns-then-list-total c = search (two_short, c.in_ok-total.was)
 
-pub returns-then-total-list : goal.returns-then-total-list
-returns-then-total-list c = search two_written
+pub write-requires : goal.write-requires
+write-requires c = search (two_writable, c.in_ok-total.was)
 
-pub returns-else-total-list : goal.returns-else-total-list
-unfolding scanned_two
-returns-else-total-list c = search scanned_short
+pub returns : goal.returns
+returns c = search (two_written, c.in_ok-total.was)

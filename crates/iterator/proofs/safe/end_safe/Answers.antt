@@ -1,12 +1,18 @@
--- `iterator::safe::end_safe` meets its contract: each way out is a case of the definition.
-use Rattle.iterator.proofs.Answering.{end_safe_refused, one_ended, none_begun}
+-- `end_safe` meets its contract: each way out is a case of the definition.
+use Rattle.model.specs.Memory.{size_of, used_of}
+use Rattle.model.specs.Calls.{state_of, noted}
+use Rattle.model.specs.Iterators.{end_safe}
+use Rattle.memory.proofs.Orientation.{reading_bad_state}
+use Rattle.iterator.proofs.Answering.{one_ended, none_begun}
 use Rattle.iterator.proofs.safe.end_safe.Goals as goal
 
-pub returns-then-s-gt0 : goal.returns-then-s-gt0
-returns-then-s-gt0 c = search one_ended
+pub returns-in_err-require_sound : goal.returns-in_err-require_sound
+unfolding end_safe
+returns-in_err-require_sound c = reading_bad_state _ _ _ _ _ _ c.from_residual.ensures.1 c.in_err-require_sound.ensures _
 
-pub returns-else-s-gt0 : goal.returns-else-s-gt0
-returns-else-s-gt0 c = search none_begun
+pub returns-then-s-eq0 : goal.returns-then-s-eq0
+returns-then-s-eq0 c = search (none_begun, c.in_ok-require_sound.ensures)
 
-pub returns-else-is_sound_lent : goal.returns-else-is_sound_lent
-returns-else-is_sound_lent c = search end_safe_refused
+pub returns : goal.returns
+unfolding noted state_of size_of used_of
+returns c = search (one_ended, c.in_ok-require_sound.ensures)

@@ -1,14 +1,13 @@
--- What the code between the bytes and the plain calls tells: a plain call's answer as numbers and a state, and the calls by
--- kind. Nothing here is part of the promise.
-use Rattle.std.specs.Prelude.{ℕ, ◌≡◌, List, get_or}
+-- What the code between the bytes and the plain calls tells: a plain call's answer as numbers and a state, and what is known of a
+-- call that is passed as a closure, by kind: one that only reads, one that is lent a list, one that writes, and a start, which is
+-- given no state. Nothing here is part of the promise.
+use Rattle.std.specs.Prelude.{ℕ, ◌≡◌, List, [], get_or}
+use denote.Ref.{Bor, MutBor}
 use Rattle.model.specs.declared.State.{State}
 use Rattle.model.specs.Answers.{Reply}
-use Rattle.model.specs.Sequences.{Call, KeyCall, ReadCall, StateCall, Outcome}
+use Rattle.model.specs.Sequences.{Call, world, Outcome, perform}
 use Rattle.lent_bytes.specs.Exports.{results}
 use Rattle.export_calls.specs.declared.answers.Answer.{Answer}
-use Rattle.export_calls.specs.declared.calls.Read.{Read}
-use Rattle.export_calls.specs.declared.calls.Write.{Write}
-use Rattle.export_calls.specs.declared.calls.Listing.{Listing}
 
 unfoldable pub answer_of : Reply State → Answer
 answer_of r =
@@ -30,24 +29,36 @@ pub data Told : Type 0 where
 unfoldable pub told : Outcome → Told
 told o = Told.tells (answer_of o.reply) o.first o.second o.entries o.lent
 
--- The calls by kind.
+-- A closure is that call: whatever it is given, it answers and leaves what the call does. One that only reads answers the state that
+-- it was given.
 
-abbrev pub read_call : Read → Call
-read_call (Read.Find key) = Call.on key KeyCall.find
-read_call (Read.SuggestedSize growing) = Call.read (ReadCall.suggested_size growing)
-read_call Read.BeginIterator = Call.read ReadCall.begin_iterator
-read_call (Read.EndIterator fingerprint) = Call.read (ReadCall.end_iterator fingerprint)
+pub record Answers (c : Call) (first second entries : List ℕ) (s : State) (a : Answer) (list : List ℕ) : Type 0 where
+  pub answers : Told.tells a first second entries list ≡ told (perform (world s first second entries) c)
+  pub keeps : a.state ≡ s
 
-abbrev pub write_call : Write → Call
-write_call (Write.Update key value) = Call.on key (KeyCall.update value)
-write_call (Write.Add key value) = Call.on key (KeyCall.add value)
-write_call (Write.Delete key) = Call.on key KeyCall.delete
-write_call (Write.Resize size) = Call.resize size
-write_call Write.RehashStep = Call.rehash_step
-write_call (Write.AllowResize allowed) = Call.note (StateCall.allow_resize allowed)
-write_call Write.BeginSafe = Call.note StateCall.begin_safe
-write_call Write.EndSafe = Call.note StateCall.end_safe
+abbrev pub Reads : (Bor (List ℕ) → Bor (List ℕ) → Bor (List ℕ) → State → Answer → Type 0) → Call → Type 0
+Reads post c =
+    (first second entries : Bor (List ℕ)) (s : State) (a : Answer) → post first second entries s a
+    → Answers c first.now second.now entries.now s a []
 
-abbrev pub list_call : Listing → List ℕ → Call
-list_call (Listing.Scan cursor) list = Call.scan cursor list
-list_call (Listing.Iterate place) list = Call.iterate place list
+abbrev pub Lists : (Bor (List ℕ) → Bor (List ℕ) → Bor (List ℕ) → MutBor (List ℕ) → State → Answer → MutBor (List ℕ) → Type 0)
+    → (List ℕ → Call) → Type 0
+Lists post c =
+    (first second entries : Bor (List ℕ)) (list : MutBor (List ℕ)) (s : State) (a : Answer) (list' : MutBor (List ℕ))
+    → post first second entries list s a list' → Answers (c list.now) first.now second.now entries.now s a list'.now
+
+abbrev pub Writes : (MutBor (List ℕ) → MutBor (List ℕ) → MutBor (List ℕ) → State → Answer
+    → MutBor (List ℕ) → MutBor (List ℕ) → MutBor (List ℕ) → Type 0)
+    → Call → Type 0
+Writes post c =
+    (first second entries : MutBor (List ℕ)) (s : State) (a : Answer) (first' second' entries' : MutBor (List ℕ))
+    → post first second entries s a first' second' entries'
+    → Told.tells a first'.now second'.now entries'.now [] ≡ told (perform (world s first.now second.now entries.now) c)
+
+abbrev pub Starts : (MutBor (List ℕ) → MutBor (List ℕ) → MutBor (List ℕ) → Answer
+    → MutBor (List ℕ) → MutBor (List ℕ) → MutBor (List ℕ) → Type 0)
+    → Call → Type 0
+Starts post c =
+    (first second entries : MutBor (List ℕ)) (s : State) (a : Answer) (first' second' entries' : MutBor (List ℕ))
+    → post first second entries a first' second' entries'
+    → Told.tells a first'.now second'.now entries'.now [] ≡ told (perform (world s first.now second.now entries.now) c)

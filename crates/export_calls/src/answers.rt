@@ -1,4 +1,6 @@
 // What a plain call answers, in numbers.
+#![tactic(auto, using(crate::proofs::Telling::known, crate::proofs::Telling::step_value), unfolding(crate::proofs::Telling::numbering))]
+
 ghost use Rattle.std.specs.Prelude.{◌≡◌, [], ◌∷◌, Err};
 ghost use Rattle.model.specs.Answers.{reply, error_number, init_reply, value_reply, done_reply, state_reply, step_reply, scan_reply};
 ghost use Rattle.export_calls.specs.Kinds.{answer_of, InNumbers};
@@ -15,18 +17,18 @@ pub struct Answer {
     pub state: State,
 }
 
-fn two_results(number: u32, one: u32, two: u32, s: State) -> Answer
-    ensures { result ≡ answer_of (reply number (one ∷ two ∷ []) s) }
+fn two_results(number: u32, one: u32, two: u32, state: State) -> Answer
+    ensures { result ≡ answer_of (reply number (one ∷ two ∷ []) state) }
 {
     Answer {
-        number: number,
-        one: one,
-        two: two,
-        state: s,
+        number,
+        one,
+        two,
+        state,
     }
 }
 
-const TWO_TO_32: u64 = 4294967296;
+const TWO_TO_32: u64 = 1 << 32;
 
 // Done, with one result: its lower and its higher 32 bits.
 fn one_result(value: u64, s: State) -> Answer
@@ -50,37 +52,39 @@ fn refused(e: Error, s: State) -> Answer
     two_results(error_number(e), 0, 0, s)
 }
 
-fn short_or_refused(e: ScanError, s: State) -> Answer
-    ensures { result ≡ answer_of (scan_reply s (Err e)) }
-{
-    match e {
-        ScanError::Short(count) => two_results(9, 0, count, s),
-        ScanError::Refused(e) => refused(e, s),
-    }
-}
-
 // Each answer of the store. Where it has no state, the one that the call was given comes back.
 
-pub(crate) fn of_init(a: Result<State, Unstarted>) -> Answer
+pub fn of_init(a: Result<State, Unstarted>) -> Answer
     ensures { InNumbers result init_reply a }
 {
     match a {
         Ok(t) => no_result(t),
-        Err(Unstarted { error: e, state: t }) => refused(e, t),
+        Err(Unstarted { error, state }) => refused(error, state),
     }
 }
 
-pub(crate) fn of_find(a: Result<u32, Error>, s: State) -> Answer
-    ensures { InNumbers result (value_reply s) a }
+pub fn of_state(a: Result<State, Error>, s: State) -> Answer
+    ensures { InNumbers result (state_reply s) a }
 {
     match a {
-        Ok(value) => one_result(value as u64, s),
+        Ok(t) => no_result(t),
         Err(e) => refused(e, s),
     }
 }
 
-pub(crate) fn of_update(a: Result<(), Error>, s: State) -> Answer
-    ensures { InNumbers result (done_reply s) a }
+pub fn of_value(a: Result<u64, Error>, s: State) -> Answer
+    ensures numbers { InNumbers result (value_reply s) a }
+    ensures state { result.state ≡ s }
+{
+    match a {
+        Ok(value) => one_result(value, s),
+        Err(e) => refused(e, s),
+    }
+}
+
+pub fn of_done(a: Result<(), Error>, s: State) -> Answer
+    ensures numbers { InNumbers result (done_reply s) a }
+    ensures state { result.state ≡ s }
 {
     match a {
         Ok(()) => no_result(s),
@@ -88,83 +92,22 @@ pub(crate) fn of_update(a: Result<(), Error>, s: State) -> Answer
     }
 }
 
-pub(crate) fn of_add(a: Result<State, Error>, s: State) -> Answer
-    ensures { InNumbers result (state_reply s) a }
-{
-    match a {
-        Ok(t) => no_result(t),
-        Err(e) => refused(e, s),
-    }
-}
-
-pub(crate) fn of_delete(a: Result<State, Error>, s: State) -> Answer
-    ensures { InNumbers result (state_reply s) a }
-{
-    match a {
-        Ok(t) => no_result(t),
-        Err(e) => refused(e, s),
-    }
-}
-
-pub(crate) fn of_resize(a: Result<State, Error>, s: State) -> Answer
-    ensures { InNumbers result (state_reply s) a }
-{
-    match a {
-        Ok(t) => no_result(t),
-        Err(e) => refused(e, s),
-    }
-}
-
-pub(crate) fn of_step(a: Result<(u32, State), Error>, s: State) -> Answer
+pub fn of_step(a: Result<(u32, State), Error>, s: State) -> Answer
     ensures { InNumbers result (step_reply s) a }
 {
     match a {
-        Ok((moved, t)) => two_results(0, moved, t.rehashing as u32, t),
+        Ok((moved, t)) => two_results(0, moved, u32::from(t.rehashing), t),
         Err(e) => refused(e, s),
     }
 }
 
-pub(crate) fn of_size(a: Result<u32, Error>, s: State) -> Answer
-    ensures { InNumbers result (value_reply s) a }
-{
-    match a {
-        Ok(size) => one_result(size as u64, s),
-        Err(e) => refused(e, s),
-    }
-}
-
-pub(crate) fn of_state(a: Result<State, Error>, s: State) -> Answer
-    ensures { InNumbers result (state_reply s) a }
-{
-    match a {
-        Ok(t) => no_result(t),
-        Err(e) => refused(e, s),
-    }
-}
-
-pub(crate) fn of_begin(a: Result<u64, Error>, s: State) -> Answer
-    ensures { InNumbers result (value_reply s) a }
-{
-    match a {
-        Ok(fingerprint) => one_result(fingerprint, s),
-        Err(e) => refused(e, s),
-    }
-}
-
-pub(crate) fn of_end(a: Result<(), Error>, s: State) -> Answer
-    ensures { InNumbers result (done_reply s) a }
-{
-    match a {
-        Ok(()) => no_result(s),
-        Err(e) => refused(e, s),
-    }
-}
-
-pub(crate) fn of_scan(a: Result<(u32, u32), ScanError>, s: State) -> Answer
-    ensures { InNumbers result (scan_reply s) a }
+pub fn of_scan(a: Result<(u32, u32), ScanError>, s: State) -> Answer
+    ensures numbers { InNumbers result (scan_reply s) a }
+    ensures state { result.state ≡ s }
 {
     match a {
         Ok((cursor, count)) => two_results(0, cursor, count, s),
-        Err(e) => short_or_refused(e, s),
+        Err(ScanError::Short(count)) => two_results(9, 0, count, s),
+        Err(ScanError::Refused(e)) => refused(e, s),
     }
 }

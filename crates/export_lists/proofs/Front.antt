@@ -24,8 +24,7 @@ use Rattle.model.specs.Sequences.{World, Outcome, kept, kept_scan, given, perfor
 use Rattle.model.proofs.Linked.{read_sound}
 use Rattle.model.proofs.AtMost.{at_most_some}
 use Rattle.model.proofs.Soundness.{Sound, sound_facts}
-use Rattle.export_calls.specs.declared.calls.Listing.{Listing}
-use Rattle.export_calls.specs.Kinds.{list_call}
+use Rattle.export_lists.specs.Room.{Listing, list_call}
 use Rattle.std.specs.Prelude.{Result, Ok, Err}
 use Rattle.model.specs.declared.ScanError.{ScanError}
 
@@ -153,5 +152,5 @@ module _ (room m : ℕ) (w : World) (list : List ℕ) (few : length w.entries / 
 
   pub list_front : (call : Listing) → longer (drop m list) (perform w (list_call call (take m list))) ≡ perform w (list_call call list)
   unfolding perform
-  list_front (Listing.Scan cursor) = kept_longer w (drop m list) _ ∙ ap (kept_scan w) (scan_front cursor)
-  list_front (Listing.Iterate place) = kept_longer w (drop m list) _ ∙ ap (kept_scan w) (iterate_front place)
+  list_front (Listing.scan cursor) = kept_longer w (drop m list) _ ∙ ap (kept_scan w) (scan_front cursor)
+  list_front (Listing.iterate place) = kept_longer w (drop m list) _ ∙ ap (kept_scan w) (iterate_front place)

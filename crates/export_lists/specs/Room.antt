@@ -1,19 +1,16 @@
--- For the contracts of the code behind the first check: the room that it has for the numbers of a list, and what it knows of a
--- list that has room and of one of any length. Nothing here is part of the promise.
-use Rattle.std.specs.Prelude.{ℕ, ◌*◌, ◌/◌, ◌≤◌, ◌≡◌, List, length}
-use Rattle.lent_bytes.specs.Exports.{most_entry_bytes}
-use Rattle.export_runs.specs.Numbers.{room_for, Opened}
+-- For the contract of the code that is lent a list: the calls that it is, and the room that it has for the numbers of a list.
+-- Nothing here is part of the promise.
+use Rattle.std.specs.Prelude.{ℕ, List}
+use Rattle.model.specs.Sequences.{Call}
+
+pub data Listing : Type 0 where
+  scan : (cursor : ℕ) → Listing
+  iterate : (place : ℕ) → Listing
+
+abbrev pub list_call : Listing → List ℕ → Call
+list_call (Listing.scan cursor) list = Call.scan cursor list
+list_call (Listing.iterate place) list = Call.iterate place list
 
 -- two numbers for each entry of the longest entry buffer, where an entry is three: no call hands out more
 unfoldable pub list_room : ℕ
-list_room = room_for most_entry_bytes / 3 * 2
-
-pub record Front (state list answer : List ℕ) : Type 0 where
-  pub opened : Opened state answer
-  pub whole : length list / 4 * 4 ≡ length list
-  pub few : length list / 4 ≤ list_room
-
-pub record AnyLength (state entries list answer : List ℕ) : Type 0 where
-  pub opened : Opened state answer
-  pub whole : length list / 4 * 4 ≡ length list
-  pub few_entries : length entries ≤ room_for most_entry_bytes
+list_room = 8192

@@ -2,70 +2,60 @@
 // lent_bytes/specs/Exports.antt.
 #![tactic(auto)]
 
-ghost use Rattle.std.specs.Prelude.{◌≡◌, length};
-ghost use Rattle.little_endian.specs.Words.{decode};
-ghost use Rattle.model.specs.Sequences.{perform};
-ghost use Rattle.lent_bytes.specs.Exports.{world_from, exported_list};
+ghost use Rattle.std.specs.Prelude.{◌≡◌};
+ghost use Rattle.lent_bytes.specs.Exports.{exported_list};
 ghost use Rattle.lent_bytes.specs.Exports.Lent.{lent};
 ghost use Rattle.lent_bytes.specs.Exports.Done.{done};
-ghost use Rattle.lent_bytes.specs.Checked.{Checked};
-ghost use Rattle.export_calls.specs.Kinds.{list_call};
-ghost use Rattle.export_runs.specs.Numbers.{performed};
+ghost use Rattle.export_calls.specs.Kinds.{Lists};
+ghost use Rattle.export_lists.specs.Room.{Listing, list_call};
 
-use crate::list::on_list;
-use export_calls::calls::Listing;
-use export_runs::room::{bucket_room, entry_room};
-use lent_bytes::answer::refuse;
-use lent_bytes::check::is_well_formed;
-use little_endian::numbers_of;
+use export_calls::answers::Answer;
+use export_runs::room::{BUCKET_ROOM, ENTRY_ROOM};
+use lent_bytes::answer::{refuse, write_answer};
+use lent_bytes::check::{Lengths, MOST_CELLS};
+use little_endian::{numbers_of, write_numbers};
+use model::State;
 
-mod list;
+// Two numbers for each entry: no call hands out more.
+const LIST_ROOM: usize = 2 * MOST_CELLS;
 
-// The first check has passed.
-fn on_bytes(
+// A list may have any length. It is decoded no further than a call can hand out, and what lies behind that is not touched.
+pub fn run_list<F: FnOnce(&[u32], &[u32], &[u32], &mut [u32], State) -> Answer>(
     state: &[u8],
     first: &[u8],
     second: &[u8],
     entries: &[u8],
     list: &mut [u8],
     answer: &mut [u8],
-    call: Listing,
+    call: F,
 ) -> u32
-    requires { Checked state.now (length first.now) (length second.now) (length entries.now) (length list.old) (length answer.old) }
-    ensures { done result (lent state.now first.now second.now entries.now list.new answer.new)
-        ≡ performed (perform (world_from state.now first.now second.now entries.now) (list_call call (decode list.old))) }
+    requires { F.IsAlwaysCallable call }
+    ensures { (c : Listing) → Lists (F.post call) (list_call c)
+        → done result (lent state.now first.now second.now entries.now list.new answer.new)
+        ≡ exported_list (list_call c) (lent state.now first.now second.now entries.now list.old answer.old) }
 {
-    let mut first_room = bucket_room();
-    let mut second_room = bucket_room();
-    let mut entry_room = entry_room();
+    let lengths = Lengths {
+        first: first.len(),
+        second: second.len(),
+        entries: entries.len(),
+        list: list.len(),
+        answer: answer.len(),
+    };
+    let Some(s) = lengths.state(state) else {
+        return refuse(answer);
+    };
+    let mut first_room = [0; BUCKET_ROOM];
+    let mut second_room = [0; BUCKET_ROOM];
+    let mut entry_room = [0; ENTRY_ROOM];
+    let mut list_room = [0; LIST_ROOM];
     let f = numbers_of(first, &mut first_room);
     let g = numbers_of(second, &mut second_room);
     let e = numbers_of(entries, &mut entry_room);
-    on_list(state, f, g, e, list, answer, call)
-}
-
-pub fn run_list(
-    state: &[u8],
-    first: &[u8],
-    second: &[u8],
-    entries: &[u8],
-    list: &mut [u8],
-    answer: &mut [u8],
-    call: Listing,
-) -> u32
-    ensures { done result (lent state.now first.now second.now entries.now list.new answer.new)
-        ≡ exported_list (list_call call) (lent state.now first.now second.now entries.now list.old answer.old) }
-{
-    if is_well_formed(
-        state,
-        first.len(),
-        second.len(),
-        entries.len(),
-        list.len(),
-        answer.len(),
-    ) {
-        on_bytes(state, first, second, entries, list, answer, call)
-    } else {
-        refuse(answer)
-    }
+    let count = (list.len() / 4).min(LIST_ROOM);
+    let front = &mut list[..count * 4];
+    let l = numbers_of(front, &mut list_room);
+    let a = call(f, g, e, l, s);
+    write_numbers(l, front);
+    write_answer(answer, a.one, a.two);
+    a.number
 }

@@ -11,48 +11,64 @@ use Rattle.little_endian.specs.Words.{decode, encode}
 use Rattle.little_endian.specs.Reading.{Decoded, Fitting}
 use Rattle.little_endian.proofs.Laws.{encode_length}
 use Rattle.model.specs.declared.State.{State}
-use Rattle.model.specs.Sequences.{Call, World, world, Outcome, perform}
-use Rattle.lent_bytes.specs.Exports.{Lent, Done, state_numbers, results, lengths_fit, flags_fit, cleared, refused, world_from, written, exported_list, exported_call}
-use Rattle.lent_bytes.specs.Checked.{Whole, StateRead}
+use Rattle.model.specs.Sequences.{Call, world, Outcome, perform}
+use Rattle.lent_bytes.specs.Exports.{Lent, Done, state_bytes, answer_bytes, most_bucket_bytes, most_entry_bytes, state_numbers, results, lengths_fit, flags_fit, cleared, refused, world_from, written, started_state, exported_list, exported_call, exported_init, state_from}
+use Rattle.lent_bytes.specs.Checked.{Whole, Lengths, Checked, Passed}
+use Rattle.lent_bytes.proofs.Checks.{lengths, checked}
+use Rattle.std.specs.Prelude.{Option, Some, None, IfNone}
 use Rattle.export_calls.specs.declared.answers.Answer.{Answer}
-use Rattle.export_calls.specs.declared.calls.Read.{Read}
-use Rattle.export_calls.specs.Kinds.{answer_of, Told, told, read_call}
-use Rattle.export_calls.proofs.Keeping.{Keeps, read_keeps}
-use Rattle.export_runs.specs.Numbers.{room_for, numbers_from, performed}
+use Rattle.export_calls.specs.Kinds.{answer_of, Told, told, Answers}
 
--- The room is enough
+-- What the first check has shown: the room is enough, and the answer has its eight bytes
 
-pub room_fits : (bytes room : List ℕ) (most : ℕ) → Whole most (length bytes) → length room ≡ room_for most → Fitting bytes room
-unfolding room_for
-room_fits bytes room most w e = record { whole = w.whole; few = omega (arith, w.few) }
+module _ (state : List ℕ) (first second entries list answer : ℕ) (s : State) (p : Passed state first second entries list answer s) where
+  pub opened : Checked state first second entries list answer
+  opened = checked state first second entries list answer true (sym p.passed) refl
 
--- The first check passes, or does not
+pub bucket_fits : (bytes room : List ℕ) → Whole most_bucket_bytes (length bytes) → length room ≡ 4096 → Fitting bytes room
+unfolding most_bucket_bytes
+bucket_fits bytes room w e = record { whole = w.whole; few = omega (arith, w.few) }
 
-module _ (state first second entries list answer : List ℕ) (t : Bool)
-    (q : t ≡ (lengths_fit (length state) (length first) (length second) (length entries) (length list) (length answer) && flags_fit (decode state))) where
-  pub list_passed : (x : Done) (call : List ℕ → Call) → t ≡ true
-      → x ≡ performed (perform (world_from state first second entries) (call (decode list)))
-      → x ≡ exported_list call (Lent.lent state first second entries list answer)
-  unfolding exported_list performed
-  list_passed x call h d = rw (sym q ∙ h) d
+pub entries_fit : (bytes room : List ℕ) → Whole most_entry_bytes (length bytes) → length room ≡ 12288 → Fitting bytes room
+unfolding most_entry_bytes
+entries_fit bytes room w e = record { whole = w.whole; few = omega (arith, w.few) }
 
-  pub list_refused : (r : ℕ) (out : List ℕ) (call : List ℕ → Call) → t ≡ false → (r ≡ 1) × (out ≡ cleared answer)
-      → Done.done r (Lent.lent state first second entries list out) ≡ exported_list call (Lent.lent state first second entries list answer)
-  unfolding exported_list refused
-  list_refused r out call h d = rw (sym q ∙ h, d.0, d.1)
+module _ (state : List ℕ) (first second entries list answer : ℕ) (s : State) (p : Passed state first second entries list answer s) where
+  pub first_whole : Whole most_bucket_bytes first
+  first_whole = (opened state first second entries list answer s p).lengths.first_whole
 
--- the same of a call that is lent no list
-module _ (state first second entries answer : List ℕ) (t : Bool)
-    (q : t ≡ (lengths_fit (length state) (length first) (length second) (length entries) 0 (length answer) && flags_fit (decode state))) where
-  pub passed : (x : Done) (call : Call) → t ≡ true → x ≡ performed (perform (world_from state first second entries) call)
-      → x ≡ exported_call call (Lent.lent state first second entries [] answer)
-  unfolding exported_call
-  passed x call h d = list_passed state first second entries [] answer t q x (λ list. call) h d
+  pub second_whole : Whole most_bucket_bytes second
+  second_whole = (opened state first second entries list answer s p).lengths.second_whole
 
-  pub not_passed : (r : ℕ) (out : List ℕ) (call : Call) → t ≡ false → (r ≡ 1) × (out ≡ cleared answer)
-      → Done.done r (Lent.lent state first second entries [] out) ≡ exported_call call (Lent.lent state first second entries [] answer)
-  unfolding exported_call
-  not_passed r out call h d = list_refused state first second entries [] answer t q r out (λ list. call) h d
+  pub entries_whole : Whole most_entry_bytes entries
+  entries_whole = (opened state first second entries list answer s p).lengths.entries_whole
+
+  pub state_whole : length state ≡ state_bytes
+  state_whole = (opened state first second entries list answer s p).lengths.state_length
+
+pub answer_whole : (state : List ℕ) (first second entries list : ℕ) (answer : List ℕ) (s : State)
+    → Passed state first second entries list (length answer) s → length answer ≡ answer_bytes
+answer_whole state first second entries list answer s p = (opened state first second entries list (length answer) s p).lengths.answer_length
+
+-- It does not pass
+
+pub list_refused : (state first second entries list answer : List ℕ) (o : Option State) (r : ℕ) (out : List ℕ) (call : List ℕ → Call)
+    → o ≡ None
+    → IfNone o ((lengths_fit (length state) (length first) (length second) (length entries) (length list) (length answer) && flags_fit (decode state)) ≡ false)
+    → (r ≡ 1) × (out ≡ cleared answer)
+    → Done.done r (Lent.lent state first second entries list out) ≡ exported_list call (Lent.lent state first second entries list answer)
+unfolding exported_list refused
+list_refused state first second entries list answer None r out call h e d = rw (e, d.0, d.1) refl
+list_refused state first second entries list answer (Some s) r out call h e d = grind arith
+
+pub refused_call : (state first second entries answer : List ℕ) (o : Option State) (r : ℕ) (out : List ℕ) (call : Call)
+    → o ≡ None
+    → IfNone o ((lengths_fit (length state) (length first) (length second) (length entries) 0 (length answer) && flags_fit (decode state)) ≡ false)
+    → (r ≡ 1) × (out ≡ cleared answer)
+    → Done.done r (Lent.lent state first second entries [] out) ≡ exported_call call (Lent.lent state first second entries [] answer)
+unfolding exported_call
+refused_call state first second entries answer o r out call h e d =
+    list_refused state first second entries [] answer o r out (λ list. call) h e d
 
 -- An answer in numbers, and what the call leaves, as bytes
 
@@ -77,63 +93,110 @@ module _ (a : Answer) (f g e l : List ℕ) (o : Outcome) (t : Told.tells a f g e
   unfolding told answer_of written
   bytes_told state = cc (two_results o.reply.values)
 
--- A call on numbers, from the state that was read, the plain call, and what was written
+-- numbers as the bytes that they are
+as_bytes : (n : ℕ) (state first second entries list answer f g e l out : List ℕ) (x : Done)
+    → first ≡ encode f → second ≡ encode g → entries ≡ encode e → list ≡ encode l → answer ≡ encode out
+    → Done.done n (Lent.lent state (encode f) (encode g) (encode e) (encode l) (encode out)) ≡ x
+    → Done.done n (Lent.lent state first second entries list answer) ≡ x
+as_bytes n state first second entries list answer f g e l out x p q r s t d = rw (p, q, r, s, t) d
 
-module _ (state f g e : List ℕ) (s : State) (a : Answer) (call : Call) (u : StateRead state s) where
-  pub list_told : (state' f' g' e' l' out : List ℕ) → Told.tells a f' g' e' l' ≡ told (perform (world s f g e) call)
+-- A call that only reads, from what the first check has passed, and the bytes as numbers
+
+module _ (state first second entries list answer : List ℕ) (s : State)
+    (p : Passed state (length first) (length second) (length entries) (length list) (length answer) s)
+    (f g e : List ℕ) (u : Decoded first f) (v : Decoded second g) (w : Decoded entries e) where
+  same_world : world s f g e ≡ world_from state first second entries
+  unfolding world_from
+  same_world = rw (u.read, v.read, w.read, p.read.read) refl
+
+  pub list_run : (call : List ℕ → Call) (a : Answer) (l list' out : List ℕ) → Answers (call (decode list)) f g e s a l
+      → list' ≡ encode l → out ≡ encode (a.one ∷ a.two ∷ [])
+      → Done.done a.number (Lent.lent state first second entries list' out) ≡ exported_list call (Lent.lent state first second entries list answer)
+  unfolding exported_list
+  list_run call a l list' out t r q =
+      let o : Outcome = perform (world s f g e) (call (decode list)) in
+      let kept : encode (state_numbers o.reply.state) ≡ state =
+      ap (λ (z : State). encode (state_numbers z)) (sym (state_told a f g e l o t.answers) ∙ t.keeps) ∙ sym p.read.back in
+      rw (p.passed, sym same_world)
+      (as_bytes a.number state first second entries list' out f g e l (a.one ∷ a.two ∷ []) _ u.back v.back w.back r q
+      (bytes_told a f g e l o t.answers state ∙ ap (λ (b : List ℕ). written b o) (sym kept)))
+
+-- the same of a call that is lent no list
+pub read_run : (state first second entries answer : List ℕ) (s : State)
+    → Passed state (length first) (length second) (length entries) 0 (length answer) s
+    → (f g e : List ℕ) → Decoded first f → Decoded second g → Decoded entries e
+    → (call : Call) (a : Answer) (out : List ℕ) → Answers call f g e s a [] → out ≡ encode (a.one ∷ a.two ∷ [])
+    → Done.done a.number (Lent.lent state first second entries [] out) ≡ exported_call call (Lent.lent state first second entries [] answer)
+unfolding exported_call encode
+read_run state first second entries answer s p f g e u v w call a out t q =
+    list_run state first second entries [] answer s p f g e u v w (λ list. call) a [] [] out t refl q
+
+-- A call that writes
+
+module _ (state first second entries answer : List ℕ) (s : State)
+    (p : Passed state (length first) (length second) (length entries) 0 (length answer) s) where
+  pub write_run : (f g e f' g' e' first' second' entries' state' out : List ℕ) (call : Call) (a : Answer)
+      → Decoded first f → Decoded second g → Decoded entries e
+      → Told.tells a f' g' e' [] ≡ told (perform (world s f g e) call)
+      → first' ≡ encode f' → second' ≡ encode g' → entries' ≡ encode e'
       → state' ≡ encode (state_numbers a.state) → out ≡ encode (a.one ∷ a.two ∷ [])
-      → Done.done a.number (Lent.lent state' (encode f') (encode g') (encode e') (encode l') out)
-      ≡ performed (perform (numbers_from state f g e) call)
-  unfolding performed numbers_from
-  list_told state' f' g' e' l' out t p q =
+      → Done.done a.number (Lent.lent state' first' second' entries' [] out) ≡ exported_call call (Lent.lent state first second entries [] answer)
+  unfolding exported_call exported_list encode
+  write_run f g e f' g' e' first' second' entries' state' out call a u v w t x y z st q =
       let o : Outcome = perform (world s f g e) call in
-      rw (p, q)
-      (bytes_told a f' g' e' l' o t (encode (state_numbers a.state))
-      ∙ ap (λ (z : State). written (encode (state_numbers z)) o) (state_told a f' g' e' l' o t)
-      ∙ ap (λ (z : State). performed (perform (world z f g e) call)) u.read)
+      rw (p.passed, sym (same_world state first second entries [] answer s p f g e u v w))
+      (as_bytes a.number state' first' second' entries' [] out f' g' e' [] (a.one ∷ a.two ∷ []) _ x y z refl q
+      (bytes_told a f' g' e' [] o t state'
+      ∙ ap (λ (b : List ℕ). written b o) (st ∙ ap (λ (z : State). encode (state_numbers z)) (state_told a f' g' e' [] o t))))
 
-  pub write_told : (state' f' g' e' out : List ℕ) → Told.tells a f' g' e' [] ≡ told (perform (world s f g e) call)
-      → state' ≡ encode (state_numbers a.state) → out ≡ encode (a.one ∷ a.two ∷ [])
-      → Done.done a.number (Lent.lent state' (encode f') (encode g') (encode e') [] out)
-      ≡ performed (perform (numbers_from state f g e) call)
-  unfolding encode
-  write_told state' f' g' e' out t p q = list_told state' f' g' e' [] out t p q
+-- A start, of which the first check asks no flags
 
-  -- a call that keeps the state keeps its bytes
-  pub kept_state : (f' g' e' l' : List ℕ) → Told.tells a f' g' e' l' ≡ told (perform (world s f g e) call)
-      → Keeps (world s f g e) (perform (world s f g e) call) → state ≡ encode (state_numbers a.state)
-  unfolding world
-  kept_state f' g' e' l' t k =
-      u.back
-      ∙ ap (λ (z : State). encode (state_numbers z)) (sym (state_told a f' g' e' l' (perform (world s f g e) call) t ∙ k.state))
+module _ (state first second entries answer : List ℕ) (t : Bool)
+    (q : t ≡ lengths_fit (length state) (length first) (length second) (length entries) 0 (length answer)) (h : t ≡ true) where
+  fitting : Lengths (length state) (length first) (length second) (length entries) 0 (length answer)
+  fitting = lengths (length state) (length first) (length second) (length entries) 0 (length answer) t q h
 
-module _ (state f g e : List ℕ) (a : Answer) where
-  pub read_told : (s : State) (call : Read) (out : List ℕ) → StateRead state s
-      → Told.tells a f g e [] ≡ told (perform (world s f g e) (read_call call)) → out ≡ encode (a.one ∷ a.two ∷ [])
-      → Done.done a.number (Lent.lent state (encode f) (encode g) (encode e) [] out)
-      ≡ performed (perform (numbers_from state f g e) (read_call call))
-  read_told s call out u t q =
-      write_told state f g e s a (read_call call) u state f g e out t
-      (kept_state state f g e s a (read_call call) u f g e [] t (read_keeps (world s f g e) call)) q
+  pub first_fitting : Whole most_bucket_bytes (length first)
+  first_fitting = fitting.first_whole
 
--- From numbers to bytes
+  pub second_fitting : Whole most_bucket_bytes (length second)
+  second_fitting = fitting.second_whole
 
-module _ (state first second entries f g e : List ℕ) (u : Decoded first f) (v : Decoded second g) (w : Decoded entries e) where
-  same_world : numbers_from state f g e ≡ world_from state first second entries
-  unfolding numbers_from world_from
-  same_world = rw (u.read, v.read, w.read)
+  pub entries_fitting : Whole most_entry_bytes (length entries)
+  entries_fitting = fitting.entries_whole
 
-  bytes_done : (n : ℕ) (first' second' entries' list' out : List ℕ) (call : Call)
-      → Done.done n (Lent.lent state (encode f) (encode g) (encode e) list' out) ≡ performed (perform (numbers_from state f g e) call)
-      → first' ≡ encode f → second' ≡ encode g → entries' ≡ encode e
-      → Done.done n (Lent.lent state first' second' entries' list' out) ≡ performed (perform (world_from state first second entries) call)
-  bytes_done n first' second' entries' list' out call d p q r =
-      rw (p, q, r) (d ∙ ap (λ (x : World). performed (perform x call)) same_world)
+  pub state_fitting : length state ≡ state_bytes
+  state_fitting = fitting.state_length
 
-  pub read_done : (n : ℕ) (list' out : List ℕ) (call : Call)
-      → Done.done n (Lent.lent state (encode f) (encode g) (encode e) list' out) ≡ performed (perform (numbers_from state f g e) call)
-      → Done.done n (Lent.lent state first second entries list' out) ≡ performed (perform (world_from state first second entries) call)
-  read_done n list' out call d = bytes_done n first second entries list' out call d u.back v.back w.back
+  pub answer_fitting : length answer ≡ answer_bytes
+  answer_fitting = fitting.answer_length
+
+  pub init_run : (f g e f' g' e' first' second' entries' state' out : List ℕ) (capacity size : ℕ) (a : Answer)
+      → Decoded first f → Decoded second g → Decoded entries e
+      → Told.tells a f' g' e' [] ≡ told (perform (world (state_from (decode state)) f g e) (Call.init capacity size))
+      → first' ≡ encode f' → second' ≡ encode g' → entries' ≡ encode e'
+      → state' ≡ started_state a.number state (encode (state_numbers a.state)) → out ≡ encode (a.one ∷ a.two ∷ [])
+      → Done.done a.number (Lent.lent state' first' second' entries' [] out)
+      ≡ exported_init capacity size (Lent.lent state first second entries [] answer)
+  unfolding exported_init world_from encode
+  init_run f g e f' g' e' first' second' entries' state' out capacity size a u v w t x y z st p =
+      let s : State = state_from (decode state) in
+      let o : Outcome = perform (world s f g e) (Call.init capacity size) in
+      rw (sym q ∙ h, sym u.read, sym v.read, sym w.read)
+      (as_bytes a.number state' first' second' entries' [] out f' g' e' [] (a.one ∷ a.two ∷ []) _ x y z refl p
+      (bytes_told a f' g' e' [] o t state'
+      ∙ ap (λ (b : List ℕ). written b o)
+      (st
+      ∙ ap (λ (z : State). started_state a.number state (encode (state_numbers z))) (state_told a f' g' e' [] o t)
+      ∙ ap (λ (n : ℕ). started_state n state (encode (state_numbers o.reply.state))) (number_told a f' g' e' [] o t))))
+
+pub start_refused : (state first second entries answer : List ℕ) (t : Bool) (r : ℕ) (out : List ℕ) (capacity size : ℕ)
+    → t ≡ lengths_fit (length state) (length first) (length second) (length entries) 0 (length answer) → t ≡ false
+    → (r ≡ 1) × (out ≡ cleared answer)
+    → Done.done r (Lent.lent state first second entries [] out)
+    ≡ exported_init capacity size (Lent.lent state first second entries [] answer)
+unfolding exported_init refused
+start_refused state first second entries answer t r out capacity size q h d = rw (sym q ∙ h, d.0, d.1) refl
 
 -- numbers that a call left are as many as were read
 pub as_many : (bytes ns ns' : List ℕ) → Decoded bytes ns → length ns' ≡ length ns → length ns' * 4 ≡ length bytes

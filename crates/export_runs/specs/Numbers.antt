@@ -1,28 +1,24 @@
--- For the contracts of the code behind the first check: the room that it has for numbers, a call on numbers, and what that leaves,
--- as bytes. Nothing here is part of the promise.
-use Rattle.std.specs.Prelude.{ℕ, ◌/◌, ◌≡◌, List, length}
-use Rattle.little_endian.specs.Words.{decode, encode}
-use Rattle.model.specs.Sequences.{World, world, Outcome}
-use Rattle.lent_bytes.specs.Exports.{Done, state_numbers, state_from, answer_bytes, written, started_state}
-use Rattle.lent_bytes.specs.Checked.{StateFits}
+-- For the contracts of the code behind the first check. Nothing here is part of the promise.
+use Rattle.std.specs.Prelude.{ℕ, ◌≡◌, List}
+use denote.Ref.{MutBor}
+use Rattle.little_endian.specs.Words.{encode}
+use Rattle.little_endian.specs.Reading.{Decoded}
+use Rattle.export_calls.specs.declared.answers.Answer.{Answer}
 
--- as many numbers as a buffer has of at most so many bytes
-unfoldable pub room_for : ℕ → ℕ
-room_for most = most / 4
-
--- what the first check has shown of the state and the answer
-pub record Opened (state answer : List ℕ) : Type 0 where
-  pub fits : StateFits state
-  pub answer_length : length answer ≡ answer_bytes
-
--- the state is bytes, the buffers are numbers
-unfoldable pub numbers_from : (state first second entries : List ℕ) → World
-numbers_from state first second entries = world (state_from (decode state)) first second entries
-
--- What a call leaves that is given a state, and what a start leaves.
-
-unfoldable pub performed : Outcome → Done
-performed o = written (encode (state_numbers o.reply.state)) o
-
-unfoldable pub started : List ℕ → Outcome → Done
-started state o = written (started_state o.reply.number state (encode (state_numbers o.reply.state))) o
+-- A call on the numbers of three buffers, of which `post` is what is known: what it answers, and the bytes before and after.
+pub record Ran (post : MutBor (List ℕ) → MutBor (List ℕ) → MutBor (List ℕ) → Answer
+    → MutBor (List ℕ) → MutBor (List ℕ) → MutBor (List ℕ) → Type 0)
+    (first second entries : List ℕ) (a : Answer) (first' second' entries' : List ℕ) : Type 0 where
+  pub f : MutBor (List ℕ)
+  pub g : MutBor (List ℕ)
+  pub e : MutBor (List ℕ)
+  pub f' : MutBor (List ℕ)
+  pub g' : MutBor (List ℕ)
+  pub e' : MutBor (List ℕ)
+  pub first_read : Decoded first f.now
+  pub second_read : Decoded second g.now
+  pub entries_read : Decoded entries e.now
+  pub ran : post f g e a f' g' e'
+  pub first_written : first' ≡ encode f'.now
+  pub second_written : second' ≡ encode g'.now
+  pub entries_written : entries' ≡ encode e'.now

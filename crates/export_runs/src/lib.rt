@@ -2,7 +2,6 @@
 // is in lent_bytes/specs/Exports.antt.
 #![tactic(auto)]
 
-pub mod change;
 pub mod read;
 pub mod room;
 pub mod write;

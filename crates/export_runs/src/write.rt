@@ -1,106 +1,86 @@
-// The calls that write, and start. Each buffer in turn is made numbers, and bytes again behind the call. There is a function for
-// each buffer, since the proof of one function for all three would be long.
-ghost use Rattle.std.specs.Prelude.{◌≡◌, true, [], length};
-ghost use Rattle.little_endian.specs.Words.{decode, encode};
-ghost use Rattle.model.specs.Sequences.{perform};
-ghost use Rattle.lent_bytes.specs.Exports.{most_bucket_bytes, most_entry_bytes, exported_call, exported_init};
+// The calls that write, and start.
+ghost use Rattle.std.specs.Prelude.{◌≡◌, [], length};
+ghost use Rattle.model.specs.Sequences.{Call};
+ghost use Rattle.lent_bytes.specs.Exports.{most_bucket_bytes, most_entry_bytes, state_bytes, state_numbers, started_state, exported_call, exported_init};
 ghost use Rattle.lent_bytes.specs.Exports.Lent.{lent};
 ghost use Rattle.lent_bytes.specs.Exports.Done.{done};
 ghost use Rattle.lent_bytes.specs.Checked.{Whole};
-ghost use Rattle.export_calls.specs.Kinds.{write_call};
-ghost use Rattle.export_runs.specs.Numbers.{numbers_from};
-ghost use Rattle.export_runs.specs.Changes.{Ready, change_call, passes, leaves};
+ghost use Rattle.little_endian.specs.Words.{encode};
+ghost use Rattle.export_calls.specs.Kinds.{Writes};
+ghost use Rattle.export_runs.specs.Numbers.{Ran};
 
-use crate::change::{Change, on_numbers};
-use crate::room::{bucket_room, entry_room};
-use export_calls::calls::Write;
-use lent_bytes::answer::refuse;
-use lent_bytes::check::{do_lengths_fit, is_well_formed};
+use crate::room::{BUCKET_ROOM, ENTRY_ROOM};
+use dict_tables::init::init;
+use export_calls::answers::{Answer, of_init};
+use lent_bytes::answer::{refuse, write_answer};
+use lent_bytes::check::Lengths;
+use lent_bytes::state::write_state;
 use little_endian::{numbers_of, write_numbers};
+use model::State;
 
-fn with_entries(
-    state: &mut [u8],
-    first: &mut [u32],
-    second: &mut [u32],
-    entries: &mut [u8],
-    answer: &mut [u8],
-    change: Change,
-) -> u32
-    requires entries_whole { Whole most_entry_bytes (length entries.old) }
-    requires ready { Ready change state.old answer.old }
-    ensures { done result (lent state.new (encode first.new) (encode second.new) entries.new [] answer.new)
-        ≡ leaves change state.old (perform (numbers_from state.old first.old second.old (decode entries.old)) (change_call change)) }
-{
-    let mut room = entry_room();
-    let numbers = numbers_of(entries, &mut room);
-    let number = on_numbers(state, first, second, numbers, answer, change);
-    write_numbers(numbers, entries);
-    number
-}
-
-fn with_second(
-    state: &mut [u8],
-    first: &mut [u32],
+// The call is lent the buffers' numbers, which are bytes again behind it.
+fn on_numbers<F: FnOnce(&mut [u32], &mut [u32], &mut [u32]) -> Answer>(
+    first: &mut [u8],
     second: &mut [u8],
     entries: &mut [u8],
-    answer: &mut [u8],
-    change: Change,
-) -> u32
+    call: F,
+) -> Answer
+    requires first_whole { Whole most_bucket_bytes (length first.old) }
     requires second_whole { Whole most_bucket_bytes (length second.old) }
     requires entries_whole { Whole most_entry_bytes (length entries.old) }
-    requires ready { Ready change state.old answer.old }
-    ensures { done result (lent state.new (encode first.new) second.new entries.new [] answer.new)
-        ≡ leaves change state.old (perform (numbers_from state.old first.old (decode second.old) (decode entries.old)) (change_call change)) }
+    requires callable { F.IsAlwaysCallable call }
+    ensures { Ran (F.post call) first.old second.old entries.old result first.new second.new entries.new }
 {
-    let mut room = bucket_room();
-    let numbers = numbers_of(second, &mut room);
-    let number = with_entries(state, first, numbers, entries, answer, change);
-    write_numbers(numbers, second);
-    number
+    let mut first_room = [0; BUCKET_ROOM];
+    let mut second_room = [0; BUCKET_ROOM];
+    let mut entry_room = [0; ENTRY_ROOM];
+    let f = numbers_of(first, &mut first_room);
+    let g = numbers_of(second, &mut second_room);
+    let e = numbers_of(entries, &mut entry_room);
+    let a = call(f, g, e);
+    write_numbers(f, first);
+    write_numbers(g, second);
+    write_numbers(e, entries);
+    a
 }
 
-// The first check has passed.
-fn with_first(
+pub fn run_write<F: FnOnce(&mut [u32], &mut [u32], &mut [u32], State) -> Answer>(
     state: &mut [u8],
     first: &mut [u8],
     second: &mut [u8],
     entries: &mut [u8],
     answer: &mut [u8],
-    change: Change,
+    call: F,
 ) -> u32
-    requires { passes change state.old first.old second.old entries.old answer.old ≡ true }
-    ensures { done result (lent state.new first.new second.new entries.new [] answer.new)
-        ≡ leaves change state.old (perform (numbers_from state.old (decode first.old) (decode second.old) (decode entries.old)) (change_call change)) }
+    requires { F.IsAlwaysCallable call }
+    ensures { (c : Call) → Writes (F.post call) c
+        → done result (lent state.new first.new second.new entries.new [] answer.new)
+        ≡ exported_call c (lent state.old first.old second.old entries.old [] answer.old) }
 {
-    let mut room = bucket_room();
-    let numbers = numbers_of(first, &mut room);
-    let number = with_second(state, numbers, second, entries, answer, change);
-    write_numbers(numbers, first);
-    number
+    let lengths = Lengths {
+        first: first.len(),
+        second: second.len(),
+        entries: entries.len(),
+        list: 0,
+        answer: answer.len(),
+    };
+    let Some(s) = lengths.state(state) else {
+        return refuse(answer);
+    };
+    let a = on_numbers(first, second, entries, |f, g, e| call(f, g, e, s));
+    write_state(state, a.state);
+    write_answer(answer, a.one, a.two);
+    a.number
 }
 
-pub fn run_write(
-    state: &mut [u8],
-    first: &mut [u8],
-    second: &mut [u8],
-    entries: &mut [u8],
-    answer: &mut [u8],
-    call: Write,
-) -> u32
-    ensures { done result (lent state.new first.new second.new entries.new [] answer.new)
-        ≡ exported_call (write_call call) (lent state.old first.old second.old entries.old [] answer.old) }
+// A start writes the state only where it is answered 0.
+#[tactic(auto, unfolding(lent_bytes::specs::Exports::started_state))]
+fn write_started(state: &mut [u8], number: u32, s: State)
+    requires { length state.old ≡ state_bytes }
+    ensures { state.new ≡ started_state number state.old (encode (state_numbers s)) }
 {
-    if is_well_formed(
-        state,
-        first.len(),
-        second.len(),
-        entries.len(),
-        0,
-        answer.len(),
-    ) {
-        with_first(state, first, second, entries, answer, Change::Call(call))
-    } else {
-        refuse(answer)
+    if number == 0 {
+        write_state(state, s);
     }
 }
 
@@ -117,23 +97,23 @@ pub fn run_init(
     ensures { done result (lent state.new first.new second.new entries.new [] answer.new)
         ≡ exported_init capacity size (lent state.old first.old second.old entries.old [] answer.old) }
 {
-    if do_lengths_fit(
-        state.len(),
-        first.len(),
-        second.len(),
-        entries.len(),
-        0,
-        answer.len(),
-    ) {
-        with_first(
-            state,
-            first,
-            second,
-            entries,
-            answer,
-            Change::Start(capacity, size),
-        )
-    } else {
-        refuse(answer)
+    let lengths = Lengths {
+        first: first.len(),
+        second: second.len(),
+        entries: entries.len(),
+        list: 0,
+        answer: answer.len(),
+    };
+    if !lengths.fit(state) {
+        return refuse(answer);
     }
+    let a = on_numbers(
+        first,
+        second,
+        entries,
+        |f, g, e| of_init(init(f, g, e, capacity, size)),
+    );
+    write_started(state, a.number, a.state);
+    write_answer(answer, a.one, a.two);
+    a.number
 }

@@ -4,15 +4,30 @@
 #![tactic(auto)]
 
 ghost use Rattle.std.specs.Prelude.{◌≡◌, []};
+ghost use Rattle.model.specs.Sequences.{Call};
 ghost use Rattle.lent_bytes.specs.Exports.{Export, exported};
 ghost use Rattle.lent_bytes.specs.Exports.Lent.{lent};
 ghost use Rattle.lent_bytes.specs.Exports.Done.{done};
+ghost use Rattle.export_calls.specs.Kinds.{Answers};
 
-use export_calls::calls::{Listing, Read, Write};
+use dict_delete::delete::delete;
+use dict_find_update::find::find;
+use dict_find_update::update::update;
+use dict_grow::add::add;
+use dict_grow::allow::allow_resize;
+use dict_rehash::rehash::rehash_step;
+use dict_scan::scan::scan;
+use dict_suggest_look::suggest::suggested_size;
+use dict_tables::resize::resize;
+use export_calls::answers::{of_done, of_scan, of_state, of_step, of_value};
 use export_lists::run_list;
 use export_runs::read::run_read;
 use export_runs::write::{run_init, run_write};
+use iterator::iterate::iterate;
+use iterator::plain::{begin_iterator, end_iterator};
+use iterator::safe::{begin_safe, end_safe};
 use lent_bytes::answer::refuse;
+use lent_bytes::state::flag_of;
 
 // Makes an empty store. It reads no state, and writes one only where it returns 0.
 #[unsafe(no_mangle)]
@@ -44,7 +59,17 @@ pub extern "C" fn suspects_find(
     ensures { done result (lent state.now first.now second.now entries.now [] answer.new)
         ≡ exported (Export.find key) (lent state.now first.now second.now entries.now [] answer.old) }
 {
-    run_read(state, first, second, entries, answer, Read::Find(key))
+    run_read(
+        state,
+        first,
+        second,
+        entries,
+        answer,
+        |first, second, entries, s| of_value(
+            find(first, second, entries, s, key).map(u64::from),
+            s,
+        ),
+    )
 }
 
 #[unsafe(no_mangle)]
@@ -66,7 +91,7 @@ pub extern "C" fn suspects_update(
         second,
         entries,
         answer,
-        Write::Update(key, value),
+        |first, second, entries, s| of_done(update(first, second, entries, s, key, value), s),
     )
 }
 
@@ -89,7 +114,7 @@ pub extern "C" fn suspects_add(
         second,
         entries,
         answer,
-        Write::Add(key, value),
+        |first, second, entries, s| of_state(add(first, second, entries, s, key, value), s),
     )
 }
 
@@ -105,7 +130,14 @@ pub extern "C" fn suspects_delete(
     ensures { done result (lent state.new first.new second.new entries.new [] answer.new)
         ≡ exported (Export.delete key) (lent state.old first.old second.old entries.old [] answer.old) }
 {
-    run_write(state, first, second, entries, answer, Write::Delete(key))
+    run_write(
+        state,
+        first,
+        second,
+        entries,
+        answer,
+        |first, second, entries, s| of_state(delete(first, second, entries, s, key), s),
+    )
 }
 
 #[unsafe(no_mangle)]
@@ -120,7 +152,14 @@ pub extern "C" fn suspects_resize(
     ensures { done result (lent state.new first.new second.new entries.new [] answer.new)
         ≡ exported (Export.resize size) (lent state.old first.old second.old entries.old [] answer.old) }
 {
-    run_write(state, first, second, entries, answer, Write::Resize(size))
+    run_write(
+        state,
+        first,
+        second,
+        entries,
+        answer,
+        |first, second, entries, s| of_state(resize(first, second, entries, s, size), s),
+    )
 }
 
 // The answer: how many entries moved, then 1 while the rehash goes on.
@@ -135,7 +174,14 @@ pub extern "C" fn suspects_rehash_step(
     ensures { done result (lent state.new first.new second.new entries.new [] answer.new)
         ≡ exported Export.rehash_step (lent state.old first.old second.old entries.old [] answer.old) }
 {
-    run_write(state, first, second, entries, answer, Write::RehashStep)
+    run_write(
+        state,
+        first,
+        second,
+        entries,
+        answer,
+        |first, second, entries, s| of_step(rehash_step(first, second, entries, s), s),
+    )
 }
 
 // The answer: the next cursor, then the number of keys in the list.
@@ -159,7 +205,9 @@ pub extern "C" fn suspects_scan(
         entries,
         list,
         answer,
-        Listing::Scan(cursor),
+        |first, second, entries, list, s|
+            ensures { Answers (Call.scan cursor list.old) first.now second.now entries.now s result list.new }
+        { of_scan(scan(first, second, entries, list, s, cursor), s) },
     )
 }
 
@@ -184,7 +232,9 @@ pub extern "C" fn suspects_iterate(
         entries,
         list,
         answer,
-        Listing::Iterate(place),
+        |first, second, entries, list, s|
+            ensures { Answers (Call.iterate place list.old) first.now second.now entries.now s result list.new }
+        { of_scan(iterate(first, second, entries, list, s, place), s) },
     )
 }
 
@@ -200,7 +250,14 @@ pub extern "C" fn suspects_begin_iterator(
     ensures { done result (lent state.now first.now second.now entries.now [] answer.new)
         ≡ exported Export.begin_iterator (lent state.now first.now second.now entries.now [] answer.old) }
 {
-    run_read(state, first, second, entries, answer, Read::BeginIterator)
+    run_read(
+        state,
+        first,
+        second,
+        entries,
+        answer,
+        |first, second, entries, s| of_value(begin_iterator(first, second, entries, s), s),
+    )
 }
 
 #[unsafe(no_mangle)]
@@ -221,7 +278,10 @@ pub extern "C" fn suspects_end_iterator(
         second,
         entries,
         answer,
-        Read::EndIterator(fingerprint),
+        |first, second, entries, s| of_done(
+            end_iterator(first, second, entries, s, fingerprint),
+            s,
+        ),
     )
 }
 
@@ -236,7 +296,14 @@ pub extern "C" fn suspects_begin_safe(
     ensures { done result (lent state.new first.new second.new entries.new [] answer.new)
         ≡ exported Export.begin_safe (lent state.old first.old second.old entries.old [] answer.old) }
 {
-    run_write(state, first, second, entries, answer, Write::BeginSafe)
+    run_write(
+        state,
+        first,
+        second,
+        entries,
+        answer,
+        |first, second, entries, s| of_state(begin_safe(first, second, entries, s), s),
+    )
 }
 
 #[unsafe(no_mangle)]
@@ -250,7 +317,14 @@ pub extern "C" fn suspects_end_safe(
     ensures { done result (lent state.new first.new second.new entries.new [] answer.new)
         ≡ exported Export.end_safe (lent state.old first.old second.old entries.old [] answer.old) }
 {
-    run_write(state, first, second, entries, answer, Write::EndSafe)
+    run_write(
+        state,
+        first,
+        second,
+        entries,
+        answer,
+        |first, second, entries, s| of_state(end_safe(first, second, entries, s), s),
+    )
 }
 
 // The answer's first number is the size.
@@ -266,18 +340,20 @@ pub extern "C" fn suspects_suggested_size(
     ensures { done result (lent state.now first.now second.now entries.now [] answer.new)
         ≡ exported (Export.suggested_size growing) (lent state.now first.now second.now entries.now [] answer.old) }
 {
-    if growing > 1 {
-        refuse(answer)
-    } else {
-        run_read(
-            state,
-            first,
-            second,
-            entries,
-            answer,
-            Read::SuggestedSize(growing == 1),
-        )
-    }
+    let Some(growing) = flag_of(growing) else {
+        return refuse(answer);
+    };
+    run_read(
+        state,
+        first,
+        second,
+        entries,
+        answer,
+        |first, second, entries, s| of_value(
+            suggested_size(first, second, entries, s, growing).map(u64::from),
+            s,
+        ),
+    )
 }
 
 #[unsafe(no_mangle)]
@@ -292,16 +368,15 @@ pub extern "C" fn suspects_allow_resize(
     ensures { done result (lent state.new first.new second.new entries.new [] answer.new)
         ≡ exported (Export.allow_resize allowed) (lent state.old first.old second.old entries.old [] answer.old) }
 {
-    if allowed > 1 {
-        refuse(answer)
-    } else {
-        run_write(
-            state,
-            first,
-            second,
-            entries,
-            answer,
-            Write::AllowResize(allowed == 1),
-        )
-    }
+    let Some(allowed) = flag_of(allowed) else {
+        return refuse(answer);
+    };
+    run_write(
+        state,
+        first,
+        second,
+        entries,
+        answer,
+        |first, second, entries, s| of_state(allow_resize(first, second, entries, s, allowed), s),
+    )
 }

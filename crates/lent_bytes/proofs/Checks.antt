@@ -3,17 +3,17 @@
 use Prim.Native.Nat.{ℕ, ◌*◌, ◌/◌, ◌%◌}
 use native.Mathlib.Nat.{div-add-mod'}
 use native.Mathlib.Omega.{arith}
-use mathlib.Core.Path.{◌≡◌, sym, ap, ◌∙◌}
+use mathlib.Core.Path.{◌≡◌, refl, sym, ◌∙◌}
 use mathlib.Core.Bool.{Bool, true, false, ◌&&◌}
 use mathlib.Core.List.{List, [], ◌∷◌}
-use lib.ListN.{length, get_or}
-use lib.Dec.{leb, eqb}
+use lib.ListN.{length}
+use lib.Dec.{eqb}
 use Rattle.little_endian.specs.Words.{decode, encode}
-use Rattle.little_endian.specs.Reading.{Decoded}
 use Rattle.model.specs.declared.State.{State}
 use Rattle.model.proofs.Tests.{Tells, told, tested, tested_not, tells_true, tells_same, tells_and, tells_le, tells_eq}
-use Rattle.lent_bytes.specs.Exports.{flag, state_numbers, results, state_bytes, answer_bytes, most_bucket_bytes, most_entry_bytes, whole_up_to, lengths_fit, flags_fit, cleared}
-use Rattle.lent_bytes.specs.Checked.{Whole, Lengths, Checked}
+use Rattle.lent_bytes.specs.Exports.{results, state_bytes, answer_bytes, most_bucket_bytes, most_entry_bytes, whole_up_to, lengths_fit, flags_fit, cleared}
+use Rattle.lent_bytes.specs.Checked.{Whole, Lengths, Checked, StateGiven, Passed}
+use Rattle.std.specs.Prelude.{Option, Some, None, IfNone, IfSome}
 
 -- What the check shows
 
@@ -72,46 +72,18 @@ module _ (state : List ℕ) (first second entries list answer : ℕ) where
     pub whole_state : t ≡ true → length state ≡ state_bytes
     whole_state h = (lengths (length state) first second entries list answer t q h).state_length
 
-    pub flags_asked_lem : (r : Bool) → t ≡ true → r ≡ flags_fit (decode state)
-        → r ≡ (lengths_fit (length state) first second entries list answer && flags_fit (decode state))
-    flags_asked_lem r h e = rw (sym q ∙ h) e
+    pub flags_missing : (r : Option State) → t ≡ true → IfNone r (flags_fit (decode state) ≡ false)
+        → IfNone r ((lengths_fit (length state) first second entries list answer && flags_fit (decode state)) ≡ false)
+    flags_missing (Some s) h e = e
+    flags_missing None h e = rw (sym q ∙ h, e)
 
-    pub not_asked : t ≡ false → false ≡ (lengths_fit (length state) first second entries list answer && flags_fit (decode state))
-    not_asked h = rw (sym q ∙ h)
+    pub flags_present : (r : Option State) → t ≡ true → IfSome r (StateGiven state)
+        → IfSome r (Passed state first second entries list answer)
+    flags_present (Some s) h e = record { passed = rw (sym q ∙ h, e.fits.flags) refl; read = e.read }
+    flags_present None h e = e
 
-pub lengths_tested : (state first second entries list answer : ℕ) (a b d : Bool)
-    → a ≡ whole_up_to most_bucket_bytes first → b ≡ whole_up_to most_bucket_bytes second → d ≡ whole_up_to most_entry_bytes entries
-    → (eqb state state_bytes && eqb answer answer_bytes && a && b && d && eqb (list % 4) 0)
-    ≡ lengths_fit state first second entries list answer
-unfolding lengths_fit
-lengths_tested state first second entries list answer a b d p q r = rw (p, q, r)
-
-pub flags_tested : (state ns : List ℕ) → Decoded state ns
-    → (leb (get_or ns 0 0) 1 && leb (get_or ns 5 0) 1 && leb (get_or ns 9 0) 1) ≡ flags_fit (decode state)
-unfolding flags_fit
-flags_tested state ns d = ap flags_fit d.read
-
--- The state, written
-
-pub state_written : (s : State) (a b d : ℕ) (out : List ℕ)
-    → a ≡ flag s.second_is_current → b ≡ flag s.rehashing → d ≡ flag s.resize_allowed
-    → out
-    ≡ encode
-    (a
-    ∷ s.old_size
-    ∷ s.new_size
-    ∷ s.old_used
-    ∷ s.new_used
-    ∷ b
-    ∷ s.rehash_index
-    ∷ s.free_head
-    ∷ s.capacity
-    ∷ d
-    ∷ s.safe_iterators
-    ∷ [])
-    → out ≡ encode (state_numbers s)
-unfolding state_numbers
-state_written s a b d out p q r e = rw (p, q, r) at e
+    pub not_asked : t ≡ false → (lengths_fit (length state) first second entries list answer && flags_fit (decode state)) ≡ false
+    not_asked h = rw (sym q ∙ h) refl
 
 -- The answer, where the check fails
 

@@ -1,69 +1,71 @@
 // The state, as eleven numbers of four bytes.
-ghost use Rattle.std.specs.Prelude.{◌≡◌, length};
+ghost use Rattle.std.specs.Prelude.{◌≡◌, false, IfNone, IfSome, length};
 ghost use Rattle.little_endian.specs.Words.{decode, encode};
-ghost use Rattle.lent_bytes.specs.Exports.{flag, state_numbers, state_bytes, flags_fit};
-ghost use Rattle.lent_bytes.specs.Checked.{StateFits, StateRead};
+ghost use Rattle.lent_bytes.specs.Exports.{state_numbers, state_bytes, flags_fit};
+ghost use Rattle.lent_bytes.specs.Checked.{flag_from, StateGiven};
 
 use little_endian::{read_numbers, write_numbers};
 use model::State;
 
 const STATE_NUMBERS: usize = 11;
 
-// Whether no flag is above 1: second_is_current, rehashing, resize_allowed.
-pub fn do_flags_fit(state: &[u8]) -> bool
-    requires { length state.now ≡ state_bytes }
-    ensures { result ≡ flags_fit (decode state.now) }
+pub const STATE_BYTES: usize = 4 * STATE_NUMBERS;
+
+// A flag as a number: one above 1 is none.
+#[tactic(auto, unfolding(crate::specs::Checked::flag_from))]
+pub fn flag_of(number: u32) -> Option<bool>
+    ensures { result ≡ flag_from number }
 {
-    let mut n = [0u32; STATE_NUMBERS];
-    read_numbers(state, &mut n);
-    (n[0] <= 1) & (n[5] <= 1) & (n[9] <= 1)
+    match number {
+        0 => Some(false),
+        1 => Some(true),
+        _ => None,
+    }
 }
 
-pub fn read_state(state: &[u8]) -> State
-    requires { StateFits state.now }
-    ensures { StateRead state.now result }
+// None where a flag is above 1.
+#[tactic(auto, using(crate::proofs::Undoing::unfit_at_0, crate::proofs::Undoing::unfit_at_5, crate::proofs::Undoing::unfit_at_9,), unfolding(crate::specs::Exports::state_bytes))]
+pub fn read_state(state: &[u8]) -> Option<State>
+    requires { length state.now ≡ state_bytes }
+    ensures none { IfNone result (flags_fit (decode state.now) ≡ false) }
+    ensures some { IfSome result (λ s. StateGiven state.now s) }
 {
-    let mut n = [0u32; STATE_NUMBERS];
+    let mut n = [0; STATE_NUMBERS];
     read_numbers(state, &mut n);
-    State {
-        second_is_current: n[0] == 1,
+    let second_is_current = flag_of(n[0])?;
+    let rehashing = flag_of(n[5])?;
+    let resize_allowed = flag_of(n[9])?;
+    Some(State {
+        second_is_current,
         old_size: n[1],
         new_size: n[2],
         old_used: n[3],
         new_used: n[4],
-        rehashing: n[5] == 1,
+        rehashing,
         rehash_index: n[6],
         free_head: n[7],
         capacity: n[8],
-        resize_allowed: n[9] == 1,
+        resize_allowed,
         safe_iterators: n[10],
-    }
+    })
 }
 
-fn flag_number(on: bool) -> u32
-    ensures { result ≡ flag on }
-{
-    if on { 1 } else { 0 }
-}
-
+#[tactic(auto, unfolding(crate::specs::Exports::state_bytes, crate::specs::Exports::state_numbers, crate::specs::Exports::flag))]
 pub fn write_state(state: &mut [u8], s: State)
     requires { length state.old ≡ state_bytes }
     ensures { state.new ≡ encode (state_numbers s) }
 {
-    let second_is_current = flag_number(s.second_is_current);
-    let rehashing = flag_number(s.rehashing);
-    let resize_allowed = flag_number(s.resize_allowed);
     let n = [
-        second_is_current,
+        u32::from(s.second_is_current),
         s.old_size,
         s.new_size,
         s.old_used,
         s.new_used,
-        rehashing,
+        u32::from(s.rehashing),
         s.rehash_index,
         s.free_head,
         s.capacity,
-        resize_allowed,
+        u32::from(s.resize_allowed),
         s.safe_iterators,
     ];
     write_numbers(&n, state);

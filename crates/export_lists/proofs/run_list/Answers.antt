@@ -1,13 +1,26 @@
 -- `export_lists::run_list` meets its contract.
-use Rattle.lent_bytes.proofs.Checks.{checked}
-use Rattle.export_runs.proofs.Running.{list_passed, list_refused}
+use borrow.Author.Rules.{rules}
+use Rattle.export_runs.proofs.Running.{first_whole, second_whole, entries_whole, bucket_fits, entries_fit, answer_whole, list_refused, as_many}
+use Rattle.export_lists.proofs.Listing.{front_run}
 use Rattle.export_lists.proofs.run_list.Goals as goal
 
-pub on_bytes-requires : goal.on_bytes-requires
-on_bytes-requires c = search checked
+pub numbers_of-f-requires : goal.numbers_of-f-requires
+numbers_of-f-requires g c = search (rules, bucket_fits, first_whole, c.in-Some.ensures.some)
 
-pub returns-then-is_well_formed : goal.returns-then-is_well_formed
-returns-then-is_well_formed c = search list_passed
+pub numbers_of-g-requires : goal.numbers_of-g-requires
+numbers_of-g-requires g c = search (rules, bucket_fits, second_whole, c.in-Some.ensures.some)
 
-pub returns-else-is_well_formed : goal.returns-else-is_well_formed
-returns-else-is_well_formed c = search list_refused
+pub numbers_of-e-requires : goal.numbers_of-e-requires
+numbers_of-e-requires g c = search (rules, entries_fit, entries_whole, c.in-Some.ensures.some)
+
+pub write_numbers-requires : goal.write_numbers-requires
+write_numbers-requires g c = search as_many
+
+pub write_answer-requires : goal.write_answer-requires
+write_answer-requires g c = search (answer_whole, c.in-Some.ensures.some)
+
+pub returns-in_default : goal.returns-in_default
+returns-in_default g c = λ call is. search list_refused
+
+pub returns : goal.returns
+returns g c = λ call is. search (front_run, c.in-Some.ensures.some, is _ _ _ _ _ _ _ c.call-a.ensures)

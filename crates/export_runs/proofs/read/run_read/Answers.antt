@@ -1,13 +1,22 @@
 -- `export_runs::read::run_read` meets its contract.
-use Rattle.lent_bytes.proofs.Checks.{checked}
-use Rattle.export_runs.proofs.Running.{passed, not_passed}
+use borrow.Author.Rules.{rules}
+use Rattle.export_runs.proofs.Running.{first_whole, second_whole, entries_whole, bucket_fits, entries_fit, answer_whole, refused_call, read_run}
 use Rattle.export_runs.proofs.read.run_read.Goals as goal
 
-pub on_bytes-requires : goal.on_bytes-requires
-on_bytes-requires c = search checked
+pub numbers_of-f-requires : goal.numbers_of-f-requires
+numbers_of-f-requires g c = search (rules, bucket_fits, first_whole, c.in-Some.ensures.some)
 
-pub returns-then-is_well_formed : goal.returns-then-is_well_formed
-returns-then-is_well_formed c = search passed
+pub numbers_of-g-requires : goal.numbers_of-g-requires
+numbers_of-g-requires g c = search (rules, bucket_fits, second_whole, c.in-Some.ensures.some)
 
-pub returns-else-is_well_formed : goal.returns-else-is_well_formed
-returns-else-is_well_formed c = search not_passed
+pub numbers_of-e-requires : goal.numbers_of-e-requires
+numbers_of-e-requires g c = search (rules, entries_fit, entries_whole, c.in-Some.ensures.some)
+
+pub write_answer-requires : goal.write_answer-requires
+write_answer-requires g c = search (answer_whole, c.in-Some.ensures.some)
+
+pub returns-in_default : goal.returns-in_default
+returns-in_default g c = λ call is. search refused_call
+
+pub returns : goal.returns
+returns g c = λ call is. search (read_run, c.in-Some.ensures.some, is _ _ _ _ _ c.call-a.ensures)

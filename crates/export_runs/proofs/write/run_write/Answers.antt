@@ -1,13 +1,28 @@
 -- `export_runs::write::run_write` meets its contract.
-use Rattle.export_runs.proofs.Running.{not_passed}
-use Rattle.export_runs.proofs.Changing.{call_passes, call_done}
+use borrow.Author.Rules.{rules}
+use Rattle.export_runs.proofs.Running.{first_whole, second_whole, entries_whole, state_whole, answer_whole, refused_call, write_run}
 use Rattle.export_runs.proofs.write.run_write.Goals as goal
 
-pub with_first-requires : goal.with_first-requires
-with_first-requires c = search call_passes
+pub on_numbers-a-requires-clause-first_whole : goal.on_numbers-a-requires-clause-first_whole
+on_numbers-a-requires-clause-first_whole g c = search (first_whole, c.in-Some.ensures.some)
 
-pub returns-then-is_well_formed : goal.returns-then-is_well_formed
-returns-then-is_well_formed c = search call_done
+pub on_numbers-a-requires-clause-second_whole : goal.on_numbers-a-requires-clause-second_whole
+on_numbers-a-requires-clause-second_whole g c = search (second_whole, c.in-Some.ensures.some)
 
-pub returns-else-is_well_formed : goal.returns-else-is_well_formed
-returns-else-is_well_formed c = search not_passed
+pub on_numbers-a-requires-clause-entries_whole : goal.on_numbers-a-requires-clause-entries_whole
+on_numbers-a-requires-clause-entries_whole g c = search (entries_whole, c.in-Some.ensures.some)
+
+pub write_state-requires : goal.write_state-requires
+write_state-requires g c = search (state_whole, c.in-Some.ensures.some)
+
+pub write_answer-requires : goal.write_answer-requires
+write_answer-requires g c = search (answer_whole, c.in-Some.ensures.some)
+
+pub returns-in_default : goal.returns-in_default
+returns-in_default g c = λ call is. search refused_call
+
+pub returns : goal.returns
+returns g c = λ call is.
+    let r = c.on_numbers-a.ensures in
+    write_run _ _ _ _ _ _ c.in-Some.ensures.some _ _ _ _ _ _ _ _ _ _ _ call c.on_numbers-a.result r.first_read r.second_read r.entries_read
+    (search (rules, is, r.ran)) r.first_written r.second_written r.entries_written c.write_state.ensures c.write_answer.ensures

@@ -1,9 +1,0 @@
--- `export_runs::room::bucket_room` meets its contract.
-use borrow.Author.Rules.{rules}
-use Rattle.lent_bytes.specs.Exports.{most_bucket_bytes}
-use Rattle.export_runs.specs.Numbers.{room_for}
-use Rattle.export_runs.proofs.room.bucket_room.Goals as goal
-
-pub returns : goal.returns
-unfolding room_for most_bucket_bytes
-returns c = search rules

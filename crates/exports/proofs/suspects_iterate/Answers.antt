@@ -1,0 +1,7 @@
+-- `exports::suspects_iterate` meets its contract.
+use borrow.Author.Rules.{rules}
+use Rattle.export_lists.specs.Room.{Listing}
+use Rattle.exports.proofs.suspects_iterate.Goals as goal
+
+pub returns : goal.returns
+returns c = c.run_list.ensures (Listing.iterate c.args.place) (λ f g e l s a l' p. search (rules, p))

@@ -1,0 +1,9 @@
+-- `exports::suspects_resize` meets its contract.
+use borrow.Author.Rules.{rules}
+use Rattle.model.specs.Sequences.{Call, given, perform, world}
+use Rattle.export_calls.proofs.Telling.{left_tells}
+use Rattle.exports.proofs.suspects_resize.Goals as goal
+
+pub returns : goal.returns
+unfolding perform given world
+returns c = c.run_write.ensures (Call.resize c.args.size) (λ f g e s a f' g' e' p. search (rules, left_tells, p))

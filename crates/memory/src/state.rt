@@ -8,12 +8,10 @@ ghost use Rattle.memory.specs.Lent.{sound_lent};
 
 use model::{Error, LARGEST_CAPACITY, LARGEST_SIZE, MOST_SAFE_ITERATORS, State};
 
-// A power of two has one bit set, and one less has just the bits below it. At 0 the wrapped number does no harm.
 pub fn is_legal_size(n: u32) -> bool
     ensures { result ≡ legal_size n }
 {
-    let below = std::num::wrapping_sub_u32(n, 1);
-    (n != 0) & (n <= LARGEST_SIZE) & ((n & below) == 0)
+    (n <= LARGEST_SIZE) & n.is_power_of_two()
 }
 
 // Whether the entry buffer, of that length, is long enough for a capacity within the limit.

@@ -16,12 +16,10 @@ mod calls;
 ghost use Rattle.std.specs.Prelude.{◌≤◌, length};
 
 use calls::answer_calls;
-use lent_bytes::state::{do_flags_fit, read_state, write_state};
+use lent_bytes::state::{STATE_BYTES, read_state, write_state};
 use little_endian::{read_numbers, write_numbers};
 use model::State;
 use std::io::{self, ErrorKind, Read, Stdin, Stdout, Write};
-
-const STATE_BYTES: usize = 44;
 
 const BUCKET_ROOM: usize = 16;
 
@@ -58,11 +56,7 @@ fn put(output: &mut Stdout, numbers: &[u32]) -> io::Result<()>
 fn get_state(input: &mut Stdin) -> io::Result<State> {
     let mut bytes = [0; STATE_BYTES];
     input.read_exact(&mut bytes)?;
-    if do_flags_fit(&bytes) {
-        Ok(read_state(&bytes))
-    } else {
-        Err(ErrorKind::InvalidData.into())
-    }
+    read_state(&bytes).ok_or_else(|| ErrorKind::InvalidData.into())
 }
 
 #[tactic(auto, unfolding(lent_bytes::specs::Exports::state_bytes))]

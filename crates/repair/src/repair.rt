@@ -55,6 +55,7 @@ fn rebuild(
 
 // The state with the counts and the first free entry set right, and with the next bucket to rehash no further than the first
 // filled one.
+#[tactic(auto, using(repair_passes::proofs::Staged::recounted_by), unfolding(model::specs::Calls::state_of, model::specs::Calls::old_new, model::specs::Memory::size_of))]
 fn recount(current: &[u32], other: &[u32], entries: &[u32], s: State, free: u32) -> State
     requires current_countable { Countable current.now entries.now s.capacity s.old_size }
     requires other_countable { Countable other.now entries.now s.capacity s.new_size }
@@ -70,6 +71,7 @@ fn recount(current: &[u32], other: &[u32], entries: &[u32], s: State, free: u32)
     }
 }
 
+#[tactic(auto, unfolding(model::specs::Limits::largest_capacity))]
 fn repair_sound(current: &mut [u32], other: &mut [u32], entries: &mut [u32], s: State) -> State
     requires { Sound s (length current.old) (length other.old) (length entries.old) }
     ensures { after result current.new other.new entries.new

@@ -18,16 +18,15 @@ pub fn finds_itself(current: &[u32], other: &[u32], entries: &[u32], s: State, n
     ensures { result ≡ finds_itself s current.now other.now entries.now n }
 {
     let key = key_of(entries, n);
-    if s.rehashing {
-        let both = entry_in_both(
+    let found = if s.rehashing {
+        entry_in_both(
             current, other, entries, s.capacity, s.old_used, s.new_used, s.old_size, s.new_size,
             key,
-        );
-        found_is(both, n)
+        )
     } else {
-        let one = entry_in(entries, s.capacity, s.old_used, current, s.old_size, key);
-        found_is(one, n)
-    }
+        entry_in(entries, s.capacity, s.old_used, current, s.old_size, key)
+    };
+    found_is(found, n)
 }
 
 // How many entries are held.

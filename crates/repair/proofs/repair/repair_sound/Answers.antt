@@ -4,17 +4,9 @@ use Rattle.model.specs.Limits.{largest_capacity}
 use Rattle.repair_passes.proofs.Staged.{enough_marks, marked_sound, marked_long, old_countable, new_countable, index_countable, repaired_by_lem}
 use Rattle.repair.proofs.repair.repair_sound.Goals as goal
 
-pub slice_bounds-cut_and_mark-end : goal.slice_bounds-cut_and_mark-end
-unfolding largest_capacity
-slice_bounds-cut_and_mark-end c = search rules
-
 pub cut_and_mark-requires : goal.cut_and_mark-requires
 unfolding largest_capacity
 cut_and_mark-requires c = record { sound = search rules; marks_fit = search enough_marks }
-
-pub slice_bounds-rebuild-end : goal.slice_bounds-rebuild-end
-unfolding largest_capacity
-slice_bounds-rebuild-end c = search rules
 
 pub rebuild-free-requires : goal.rebuild-free-requires
 unfolding largest_capacity
@@ -30,18 +22,6 @@ recount-requires c = record {
   other_countable = new_countable _ _ _ _ c.requires largest_capacity c.requires.capacity_limit _ _ _ _ c.cut_and_mark.ensures _ _ _ _ c.rebuild-free.ensures;
   index_in_range = index_countable _ _ _ _ c.requires largest_capacity c.requires.capacity_limit _ _ _ _ c.cut_and_mark.ensures _ _ _ _ c.rebuild-free.ensures;
 }
-
-pub shape_of-current : goal.shape_of-current
-unfolding largest_capacity
-shape_of-current c = search rules
-
-pub shape_of-other : goal.shape_of-other
-unfolding largest_capacity
-shape_of-other c = search rules
-
-pub shape_of-entries : goal.shape_of-entries
-unfolding largest_capacity
-shape_of-entries c = search rules
 
 pub returns : goal.returns
 unfolding largest_capacity

@@ -1,63 +1,52 @@
 -- Counting a chain's entries, one a turn.
 -- Assumes nothing.
-use Rattle.std.proofs.Common.{◌≡◌, ℕ, suc, ◌+◌, ◌-◌, ◌≤◌, Bool, true, false, ◌||◌, eqb, ltb, List, ◌∷◌, sym, refl, ap, ◌∙◌, arith, Result, Ok, Err}
+use Rattle.std.proofs.Common.{◌≡◌, ℕ, ◌+◌, List, ◌∷◌, refl, ap, ◌∙◌, arith, Result, Ok, Err}
+use Rattle.std.specs.Result.{IsErrAnd}
+use Rattle.std.proofs.lemmas.Result.{err_from_is_err_and}
 use mathlib.Core.Option.{Option, none, some, map}
-use native.Mathlib.Nat.{sub_self}
-use Rattle.model.specs.Memory.{link_of, key_of, chain}
-use Rattle.model.proofs.Chains.{chain_end, chain_bad, chain_stray, chain_good, budget_left}
-use Rattle.memory.specs.Length.{length_of}
 use Rattle.model.specs.declared.Error.{Error}
+use Rattle.memory.specs.declared.chain.Chain.{Chain}
+use Rattle.memory.specs.Chains.{rest, AtEnd, Passed}
+use Rattle.memory.specs.Length.{length_of}
 
 -- a chain's length, with that many entries met before it
 pub grown : ℕ → Result ℕ Error → Result ℕ Error
 grown met (Err x) = Err x
 grown met (Ok n) = Ok (met + n)
 
--- what is left of the budget says how many entries were met, and they and the chain from here are the chain from the head
-pub record Counting (test : ℕ → Bool) (entries : List ℕ) (capacity budget head at left : ℕ) : Type 0 where
-  pub within : left ≤ budget
-  pub same : grown (budget - left) (length_of (chain test entries capacity left at)) ≡ length_of (chain test entries capacity budget head)
+-- the entries met and what is left of the chain are the whole chain, and the budget is not spent
+pub record Counting (budget count : ℕ) (c : Chain) (whole : Option (List ℕ)) : Type 0 where
+  pub within : count + c.budget ≡ budget
+  pub same : grown count (length_of (rest c)) ≡ length_of whole
 
-grown_none : (m : ℕ) (l : Result ℕ Error) → m ≡ 0 → grown m l ≡ l
+grown_none : (l : Result ℕ Error) → grown 0 l ≡ l
 unfolding grown
-grown_none m (Err x) e = refl
-grown_none m (Ok n) e = ap Ok (omega arith)
+grown_none (Err x) = refl
+grown_none (Ok n) = ap Ok (omega arith)
 
-grown_one : (m k n : ℕ) (o : Option (List ℕ)) → k ≡ suc m → grown k (length_of o) ≡ grown m (length_of (map (λ ns. n ∷ ns) o))
+grown_one : (m n : ℕ) (o : Option (List ℕ)) → grown (m + 1) (length_of o) ≡ grown m (length_of (map (λ ns. n ∷ ns) o))
 unfolding grown length_of
-grown_one m k n none e = refl
-grown_one m k n (some ns) e = ap Ok (omega arith)
+grown_one m n none = refl
+grown_one m n (some ns) = ap Ok (omega arith)
 
-module _ (test : ℕ → Bool) (entries : List ℕ) (capacity budget head : ℕ) where
-  pub counting_start : Counting test entries capacity budget head head budget
-  counting_start = record { within = omega arith; same = grown_none _ _ (sub_self budget) }
+pub counting_start : (c : Chain) → Counting c.budget 0 c (rest c)
+counting_start c = record { within = omega arith; same = grown_none _ }
 
-  module _ (at left : ℕ) (h : Counting test entries capacity budget head at left) where
-    pub counting_out : (at ≡ 0 → ⊥) → (eqb left 0 || ltb capacity at) ≡ true
-        → Err Error.Damaged ≡ length_of (chain test entries capacity budget head)
-    unfolding grown length_of
-    counting_out f t = rw (chain_bad test entries capacity left at f t) at h.same
+module _ (budget count : ℕ) (c : Chain) (whole : Option (List ℕ)) (h : Counting budget count c whole) where
+  pub counting_out : (x : Error) (r : Result ℕ Error) → (x ≡ Error.Damaged) × (rest c ≡ none) → IsErrAnd r (λ e. e ≡ x)
+      → r ≡ length_of whole
+  unfolding grown length_of
+  counting_out x r d g = let p = err_from_is_err_and r g in rw (p.1, p.2, d.0) (rw d.1 at h.same)
 
-    pub counting_stray : (k : ℕ) → (at ≡ 0 → ⊥) → (eqb left 0 || ltb capacity at) ≡ false → k ≡ key_of entries at
-        → test k ≡ false → Err Error.Damaged ≡ length_of (chain test entries capacity budget head)
-    unfolding grown length_of
-    counting_stray k f t ke p = rw (chain_stray test entries capacity left at f t (rw ke at p)) at h.same
+  pub counting_next : (n : ℕ) (d : Chain) → Passed c n d → Counting budget (count + 1) d whole
+  counting_next n d p =
+      let w = h.within in
+      let f = p.fewer in
+      record {
+        within = omega arith;
+        same = grown_one count n (rest d) ∙ (rw p.ahead at h.same);
+      }
 
-    pub counting_next : (k next : ℕ) → (at ≡ 0 → ⊥) → (eqb left 0 || ltb capacity at) ≡ false → k ≡ key_of entries at
-        → test k ≡ true → next ≡ link_of entries at → Counting test entries capacity budget head next (left - 1)
-    counting_next k next f t ke p e =
-        let l = budget_left capacity left at t in
-        let w = h.within in
-        record {
-          within = omega arith;
-          same =
-              rw e
-              (grown_one (budget - left) (budget - (left - 1)) at (chain test entries capacity (left - 1) (link_of entries at)) (omega arith)
-              ∙ ap (λ (o : Option (List ℕ)). grown (budget - left) (length_of o)) (sym (chain_good test entries capacity left at f t (rw ke at p)))
-              ∙ h.same);
-        }
-
-    pub counting_end : at ≡ 0 → Ok (budget - left) ≡ length_of (chain test entries capacity budget head)
-    unfolding grown length_of
-    counting_end e =
-        ap Ok (omega arith) ∙ (rw (chain_end test entries capacity left at e) at h.same)
+  pub counting_end : AtEnd c → Ok count ≡ length_of whole
+  unfolding grown length_of
+  counting_end e = ap Ok (omega arith) ∙ (rw e.nothing at h.same)

@@ -2,6 +2,7 @@
 -- current buffer, and what a chain's count says.
 mod Masks
 mod OneBit
+mod Stepping
 mod Counting
 pub mod Counted
 pub mod Tested

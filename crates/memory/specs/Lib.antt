@@ -1,2 +1,3 @@
 pub mod Length
 pub mod Lent
+pub mod Chains

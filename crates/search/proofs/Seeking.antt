@@ -1,17 +1,26 @@
 -- Searching a chain for a key's entry, one entry a turn.
 -- Assumes nothing.
-use Prim.Native.Nat.{ℕ, zero, suc, ◌-◌}
+use Prim.Native.Nat.{ℕ, zero, suc, ◌*◌, ◌<◌, ◌≤◌}
 use mathlib.Core.Path.{◌≡◌, refl, sym, ap, ◌∙◌}
-use mathlib.Core.Bool.{Bool, true, false, ◌||◌, ◌&&◌}
+use mathlib.Core.Bool.{Bool, true, false, ◌&&◌}
 use mathlib.Core.List.{List, [], ◌∷◌}
 use mathlib.Core.Option.{Option, none, some, map}
-use lib.Dec.{leb, ltb, eqb}
+use lib.Dec.{leb, eqb}
 use Rattle.model.specs.declared.Table.{Table}
-use Rattle.model.specs.Memory.{link_of, key_of, chain, met}
+use Rattle.model.specs.Keys.{bucket_of}
+use Rattle.model.specs.Memory.{link_of, key_of, chain, met, in_bucket}
 use Rattle.model.specs.Calls.{searched, first_with}
-use Rattle.model.proofs.Chains.{chain_end, chain_bad, chain_stray, chain_good}
 use Rattle.model.specs.declared.Error.{Error}
+use Rattle.std.specs.Result.{IsErrAnd}
+use Rattle.std.proofs.lemmas.Result.{err_from_is_err_and}
+use Rattle.std.proofs.Common.{Bor}
+use lib.ListN.{length, get_or}
+use Rattle.memory.specs.declared.chain.Chain.{Chain}
+use Rattle.memory.specs.Chains.{rest, AtEnd, Passed}
+use Rattle.memory.specs.Length.{bucket_chain}
 use Rattle.search.specs.Found.{Found, found_of}
+use Rattle.search.specs.Tables.{searched_in}
+use Rattle.search.proofs.Lookups.{looked_in}
 use Rattle.std.specs.Prelude.{Some, None, Ok, Err}
 use Rattle.std.specs.Option.{option_or}
 use Rattle.std.specs.Bool.{then_some}
@@ -28,8 +37,9 @@ seen entries key found none = Err Error.Damaged
 seen entries key found (some ns) = Ok (first_entry entries key found ns)
 
 -- the search from here is the search from the head
-pub record Seeking (test : ℕ → Bool) (entries : List ℕ) (capacity budget head key at : ℕ) (found : std.Option ℕ) (left : ℕ) : Type 0 where
-  pub same : seen entries key found (chain test entries capacity left at) ≡ seen entries key None (chain test entries capacity budget head)
+pub record Seeking (entries : List ℕ) (key : ℕ) (found : std.Option ℕ) (c : Chain) (whole : Option (List ℕ)) : Type 0 where
+  pub entries_same : c.entries.now ≡ entries
+  pub same : seen entries key found (rest c) ≡ seen entries key None whole
 
 module _ (entries : List ℕ) (key : ℕ) where
   one_more : (found : std.Option ℕ) (n : ℕ) (o : Option (List ℕ))
@@ -74,38 +84,40 @@ module _ (entries : List ℕ) (key : ℕ) where
       (chain test entries capacity budget (link_of entries (suc head)))
       (seen_searched test capacity table budget (link_of entries (suc head)) (suc head))
 
-module _ (test : ℕ → Bool) (entries : List ℕ) (capacity budget head key : ℕ) where
-  pub seeking_start : Seeking test entries capacity budget head key head None budget
-  seeking_start = record { same = refl }
+pub seeking_start : (key : ℕ) (c : Chain) → Seeking c.entries.now key None c (rest c)
+seeking_start key c = record { entries_same = refl; same = refl }
 
-  module _ (at : ℕ) (found : std.Option ℕ) (left : ℕ) (h : Seeking test entries capacity budget head key at found left) where
-    pub seeking_out : (at ≡ 0 → ⊥) → (eqb left 0 || ltb capacity at) ≡ true
-        → (t : Table) → Err Error.Damaged ≡ found_of (searched entries key t 0 (chain test entries capacity budget head))
-    unfolding seen
-    seeking_out f b t = (rw (chain_bad test entries capacity left at f b) at h.same) ∙ seen_searched entries key test capacity t budget head 0
+-- an entry that the chain came to is one of the buffer's
+module _ (entries : List ℕ) (key : ℕ) (found : std.Option ℕ) (c : Chain) (whole : Option (List ℕ))
+    (h : Seeking entries key found c whole) (n : ℕ) (d : Chain) (p : Passed c n d) where
+  pub seeking_entry : (0 < n) × (n * 3 ≤ length entries)
+  seeking_entry = (p.entry_some, rw h.entries_same at p.entry_fits)
 
-    pub seeking_stray : (k : ℕ) → (at ≡ 0 → ⊥) → (eqb left 0 || ltb capacity at) ≡ false → k ≡ key_of entries at
-        → test k ≡ false
-        → (t : Table) → Err Error.Damaged ≡ found_of (searched entries key t 0 (chain test entries capacity budget head))
-    unfolding seen
-    seeking_stray k f b e p t =
-        (rw (chain_stray test entries capacity left at f b (rw e at p)) at h.same)
-        ∙ seen_searched entries key test capacity t budget head 0
+  pub seeking_next : (k : ℕ) (this now : std.Option ℕ) → k ≡ key_of entries n → this ≡ then_some (eqb k key) n
+      → now ≡ option_or found this → Seeking entries key now d whole
+  seeking_next k this now ke te fe =
+      record {
+        entries_same = ap (λ (b : Bor (List ℕ)). b.now) p.entries_same ∙ h.entries_same;
+        same = rw (fe, te, ke) (one_more entries key found n (rest d) ∙ (rw p.ahead at h.same));
+      }
 
-    pub seeking_end : at ≡ 0
-        → (t : Table) → Ok found ≡ found_of (searched entries key t 0 (chain test entries capacity budget head))
-    unfolding seen first_entry
-    seeking_end e t =
-        (rw (chain_end test entries capacity left at e) at h.same) ∙ seen_searched entries key test capacity t budget head 0
+-- the chain of the key's bucket
+module _ (entries : List ℕ) (capacity used : ℕ) (buckets : List ℕ) (size key bucket : ℕ) (b : bucket ≡ bucket_of key size)
+    (found : std.Option ℕ) (c : Chain)
+    (h : Seeking entries key found c (bucket_chain size entries capacity used buckets bucket)) where
+  from_head : (r : Found) → seen entries key found (rest c) ≡ r → (t : Table)
+      → r ≡ found_of (searched_in entries capacity used buckets size key t)
+  from_head r e t =
+      sym e ∙ h.same
+      ∙ seen_searched entries key (in_bucket size bucket) capacity t used (get_or buckets bucket 0) 0
+      ∙ ap found_of (looked_in entries capacity used buckets size key bucket t _ b refl)
 
-    pub seeking_next : (k next : ℕ) (this now : std.Option ℕ) → (at ≡ 0 → ⊥) → (eqb left 0 || ltb capacity at) ≡ false
-        → k ≡ key_of entries at → test k ≡ true → this ≡ then_some (eqb k key) at → now ≡ option_or found this → next ≡ link_of entries at
-        → Seeking test entries capacity budget head key next now (left - 1)
-    seeking_next k next this now f b ke p te fe ne =
-        record {
-          same =
-              rw (fe, te, ke, ne)
-              (one_more entries key found at (chain test entries capacity (left - 1) (link_of entries at))
-              ∙ ap (seen entries key found) (sym (chain_good test entries capacity left at f b (rw ke at p)))
-              ∙ h.same);
-        }
+  pub seeking_out : (x : Error) (r : Found) → (x ≡ Error.Damaged) × (rest c ≡ none) → IsErrAnd r (λ e. e ≡ x) → (t : Table)
+      → r ≡ found_of (searched_in entries capacity used buckets size key t)
+  unfolding seen
+  seeking_out x r d g t =
+      let p = err_from_is_err_and r g in from_head r (ap (seen entries key found) d.1 ∙ sym (rw (p.1, p.2, d.0))) t
+
+  pub seeking_end : AtEnd c → (t : Table) → Ok found ≡ found_of (searched_in entries capacity used buckets size key t)
+  unfolding seen first_entry
+  seeking_end e t = from_head (Ok found) (ap (seen entries key found) e.nothing) t

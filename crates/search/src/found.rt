@@ -1,14 +1,13 @@
 // The entry that holds a key: for find, update and add, and for the check and the repair of the whole store.
-ghost use Rattle.std.specs.Prelude.{◌≡◌, true, ◌*◌, ◌≤◌, length};
+ghost use Rattle.std.specs.Prelude.{◌≡◌, length};
 ghost use Rattle.model.specs.declared.Table.{Table};
-ghost use Rattle.model.specs.Limits.{legal_size};
-ghost use Rattle.model.specs.Memory.{chain, in_bucket};
-ghost use Rattle.model.specs.Calls.{searched, both, lookup};
+ghost use Rattle.model.specs.Calls.{both, lookup};
 ghost use Rattle.model.proofs.Soundness.{Sound};
 ghost use Rattle.search.specs.Tables.{searched_in, Readable};
 ghost use Rattle.search.specs.Found.{found_of, found_is, Inside};
 
-use memory::entry::{key_of, link_of};
+use memory::chain::Chain;
+use memory::entry::key_of;
 use memory::state::bucket_index;
 use model::{Error, State};
 
@@ -20,41 +19,8 @@ pub fn found_is(found: Result<Option<u32>, Error>, n: u32) -> bool
     matches!(found, Ok(Some(m)) if m == n)
 }
 
-// The first entry with the key, on the chain of bucket b in a table of that size. One loop reads the whole chain: it must
-// be sound to its end.
-fn search_entry(
-    entries: &[u32],
-    capacity: u32,
-    budget: u32,
-    head: u32,
-    size: u32,
-    b: usize,
-    key: u32,
-) -> Result<Option<u32>, Error>
-    requires entries_fit { capacity * 3 ≤ length entries.now }
-    requires legal { legal_size size ≡ true }
-    ensures { (t : Table) → result ≡ found_of (searched entries.now key t 0
-        (chain (in_bucket size b) entries.now capacity budget head)) }
-{
-    let mut at = head;
-    let mut found = None;
-    let mut left = budget;
-    while at != 0 {
-        if (left == 0) | (capacity < at) {
-            return Err(Error::Damaged);
-        }
-        let met = key_of(entries, at);
-        if bucket_index(met, size) != b {
-            return Err(Error::Damaged);
-        }
-        left -= 1;
-        found = found.or((met == key).then_some(at));
-        at = link_of(entries, at);
-    }
-    Ok(found)
-}
-
-// The key's entry in one table.
+// The key's entry in one table: the first with the key, on the chain of its bucket. The whole chain is read, which must be sound
+// to its end.
 pub fn entry_in(
     entries: &[u32],
     capacity: u32,
@@ -66,8 +32,20 @@ pub fn entry_in(
     requires { Readable size (length buckets.now) capacity (length entries.now) }
     ensures { (t : Table) → result ≡ found_of (searched_in entries.now capacity used buckets.now size key t) }
 {
-    let b = bucket_index(key, size);
-    search_entry(entries, capacity, used, buckets[b], size, b, key)
+    let bucket = bucket_index(key, size);
+    let mut chain = Chain {
+        entries,
+        capacity,
+        size,
+        bucket,
+        at: buckets[bucket],
+        budget: used,
+    };
+    let mut found = None;
+    while let Some(n) = chain.next()? {
+        found = found.or((key_of(entries, n) == key).then_some(n));
+    }
+    Ok(found)
 }
 
 // The key's entry in both tables, during a rehash.

@@ -1,64 +1,16 @@
 // The way to the entry that holds a key: for delete, which takes the entry off its chain.
-ghost use Rattle.std.specs.Prelude.{◌≡◌, true, cond, ◌*◌, ◌≤◌, length};
-ghost use Rattle.model.specs.Limits.{legal_size};
-ghost use Rattle.model.specs.Memory.{chain, in_bucket};
-ghost use Rattle.model.specs.Calls.{searched, both, lookup};
+ghost use Rattle.std.specs.Prelude.{◌≡◌, length};
+ghost use Rattle.model.specs.Calls.{both, lookup};
 ghost use Rattle.model.proofs.Soundness.{Sound};
 ghost use Rattle.search.specs.Tables.{searched_in, Readable};
 
-use memory::entry::{key_of, link_of};
-use memory::state::{bucket_index, choose};
+use memory::chain::Chain;
+use memory::entry::key_of;
+use memory::state::bucket_index;
 use model::{Lookup, State, Table};
 
-// The first entry with the key, on the chain of bucket b in a table of that size. One loop reads the whole chain, which must
-// be sound to its end, and keeps that entry and the one before it. 0 is none.
-fn search_chain(
-    entries: &[u32],
-    capacity: u32,
-    budget: u32,
-    head: u32,
-    size: u32,
-    b: usize,
-    key: u32,
-    table: Table,
-) -> Lookup
-    requires entries_fit { capacity * 3 ≤ length entries.now }
-    requires legal { legal_size size ≡ true }
-    ensures { result ≡ searched entries.now key table 0
-        (chain (in_bucket size b) entries.now capacity budget head) }
-{
-    let mut at = head;
-    let mut last = 0;
-    let mut before = 0;
-    let mut entry = 0;
-    let mut left = budget;
-    while at != 0 {
-        if (left == 0) | (capacity < at) {
-            return Lookup::Damaged;
-        }
-        let met = key_of(entries, at);
-        if bucket_index(met, size) != b {
-            return Lookup::Damaged;
-        }
-        let first = (entry == 0) & (met == key);
-        before = choose(first, last, before);
-        entry = choose(first, at, entry);
-        last = at;
-        at = link_of(entries, at);
-        left -= 1;
-    }
-    if entry == 0 {
-        Lookup::Absent
-    } else {
-        Lookup::At {
-            table,
-            before,
-            entry,
-        }
-    }
-}
-
-// The key in one table.
+// The key in one table: the first entry with it, on the chain of its bucket, and the entry before. The whole chain is read, which
+// must be sound to its end.
 pub fn lookup_in(
     table: Table,
     entries: &[u32],
@@ -71,8 +23,35 @@ pub fn lookup_in(
     requires { Readable size (length buckets.now) capacity (length entries.now) }
     ensures { result ≡ searched_in entries.now capacity used buckets.now size key table }
 {
-    let b = bucket_index(key, size);
-    search_chain(entries, capacity, used, buckets[b], size, b, key, table)
+    let bucket = bucket_index(key, size);
+    let mut chain = Chain {
+        entries,
+        capacity,
+        size,
+        bucket,
+        at: buckets[bucket],
+        budget: used,
+    };
+    let mut found = Lookup::Absent;
+    let mut before = 0;
+    loop {
+        let Ok(next) = chain.next() else {
+            return Lookup::Damaged;
+        };
+        let Some(entry) = next else {
+            return found;
+        };
+        if let Lookup::Absent = found {
+            if key_of(entries, entry) == key {
+                found = Lookup::At {
+                    table,
+                    before,
+                    entry,
+                };
+            }
+        }
+        before = entry;
+    }
 }
 
 // Both chains must be sound, and the old table's entry comes first.

@@ -1,35 +1,15 @@
--- The goals of `chain_length` that the search leaves.
-use Rattle.std.proofs.Common.{arith}
-use Rattle.model.proofs.Chains.{budget_left, in_range, bucket_same, bucket_other}
-use Rattle.memory.proofs.Counting.{counting_start, counting_out, counting_stray, counting_next, counting_end}
+-- `memory::chain::chain_length` meets its contract: each way out, by what the step along the chain came to.
+use Rattle.memory.proofs.Counting.{counting_start, counting_out, counting_next, counting_end}
 use Rattle.memory.proofs.chain.chain_length.Goals as goal
 
-pub loop-at-init : goal.loop-at-init
-loop-at-init c = search counting_start
+pub loop-count-init : goal.loop-count-init
+loop-count-init c = counting_start _
 
-pub returns-then-left-capacity : goal.returns-then-left-capacity
-returns-then-left-capacity c = search counting_out
+pub returns-in_err-next : goal.returns-in_err-next
+returns-in_err-next c = counting_out _ _ _ _ c.loop-count.invariant _ _ c.in_err-next.ensures c.from_residual.ensures.1
 
-pub key_of-requires : goal.key_of-requires
-key_of-requires c = omega (arith, in_range)
-
-pub returns-then-bucket_index-b : goal.returns-then-bucket_index-b
-returns-then-bucket_index-b c = search (counting_stray, bucket_other)
-
-pub link_of-at-requires : goal.link_of-at-requires
-link_of-at-requires c = omega (arith, in_range)
-
-pub overflow_sub-left : goal.overflow_sub-left
-overflow_sub-left c = omega (arith, budget_left)
-
-pub loop-at-smaller : goal.loop-at-smaller
-loop-at-smaller c = omega (arith, budget_left)
-
-pub loop-at-preserved : goal.loop-at-preserved
-loop-at-preserved c = search (counting_next, bucket_same)
-
-pub overflow_sub-result : goal.overflow_sub-result
-overflow_sub-result c = omega arith
+pub loop-count-preserved : goal.loop-count-preserved
+loop-count-preserved c = counting_next _ _ _ _ c.loop-count.invariant _ _ (rw c.in-Some.is at c.in_ok-next.ensures)
 
 pub returns : goal.returns
-returns c = search counting_end
+returns c = counting_end _ _ _ _ c.loop-count.invariant (rw c.in_default.is at c.in_ok-next.ensures)

@@ -19,7 +19,7 @@ use Rattle.model.proofs.Chains.{chain_end}
 use Rattle.model.proofs.Linked.{Linked, read_sound, linked_distinct, linked_in_range}
 use Rattle.model.proofs.Shared.{shared_last}
 use Rattle.memory.specs.Length.{bucket_chain}
-use Rattle.dict_rehash.specs.Progress.{chains}
+use Rattle.dict_rehash.specs.MovedChains.{chains}
 use Rattle.after_step.specs.Told.{of_bucket, how_many}
 use Rattle.model.proofs.Moved.{moved_key, moved_link}
 use Rattle.after_step.proofs.SameChains.{chain_same}

@@ -18,20 +18,17 @@ use Rattle.model.specs.declared.Error.{Error}
 use Rattle.model.specs.declared.Ahead.{Ahead}
 use Rattle.model.specs.Keys.{bucket_of}
 use Rattle.model.specs.Memory.{link_of}
-use Rattle.model.specs.Calls.{After, oriented, back, both, moved_chain, moved_from, ahead_of, step_taken, stepped, rehash_step, step_due}
+use Rattle.model.specs.Calls.{After, both, moved_chain, moved_from, ahead_of, step_taken, step_done, settled, advanced}
 use Rattle.model.proofs.Soundness.{Sound}
 use Rattle.model.proofs.Moved.{moved_link}
-use Rattle.memory.specs.Lent.{sound_lent}
 use Rattle.memory.specs.Length.{bucket_chain}
-use Rattle.memory.proofs.Orientation.{read_first, read_second, written_first, written_second, writing_sound}
 use Rattle.search.specs.Found.{Found, found_of}
 use Rattle.search.specs.Tables.{searched_in}
-use Rattle.dict_rehash.specs.Progress.{step_answer, did, old_chain, chains, ChainOf}
-use Rattle.dict_rehash.proofs.Due.{due_stepped}
+use Rattle.dict_rehash.specs.MovedChains.{old_chain, chains, ChainOf}
 use Rattle.dict_rehash.proofs.Stepping.{old_linked, chain_of_lem, next_end, next_empty, step_finished, step_moved}
 use Rattle.after_step.specs.declared.presence.Survey.{Survey}
 use Rattle.after_step.specs.declared.course.ChainSight.{ChainSight}
-use Rattle.after_step.specs.Presence.{presence_after, presence_then, entries_after}
+use Rattle.after_step.specs.Presence.{presence_then, entries_after}
 use Rattle.after_step.specs.Told.{among, surveyed, found_presence, new_then, old_then, tables_then, Moves}
 use Rattle.after_step.specs.Links.{LinkMoved}
 use Rattle.after_step.specs.Course.{Course, Foresight, sight, GoesChain, Goes, Foreseen, ForeseenChain}
@@ -46,7 +43,7 @@ module _ (s : State) (current other entries : List ℕ) (b key c n : ℕ) where
   pub foreseen_unsound : (r : Result ChainSight Error) (x : Error) → IsErrAnd r (λ e. e ≡ x)
       → Err x ≡ surveyed entries s.new_size c key n (old_chain s current entries b)
       → ForeseenChain s current other entries key n (moved_chain s current other entries b (old_chain s current entries b)) b r
-  unfolding ForeseenChain Goes moved_chain step_answer
+  unfolding ForeseenChain Goes moved_chain
   foreseen_unsound r x h e =
       let (no_chain, damaged) = surveyed_none entries s.new_size c key n x (old_chain s current entries b) e in
       rw (exit_is r x h) (
@@ -154,22 +151,22 @@ module _ (s : State) (current other entries : List ℕ) (key n : ℕ) where
         (searched_in entries s.capacity s.new_used other s.new_size key Table.New))
         → x ≡ found_presence y
         → Foreseen s current other entries key n (moved_from s current other entries o) (sight x (Course.Still b))
-    unfolding Goes
+    unfolding Goes step_done
     foreseen_empty b e l y x g h =
         record {
           told = ahead_empty s key current other entries r o f b e l y x g h;
-          goes = next_empty s current other entries r o f b e;
+          goes = next_empty s current other entries r o f b (settled (advanced s 0 b)) e refl;
         }
 
   pub foreseen_ended : s.old_used ≡ 0 → (y : Found) (x : Result Bool Error)
       → ((t : Table) → y ≡ found_of (searched_in entries s.capacity s.new_used other s.new_size key t))
       → x ≡ found_presence y
       → Foreseen s current other entries key n (step_taken s current other entries) (sight x (Course.Still s.rehash_index))
-  unfolding Goes
+  unfolding Goes step_done
   foreseen_ended z y x g h =
       record {
         told = step_ended s key current other entries z y x g h;
-        goes = step_finished s current other entries z;
+        goes = step_finished s current other entries (settled (advanced s 0 s.rehash_index)) z refl;
       }
 
   pub foreseen_ahead : (s.old_used ≡ 0 → ⊥) → (x : Foresight)
@@ -210,7 +207,7 @@ module _ (s : State) (current other entries : List ℕ) (n : ℕ) (a : After (Re
 
   module _ (course : Course) (g : Goes s current other entries n a course) where
     pub goes_still : (next : ℕ) → course ≡ Course.Still next
-        → After.after (step_answer s (did 0 next)) current other entries ≡ a
+        → After.after (step_done s 0 next) current other entries ≡ a
     unfolding Goes
     goes_still next e = rw e at g
 
@@ -218,45 +215,3 @@ module _ (s : State) (current other entries : List ℕ) (n : ℕ) (a : After (Re
         → link ≡ link_of (entries_after a) n
     unfolding entries_after
     link_still next e link l = l ∙ ap (λ (x : After (Result (ℕ × State) Error)). link_of (entries_after x) n) (goes_still next e)
-
--- ---- on the lent buffers, where a step is due
-
-module _ (s : State) (first second entries : List ℕ) (h : sound_lent (length first) (length second) (length entries) s ≡ true)
-    (d : step_due s ≡ true) where
-  pub taken_first : (a : Result (ℕ × State) Error) (x y z : List ℕ) → s.second_is_current ≡ false
-      → After.after a x y z ≡ step_taken s first second entries → After.after a x y z ≡ rehash_step s first second entries
-  unfolding rehash_step
-  taken_first a x y z f e =
-      writing_sound s first second entries true (sym h) _ _ _ refl
-      (written_first _ _ first second _ x y z f (e ∙ due_stepped s d first second entries))
-
-  pub taken_second : (a : Result (ℕ × State) Error) (x y z : List ℕ) → s.second_is_current ≡ true
-      → After.after a y x z ≡ step_taken s second first entries → After.after a x y z ≡ rehash_step s first second entries
-  unfolding rehash_step
-  taken_second a x y z f e =
-      writing_sound s first second entries true (sym h) _ _ _ refl
-      (written_second _ _ first second _ y x z f (e ∙ due_stepped s d second first entries))
-
-  abbrev step_on : List ℕ → List ℕ → After (Result (ℕ × State) Error)
-  step_on current other = stepped s current other entries s.rehashing
-
-  -- what a lookup answers after it
-  told_lent : (key : ℕ) (current other : List ℕ) → step_on current other ≡ oriented s.second_is_current step_on first second
-      → (x : Result Bool Error) → x ≡ presence_then key s.second_is_current (step_taken s current other entries)
-      → x ≡ presence_after key (rehash_step s first second entries)
-  unfolding presence_then rehash_step
-  told_lent key current other o x e =
-      e
-      ∙ ap (λ (a : After (Result (ℕ × State) Error)). presence_after key (back s.second_is_current a)) (due_stepped s d current other entries ∙ o)
-      ∙ ap (presence_after key)
-      (writing_sound s first second entries true (sym h) (Err Error.BadState) step_on _ refl refl)
-
-  pub told_first : (key : ℕ) (x : Result Bool Error) → s.second_is_current ≡ false
-      → x ≡ presence_then key s.second_is_current (step_taken s first second entries)
-      → x ≡ presence_after key (rehash_step s first second entries)
-  told_first key x f e = told_lent key first second (read_first _ step_on first second _ f refl) x e
-
-  pub told_second : (key : ℕ) (x : Result Bool Error) → s.second_is_current ≡ true
-      → x ≡ presence_then key s.second_is_current (step_taken s second first entries)
-      → x ≡ presence_after key (rehash_step s first second entries)
-  told_second key x f e = told_lent key second first (read_second _ step_on first second _ f refl) x e

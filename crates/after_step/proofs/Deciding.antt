@@ -16,16 +16,14 @@ use Rattle.model.specs.declared.Table.{Table}
 use Rattle.model.specs.declared.Error.{Error}
 use Rattle.model.specs.declared.Ahead.{Ahead}
 use Rattle.model.specs.Keys.{bucket_of}
-use Rattle.model.specs.Limits.{legal_size}
 use Rattle.model.specs.Memory.{in_bucket, last_or}
 use Rattle.model.specs.Calls.{both, ahead, moved_chain, moved_from, step_taken}
 use Rattle.model.proofs.Linked.{read_sound}
-use Rattle.model.proofs.Soundness.{Sound}
 use Rattle.model.proofs.StepAhead.{Comes, ahead_comes}
 use Rattle.memory.specs.Length.{bucket_chain}
 use Rattle.search.specs.Found.{Found, found_of}
 use Rattle.search.specs.Tables.{searched_in}
-use Rattle.dict_rehash.specs.Progress.{old_chain}
+use Rattle.dict_rehash.specs.MovedChains.{old_chain}
 use Rattle.after_step.specs.declared.presence.Survey.{Survey}
 use Rattle.after_step.specs.Presence.{presence, presence_then}
 use Rattle.after_step.specs.Told.{of_bucket, how_many, has, among, surveyed, found_presence, either, new_then, old_then, tables_then, Moves}
@@ -132,10 +130,6 @@ module _ (s : State) (current other entries : List ℕ) (b key left budget last 
 
 -- ---- the chain of bucket b of the old table moves
 
-pub new_legal : (s : State) (current other entries : List ℕ) (b : ℕ) → Moves s current other entries b
-    → legal_size s.new_size ≡ true
-new_legal s current other entries b h = (h.sound.rehashing h.rehashing).new_legal
-
 module _ (s : State) (current other entries : List ℕ) (b key c n : ℕ) where
   pub moving_unsound : (x : Error) → Err x ≡ surveyed entries s.new_size c key n (old_chain s current entries b)
       → Err x ≡ presence_then key s.second_is_current (moved_chain s current other entries b (old_chain s current entries b))
@@ -184,11 +178,6 @@ module _ (s : State) (current other entries : List ℕ) (b key c n : ℕ) where
         ∙ ap (λ (o : Option (List ℕ)). presence_then key s.second_is_current (moved_chain s current other entries b o)) (sym read)
 
 -- ---- what comes from the next bucket on
-
--- the next bucket is one of the old table's, or its end
-pub index_fits : (s : State) (current other entries : ℕ) → Sound s current other entries → s.rehashing ≡ true
-    → s.rehash_index ≤ s.old_size
-index_fits s current other entries h e = (h.rehashing e).index_fits
 
 -- a filled bucket lies in the table, and has a first entry
 module _ (r : Ahead) (buckets : List ℕ) (from size visits : ℕ) (e : r ≡ ahead buckets from (size - from) visits) (l : from ≤ size)

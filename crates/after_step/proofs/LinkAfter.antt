@@ -18,7 +18,7 @@ use Rattle.model.specs.Calls.{Chains, push, moved}
 use Rattle.model.proofs.Fields.{length_set_link, link_set_same, key_set_link}
 use Rattle.model.proofs.Moved.{moved_link}
 use Rattle.model.proofs.Linked.{Linked, room, linked_unique, linked_distinct, linked_head, linked_first, link_set_other}
-use Rattle.dict_rehash.specs.Progress.{ChainOf}
+use Rattle.dict_rehash.specs.MovedChains.{ChainOf}
 use Rattle.after_step.specs.Links.{LinkMoved}
 
 -- ---- a chain moved

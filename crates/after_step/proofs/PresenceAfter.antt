@@ -24,7 +24,7 @@ use Rattle.memory.specs.Length.{bucket_chain}
 use Rattle.memory.proofs.Orientation.{read_first, read_second}
 use Rattle.search.specs.Tables.{searched_in, lookup_lent}
 use Rattle.search.proofs.Lookups.{lookup_resting, lookup_rehashing}
-use Rattle.dict_rehash.specs.Progress.{chains}
+use Rattle.dict_rehash.specs.MovedChains.{chains}
 use Rattle.after_step.specs.Presence.{presence, presence_after, presence_then}
 use Rattle.after_step.specs.Told.{of_bucket, how_many, has, either, new_then, old_then, tables_then, Moves}
 use Rattle.model.proofs.Moved.{moved_key}

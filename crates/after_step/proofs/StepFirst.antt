@@ -17,7 +17,7 @@ use Rattle.memory.specs.Lent.{sound_lent}
 use Rattle.memory.proofs.Orientation.{lent_oriented, writing_refused, writing_sound}
 use Rattle.search.specs.Tables.{lookup_lent}
 use Rattle.dict_rehash.proofs.Due.{due_rehashing, due_unpaused}
-use Rattle.after_step.specs.Presence.{presence, presence_after, presence_then, entries_after}
+use Rattle.after_step.specs.Presence.{presence, presence_after, entries_after}
 use Rattle.after_step.specs.Planned.{Planned}
 use Rattle.std.specs.Prelude.{Result, Ok, Err}
 
@@ -79,11 +79,6 @@ unfolding presence_after
 damage_after key (After.after (Err x) c o z) e h = cc
 damage_after key (After.after (Ok (count, t)) c o z) e h = only_damage (lookup_lent t c o z key) e h
 
-pub damage_then : (key : ℕ) (second : Bool) (a : After (Result (ℕ × State) Error)) (e : Error) → Err e ≡ presence_then key second a
-    → e ≡ Error.Damaged
-unfolding presence_then
-damage_then key second a e h = damage_after key (back second a) e h
-
 -- ---- the world after an answered step
 
 module _ (s : State) (first second entries : List ℕ) (h : sound_lent (length first) (length second) (length entries) s ≡ true)
@@ -116,11 +111,6 @@ pub record StepTaken (s : State) (first second entries : List ℕ) (key : ℕ) (
 
 module _ (s : State) (first second entries : List ℕ) (key : ℕ) (v : Result Bool Error) (p : Planned s first second entries key v)
     (r : Result (ℕ × State) Error) (x y z : List ℕ) (e : After.after r x y z ≡ rehash_step s first second entries) where
-  -- no step is refused but where damage was told
-  pub then_damaged : (error : Error) → r ≡ Err error → v ≡ (Err Error.Damaged)
-  unfolding presence_after
-  then_damaged error d = p.told ∙ ap (presence_after key) (sym (rw d at e))
-
   module _ (count : ℕ) (t : State) (d : r ≡ Ok (count, t)) where
     pub step_taken_lem : StepTaken s first second entries key v count t x y z
     unfolding presence_after
@@ -132,9 +122,6 @@ module _ (s : State) (first second entries : List ℕ) (key : ℕ) (v : Result B
           follows = stepped_follows s first second entries p.sound p.due count t x y z taken;
           told = p.told ∙ ap (presence_after key) (sym taken);
         }
-
-    pub then_sound : sound_lent (length x) (length y) (length z) t ≡ true
-    then_sound = step_taken_lem.sound
 
 -- ---- the call on it
 

@@ -151,7 +151,3 @@ module _ (entries : List ℕ) (size c key n : ℕ) where
         meets = among n ns;
       } = cc in
       (ns, refl, ap (λ (u : Survey). u.count) same, ap (λ (u : Survey). u.last) same, ap (λ (u : Survey). u.joining) same, ap (λ (u : Survey). u.held) same, ap (λ (u : Survey). u.meets) same)
-
-pub survey_at : (r : Result Survey Error) (entries : List ℕ) (size c c' key n : ℕ) (o : Option (List ℕ)) → c ≡ c'
-    → r ≡ surveyed entries size c key n o → r ≡ surveyed entries size c' key n o
-survey_at r entries size c c' key n o e h = h ∙ ap (λ (i : ℕ). surveyed entries size i key n o) e

@@ -2,8 +2,8 @@
 use Rattle.std.specs.Prelude.{ℕ, ◌<◌, ◌≡◌, Bool, List, Result, Ok, Err}
 use Rattle.model.specs.declared.State.{State}
 use Rattle.model.specs.declared.Error.{Error}
-use Rattle.model.specs.Calls.{After, moved_chain}
-use Rattle.dict_rehash.specs.Progress.{step_answer, did, old_chain, OldChain}
+use Rattle.model.specs.Calls.{After, step_done, moved_chain}
+use Rattle.dict_rehash.specs.MovedChains.{old_chain, OldChain}
 use Rattle.after_step.specs.declared.course.ChainSight.{ChainSight}
 use Rattle.after_step.specs.Presence.{presence_then}
 use Rattle.after_step.specs.Told.{among}
@@ -33,9 +33,9 @@ pub record GoesChain (s : State) (current other entries : List ℕ) (n : ℕ) (a
 
 -- that the step does what is told
 unfoldable pub Goes : State → (current other entries : List ℕ) → ℕ → After (Result (ℕ × State) Error) → Course → Type 0
-Goes s current other entries n a Course.Refused = After.after (step_answer s (Err Error.Damaged)) current other entries ≡ a
+Goes s current other entries n a Course.Refused = After.after (Err Error.Damaged) current other entries ≡ a
 Goes s current other entries n a (Course.Still next) =
-    After.after (step_answer s (did 0 next)) current other entries ≡ a
+    After.after (step_done s 0 next) current other entries ≡ a
 Goes s current other entries n a (Course.Moving c) = GoesChain s current other entries n a c
 
 -- and that a lookup of the key answers so after it

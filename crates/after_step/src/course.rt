@@ -5,7 +5,7 @@ ghost use Rattle.std.specs.Prelude.{◌≡◌, true, ◌≤◌, ◌<◌, length}
 ghost use Rattle.model.specs.Memory.{link_of};
 ghost use Rattle.model.specs.Calls as calls;
 ghost use Rattle.model.proofs.Soundness.{Sound};
-ghost use Rattle.dict_rehash.specs.Progress.{old_chain};
+ghost use Rattle.dict_rehash.specs.MovedChains.{old_chain};
 ghost use Rattle.after_step.specs.Presence.{entries_after};
 ghost use Rattle.after_step.specs.Told.{Moves};
 ghost use Rattle.after_step.specs.Course.{GoesChain, ForeseenChain};

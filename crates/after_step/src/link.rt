@@ -1,7 +1,7 @@
 // An entry's link as it will be once a rehash step has moved a chain. In damaged memory the entry may lie on that very chain.
 ghost use Rattle.std.specs.Prelude.{◌≡◌, true, ◌*◌, ◌≤◌, ◌<◌, length};
 ghost use Rattle.model.specs.Limits.{legal_size};
-ghost use Rattle.dict_rehash.specs.Progress.{chains, ChainOf};
+ghost use Rattle.dict_rehash.specs.MovedChains.{chains, ChainOf};
 ghost use Rattle.after_step.specs.Links.{LinkMoved};
 
 use memory::entry::{key_of, link_of};

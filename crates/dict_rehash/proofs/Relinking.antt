@@ -10,7 +10,7 @@ use Rattle.model.specs.Memory.{link_of, key_of, set_link}
 use Rattle.model.specs.Calls.{Chains, push, moved}
 use Rattle.model.proofs.Fields.{length_set_link}
 use Rattle.model.proofs.Linked.{Linked, room, linked_unique, linked_distinct, linked_head, linked_first, linked_kept, link_set_other}
-use Rattle.dict_rehash.specs.Progress.{chains, ChainOf, ChainMoved, EntryMoved}
+use Rattle.dict_rehash.specs.MovedChains.{chains, ChainOf, ChainMoved, EntryMoved}
 
 pub entry_moved : (size : ℕ) (buckets entries : List ℕ) (n next key b head m : ℕ) (entries' : List ℕ) → next ≡ link_of entries n
     → key ≡ key_of entries n → b ≡ bucket_of key size → head ≡ get_or buckets b 0 → m ≡ n → entries' ≡ set_link entries n head

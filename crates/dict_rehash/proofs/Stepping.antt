@@ -24,22 +24,11 @@ use Rattle.memory.specs.Length.{length_of}
 use Rattle.memory.specs.Lent.{sound_lent}
 use Rattle.memory.proofs.Orientation.{written_first, written_second, writing_sound}
 use Rattle.memory.proofs.Counted.{counted, uncounted}
-use Rattle.dict_rehash.specs.declared.rehash.Moved.{Moved}
-use Rattle.dict_rehash.specs.Progress.{step_answer, step_room, did, old_chain, OldChain, chains, ChainOf, ChainMoved}
+use Rattle.dict_rehash.specs.MovedChains.{old_chain, OldChain, chains, ChainOf, ChainMoved}
 use Rattle.dict_rehash.proofs.Due.{is_paused, due_of, stepped_by, due_stepped}
 use Rattle.std.specs.Prelude.{Result, Ok, Err}
 use Rattle.std.specs.Result.{IsErrAnd}
 use Rattle.std.proofs.lemmas.Result.{err_from_is_err_and}
-
--- ---- the exit of a `?`
-
-module _ (r : Result Moved Error) (x : Error) (h : IsErrAnd r (λ e. e ≡ x)) where
-  exit_is : r ≡ Err x
-  exit_is = let p = err_from_is_err_and r h in rw (p.1, p.2)
-
-  pub exit_room : (s : State) → step_room s r
-  unfolding step_room
-  exit_room s = rw exit_is tt
 
 -- what a sound state says of the two tables during a rehash
 module _ (s : State) (current other entries : ℕ) (h : Sound s current other entries) (e : s.rehashing ≡ true) where
@@ -86,34 +75,36 @@ module _ (s : State) (current entries : List ℕ) (b count : ℕ) (k : OldChain 
 -- ---- the chain of a bucket of the old table
 
 module _ (s : State) (current other entries : List ℕ) (b : ℕ) where
-  moved_by : (c : Option (List ℕ)) (ns : List ℕ) (count : ℕ) (then : Chains) → c ≡ some ns → length ns ≡ count
-      → then ≡ moved s.new_size ns (chains other entries)
-      → After.after (step_answer s (did count (b + 1))) (set current b 0) then.buckets then.entries
-      ≡ moved_chain s current other entries b c
-  unfolding moved_chain step_answer
-  moved_by c ns count then ce n t = rw (ce, t, ← n, add-one)
+  moved_by : (c : Option (List ℕ)) (ns : List ℕ) (count : ℕ) (then : Chains) (t : State) → c ≡ some ns → length ns ≡ count
+      → then ≡ moved s.new_size ns (chains other entries) → t ≡ settled (advanced s count (b + 1))
+      → After.after (Ok (count, t)) (set current b 0) then.buckets then.entries ≡ moved_chain s current other entries b c
+  unfolding moved_chain step_done
+  moved_by c ns count then t ce n e te = rw (ce, e, te, ← n, add-one)
 
-  pub bucket_unsound : (r : Result Moved Error) (x : Error) → IsErrAnd r (λ e. e ≡ x) → Err x ≡ length_of (old_chain s current entries b)
-      → After.after (step_answer s r) current other entries
-      ≡ moved_chain s current other entries b (old_chain s current entries b)
-  unfolding moved_chain step_answer
+  pub bucket_unsound : (r : Result (ℕ × State) Error) (x : Error) → IsErrAnd r (λ e. e ≡ x) → Err x ≡ length_of (old_chain s current entries b)
+      → After.after r current other entries ≡ moved_chain s current other entries b (old_chain s current entries b)
+  unfolding moved_chain
   bucket_unsound r x h e =
       let (none_read, damaged) = uncounted (Err x) x (old_chain s current entries b) refl e in
-      rw (none_read, exit_is r x h, damaged)
+      let p = err_from_is_err_and r h in
+      rw (none_read, p.1, p.2, damaged)
 
   module _ (count : ℕ) (k : OldChain s current entries b count) (h : Sound s (length current) (length other) (length entries)) where
-    pub bucket_moved : (head empty : ℕ) (other' entries' : List ℕ) → head ≡ get_or current b 0 → empty ≡ 0
-        → ChainMoved s.new_size head (chains other entries) (chains other' entries')
-        → After.after (step_answer s (did count (b + 1))) (set current b empty) other' entries'
+    pub bucket_moved : (head empty : ℕ) (other' entries' : List ℕ) (t : State) → head ≡ get_or current b 0 → empty ≡ 0
+        → ChainMoved s.new_size head (chains other entries) (chains other' entries') → t ≡ settled (advanced s count (b + 1))
+        → After.after (Ok (count, t)) (set current b empty) other' entries'
         ≡ moved_chain s current other entries b (old_chain s current entries b)
-    bucket_moved head empty other' entries' h' z m =
+    bucket_moved head empty other' entries' t h' z m te =
         rw z
-        (moved_by (old_chain s current entries b) k.ns count (chains other' entries') k.read k.counted
-        (m.each k.ns (rw h' (old_linked s current entries b count k h.entries_fit))))
+        (moved_by (old_chain s current entries b) k.ns count (chains other' entries') t k.read k.counted
+        (m.each k.ns (rw h' (old_linked s current entries b count k h.entries_fit))) te)
 
-    pub bucket_room : (next : ℕ) → step_room s (did count next)
-    unfolding step_room
-    bucket_room next = let short = count_fits s current entries b count k in (short, omega (arith, h.used_fits))
+    -- the counts that change stay in range
+    pub moved_old : count ≤ s.old_used
+    moved_old = count_fits s current entries b count k
+
+    pub moved_new : s.new_used + count ≤ s.capacity
+    moved_new = let short = moved_old in omega (arith, h.used_fits)
 
   -- the number of the bucket behind it
   pub bucket_behind : b < s.old_size → Fits w32 s.old_size → Fits w32 (b + 1)
@@ -122,10 +113,8 @@ module _ (s : State) (current other entries : List ℕ) (b : ℕ) where
 -- ---- what comes from the next bucket on
 
 -- no key has moved
-pub none_moved : (s : State) (current other entries : ℕ) → Sound s current other entries → (next : ℕ)
-    → step_room s (did 0 next)
-unfolding step_room
-none_moved s current other entries h next = (omega arith, omega (arith, h.used_fits))
+pub none_moved : (s : State) (current other entries : ℕ) → Sound s current other entries → s.new_used + 0 ≤ s.capacity
+none_moved s current other entries h = omega (arith, h.used_fits)
 
 -- a filled bucket lies in the old table
 pub next_below : (r : Ahead) (buckets : List ℕ) (from size visits : ℕ) → r ≡ ahead buckets from (size - from) visits
@@ -134,15 +123,14 @@ next_below r buckets from size visits e l b f =
     omega (arith, filled_below buckets from (size - from) visits b (sym e ∙ f))
 
 module _ (s : State) (current other entries : List ℕ) (r o : Ahead) (f : r ≡ o) where
-  pub next_end : r ≡ Ahead.End
-      → After.after (step_answer s (Err Error.Damaged)) current other entries ≡ moved_from s current other entries o
-  unfolding moved_from step_answer
+  pub next_end : r ≡ Ahead.End → After.after (Err Error.Damaged) current other entries ≡ moved_from s current other entries o
+  unfolding moved_from
   next_end e = rw (← f, e)
 
-  pub next_empty : (b : ℕ) → r ≡ Ahead.Empty b
-      → After.after (step_answer s (did 0 b)) current other entries ≡ moved_from s current other entries o
-  unfolding moved_from step_answer
-  next_empty b e = rw (← f, e)
+  pub next_empty : (b : ℕ) (t : State) → r ≡ Ahead.Empty b → t ≡ settled (advanced s 0 b)
+      → After.after (Ok (0, t)) current other entries ≡ moved_from s current other entries o
+  unfolding moved_from step_done
+  next_empty b t e te = rw (← f, e, te)
 
   pub next_filled : (b : ℕ) → r ≡ Ahead.Filled b → (a : After (Result (ℕ × State) Error))
       → a ≡ moved_chain s current other entries b (old_chain s current entries b) → a ≡ moved_from s current other entries o
@@ -152,10 +140,10 @@ module _ (s : State) (current other entries : List ℕ) (r o : Ahead) (f : r ≡
 -- ---- a step that is taken
 
 module _ (s : State) (current other entries : List ℕ) where
-  pub step_finished : s.old_used ≡ 0
-      → After.after (step_answer s (did 0 s.rehash_index)) current other entries ≡ step_taken s current other entries
-  unfolding step_taken step_answer
-  step_finished z = rw (eq-eqb s.old_used 0 z)
+  pub step_finished : (t : State) → s.old_used ≡ 0 → t ≡ settled (advanced s 0 s.rehash_index)
+      → After.after (Ok (0, t)) current other entries ≡ step_taken s current other entries
+  unfolding step_taken step_done
+  step_finished t z te = rw (eq-eqb s.old_used 0 z, te)
 
   pub step_moved : (a : After (Result (ℕ × State) Error)) → (s.old_used ≡ 0 → ⊥) → a ≡ moved_from s current other entries (ahead_of s current)
       → a ≡ step_taken s current other entries
@@ -166,15 +154,12 @@ module _ (s : State) (current other entries : List ℕ) where
 
 module _ (s : State) (current other entries : List ℕ) where
   pub step_resting : s.rehashing ≡ false
-      → After.after (step_answer s (Err Error.NotRehashing)) current other entries
-      ≡ stepped s current other entries s.rehashing
-  unfolding stepped step_answer
+      → After.after (Err Error.NotRehashing) current other entries ≡ stepped s current other entries s.rehashing
+  unfolding stepped
   step_resting p = rw p
 
   pub step_paused : s.rehashing ≡ true → (s.safe_iterators ≡ 0 → ⊥)
-      → After.after (step_answer s (Err Error.Paused)) current other entries
-      ≡ stepped s current other entries s.rehashing
-  unfolding step_answer
+      → After.after (Err Error.Paused) current other entries ≡ stepped s current other entries s.rehashing
   step_paused p i = stepped_by s current other entries p true (is_paused s i)
 
   pub step_due_lem : (a : After (Result (ℕ × State) Error)) → s.rehashing ≡ true → s.safe_iterators ≡ 0 → a ≡ step_taken s current other entries
@@ -206,25 +191,3 @@ module _ (s : State) (count next : ℕ) where
   unfolding settled advanced retabled state_of old_new
   settled_on l f =
       let some_left : s.old_used - count ≡ 0 → ⊥ = λ e. f (omega arith) in rw (ne_eqb (s.old_used - count) 0 some_left)
-
--- ---- the answer, once it is known what happened
-
-module _ (s : State) (x y e : List ℕ) (meant : After (Result (ℕ × State) Error)) where
-  pub answered_refused : (r : Result (ℕ × State) Error) (error : Error) → IsErrAnd r (λ e. e ≡ error)
-      → After.after (step_answer s (Err error)) x y e ≡ meant → After.after r x y e ≡ meant
-  unfolding step_answer
-  answered_refused r error h d = let p = err_from_is_err_and r h in rw (p.1, p.2) d
-
-  pub answered_moved : (v : Moved) (t : State) → After.after (step_answer s (Ok v)) x y e ≡ meant
-      → t ≡ settled (advanced s v.count v.next) → After.after (Ok (v.count, t)) x y e ≡ meant
-  unfolding step_answer step_done
-  answered_moved v t d k = rw k d
-
-module _ (s : State) (v : Moved) (r : step_room s (Ok v)) where
-  pub moved_old : v.count ≤ s.old_used
-  unfolding step_room
-  moved_old = r.0
-
-  pub moved_new : s.new_used + v.count ≤ s.capacity
-  unfolding step_room
-  moved_new = r.1

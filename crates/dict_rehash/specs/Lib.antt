@@ -1,2 +1,2 @@
--- What the functions below the public call hand up: the public call makes its answer of it.
-pub mod Progress
+-- What a step reads of a chain, and what moving it does.
+pub mod MovedChains

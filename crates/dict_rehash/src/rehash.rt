@@ -4,22 +4,12 @@ ghost use Rattle.model.specs.Limits.{legal_size, empty_visits};
 ghost use Rattle.model.specs.Calls as calls;
 ghost use Rattle.model.specs.Calls.After.{after};
 ghost use Rattle.model.proofs.Soundness.{Sound};
-ghost use Rattle.memory.specs.Lent.{sound_lent};
-ghost use Rattle.dict_rehash.specs.Progress.{step_answer, step_room, old_chain, chains, OldChain, ChainOf, ChainMoved, EntryMoved};
+ghost use Rattle.dict_rehash.specs.MovedChains.{old_chain, chains, OldChain, ChainOf, ChainMoved, EntryMoved};
 
 use memory::chain::chain_length;
 use memory::entry::{key_of, link_of, set_link};
 use memory::state::{bucket_index, require_sound};
 use model::{Ahead, EMPTY_VISITS, Error, State};
-
-// What a step did to the buffers, in numbers: the public call makes its answer of it, and a call that takes a step first its own.
-#[derive(Clone, Copy)]
-pub struct Moved {
-    // How many keys have moved.
-    pub count: u32,
-    // The bucket of the old table that is the next one.
-    pub next: u32,
-}
 
 // What comes from that bucket on in a table of that size: a step passes only so many empty buckets, and must then see one
 // more, filled or not, before the table's end. (Public for those who ask what a step would do.)
@@ -66,136 +56,6 @@ fn move_chain(buckets: &mut [u32], entries: &mut [u32], size: u32, head: u32, co
     }
 }
 
-// The chain of bucket b of the old table, which was read before and has so many entries. (Public for those who have asked what
-// a step would do.)
-pub fn move_counted(
-    current: &mut [u32],
-    other: &mut [u32],
-    entries: &mut [u32],
-    s: State,
-    b: u32,
-    count: u32,
-) -> Moved
-    requires sound { Sound s (length current.old) (length other.old) (length entries.old) }
-    requires rehashing { (s.rehashing ≡ true) × (b < s.old_size) }
-    requires old_chain { OldChain s current.old entries.old b count }
-    ensures outcome { after (step_answer s (Ok result)) current.new other.new entries.new
-        ≡ calls.moved_chain s current.old other.old entries.old b
-        (old_chain s current.old entries.old b) }
-    ensures step_room { step_room s (Ok result) }
-{
-    let head = std::mem::replace(&mut current[b as usize], 0);
-    move_chain(other, entries, s.new_size, head, count);
-    Moved { count, next: b + 1 }
-}
-
-// The chain of bucket b of the old table. It is read once to test it, so that a refusal leaves the buffers as they were, and
-// once to move it.
-fn move_bucket(
-    current: &mut [u32],
-    other: &mut [u32],
-    entries: &mut [u32],
-    s: State,
-    b: u32,
-) -> Result<Moved, Error>
-    requires sound { Sound s (length current.old) (length other.old) (length entries.old) }
-    requires rehashing { (s.rehashing ≡ true) × (b < s.old_size) }
-    ensures outcome { after (step_answer s result) current.new other.new entries.new
-        ≡ calls.moved_chain s current.old other.old entries.old b
-        (old_chain s current.old entries.old b) }
-    ensures step_room { step_room s result }
-{
-    let index = b as usize;
-    let head = current[index];
-    let count = chain_length(entries, s.capacity, s.old_used, head, s.old_size, index)?;
-    Ok(move_counted(current, other, entries, s, b, count))
-}
-
-// The first filled bucket from the next one on is the one that moves, unless as many empty ones come first as a step passes.
-// The old table holds keys, so if its end comes first it is damaged.
-fn move_next(
-    current: &mut [u32],
-    other: &mut [u32],
-    entries: &mut [u32],
-    s: State,
-) -> Result<Moved, Error>
-    requires sound { Sound s (length current.old) (length other.old) (length entries.old) }
-    requires rehashing { s.rehashing ≡ true }
-    ensures outcome { after (step_answer s result) current.new other.new entries.new
-        ≡ calls.moved_from s current.old other.old entries.old
-        (calls.ahead_of s current.old) }
-    ensures step_room { step_room s result }
-{
-    match look_ahead(current, s.rehash_index, s.old_size) {
-        Ahead::Filled(b) => move_bucket(current, other, entries, s, b),
-        Ahead::Empty(b) => Ok(Moved { count: 0, next: b }),
-        Ahead::End => Err(Error::Damaged),
-    }
-}
-
-// During a rehash that no safe iterator holds up. With no keys in the old table the step only ends the rehash.
-fn take_step(
-    current: &mut [u32],
-    other: &mut [u32],
-    entries: &mut [u32],
-    s: State,
-) -> Result<Moved, Error>
-    requires sound { Sound s (length current.old) (length other.old) (length entries.old) }
-    requires rehashing { s.rehashing ≡ true }
-    ensures outcome { after (step_answer s result) current.new other.new entries.new
-        ≡ calls.step_taken s current.old other.old entries.old }
-    ensures step_room { step_room s result }
-{
-    if s.old_used == 0 {
-        Ok(Moved {
-            count: 0,
-            next: s.rehash_index,
-        })
-    } else {
-        move_next(current, other, entries, s)
-    }
-}
-
-// On the current and the other bucket buffer of a sound state: the tests in the order of the answers.
-fn step_in(
-    current: &mut [u32],
-    other: &mut [u32],
-    entries: &mut [u32],
-    s: State,
-) -> Result<Moved, Error>
-    requires { Sound s (length current.old) (length other.old) (length entries.old) }
-    ensures outcome { after (step_answer s result) current.new other.new entries.new
-        ≡ calls.stepped s current.old other.old entries.old s.rehashing }
-    ensures step_room { step_room s result }
-{
-    if !s.rehashing {
-        return Err(Error::NotRehashing);
-    }
-    if s.safe_iterators != 0 {
-        return Err(Error::Paused);
-    }
-    take_step(current, other, entries, s)
-}
-
-// The state says which of the lent buffers is the current one.
-fn step_oriented(
-    first: &mut [u32],
-    second: &mut [u32],
-    entries: &mut [u32],
-    s: State,
-) -> Result<Moved, Error>
-    requires { sound_lent (length first.old) (length second.old) (length entries.old) s ≡ true }
-    ensures outcome { after (step_answer s result) first.new second.new entries.new
-        ≡ calls.rehash_step s first.old second.old entries.old }
-    ensures step_room { step_room s result }
-{
-    if s.second_is_current {
-        step_in(second, first, entries, s)
-    } else {
-        step_in(first, second, entries, s)
-    }
-}
-
 // The state once so many keys have moved, and that bucket is the next one. With no keys left in the old table the rehash is
 // over: the new table becomes the only one.
 pub fn state_after(s: State, count: u32, next: u32) -> State
@@ -226,6 +86,109 @@ pub fn state_after(s: State, count: u32, next: u32) -> State
     }
 }
 
+// The chain of bucket b of the old table, which was read before and has so many entries. (Public for those who have asked what
+// a step would do.)
+pub fn move_counted(
+    current: &mut [u32],
+    other: &mut [u32],
+    entries: &mut [u32],
+    s: State,
+    b: u32,
+    count: u32,
+) -> (u32, State)
+    requires sound { Sound s (length current.old) (length other.old) (length entries.old) }
+    requires rehashing { (s.rehashing ≡ true) × (b < s.old_size) }
+    requires old_chain { OldChain s current.old entries.old b count }
+    ensures { after (Ok result) current.new other.new entries.new
+        ≡ calls.moved_chain s current.old other.old entries.old b
+        (old_chain s current.old entries.old b) }
+{
+    let head = std::mem::replace(&mut current[b as usize], 0);
+    move_chain(other, entries, s.new_size, head, count);
+    (count, state_after(s, count, b + 1))
+}
+
+// The chain of bucket b of the old table. It is read once to test it, so that a refusal leaves the buffers as they were, and
+// once to move it.
+fn move_bucket(
+    current: &mut [u32],
+    other: &mut [u32],
+    entries: &mut [u32],
+    s: State,
+    b: u32,
+) -> Result<(u32, State), Error>
+    requires sound { Sound s (length current.old) (length other.old) (length entries.old) }
+    requires rehashing { (s.rehashing ≡ true) × (b < s.old_size) }
+    ensures { after result current.new other.new entries.new
+        ≡ calls.moved_chain s current.old other.old entries.old b
+        (old_chain s current.old entries.old b) }
+{
+    let index = b as usize;
+    let head = current[index];
+    let count = chain_length(entries, s.capacity, s.old_used, head, s.old_size, index)?;
+    Ok(move_counted(current, other, entries, s, b, count))
+}
+
+// The first filled bucket from the next one on is the one that moves, unless as many empty ones come first as a step passes.
+// The old table holds keys, so if its end comes first it is damaged.
+fn move_next(
+    current: &mut [u32],
+    other: &mut [u32],
+    entries: &mut [u32],
+    s: State,
+) -> Result<(u32, State), Error>
+    requires sound { Sound s (length current.old) (length other.old) (length entries.old) }
+    requires rehashing { s.rehashing ≡ true }
+    ensures { after result current.new other.new entries.new
+        ≡ calls.moved_from s current.old other.old entries.old
+        (calls.ahead_of s current.old) }
+{
+    match look_ahead(current, s.rehash_index, s.old_size) {
+        Ahead::Filled(b) => move_bucket(current, other, entries, s, b),
+        Ahead::Empty(b) => Ok((0, state_after(s, 0, b))),
+        Ahead::End => Err(Error::Damaged),
+    }
+}
+
+// During a rehash that no safe iterator holds up. With no keys in the old table the step only ends the rehash.
+fn take_step(
+    current: &mut [u32],
+    other: &mut [u32],
+    entries: &mut [u32],
+    s: State,
+) -> Result<(u32, State), Error>
+    requires sound { Sound s (length current.old) (length other.old) (length entries.old) }
+    requires rehashing { s.rehashing ≡ true }
+    ensures { after result current.new other.new entries.new
+        ≡ calls.step_taken s current.old other.old entries.old }
+{
+    if s.old_used == 0 {
+        Ok((0, state_after(s, 0, s.rehash_index)))
+    } else {
+        move_next(current, other, entries, s)
+    }
+}
+
+// On the current and the other bucket buffer of a sound state: the tests in the order of the answers.
+fn step_in(
+    current: &mut [u32],
+    other: &mut [u32],
+    entries: &mut [u32],
+    s: State,
+) -> Result<(u32, State), Error>
+    requires { Sound s (length current.old) (length other.old) (length entries.old) }
+    ensures { after result current.new other.new entries.new
+        ≡ calls.stepped s current.old other.old entries.old s.rehashing }
+{
+    if !s.rehashing {
+        return Err(Error::NotRehashing);
+    }
+    if s.safe_iterators != 0 {
+        return Err(Error::Paused);
+    }
+    take_step(current, other, entries, s)
+}
+
 // Moves the chain of one bucket of the old table, or passes empty ones, and ends the rehash once that table holds no keys.
 pub fn rehash_step(
     first: &mut [u32],
@@ -237,6 +200,11 @@ pub fn rehash_step(
         ≡ calls.rehash_step s first.old second.old entries.old }
 {
     require_sound(first.len(), second.len(), entries.len(), s)?;
-    let Moved { count, next } = step_oriented(first, second, entries, s)?;
-    Ok((count, state_after(s, count, next)))
+    // The state says which of the lent buffers is the current one. (Two buffers lent for change are chosen by two calls: a pair of
+    // them that the flag puts in order gets no proof.)
+    if s.second_is_current {
+        step_in(second, first, entries, s)
+    } else {
+        step_in(first, second, entries, s)
+    }
 }

@@ -12,7 +12,7 @@ use Rattle.model.specs.declared.Ahead.{Ahead}
 use Rattle.model.specs.Calls.{After, both, moved_chain, ahead_of, step_taken}
 use Rattle.search.specs.Found.{Found, found_of}
 use Rattle.search.specs.Tables.{searched_in}
-use Rattle.dict_rehash.specs.Progress.{old_chain}
+use Rattle.dict_rehash.specs.MovedChains.{old_chain}
 use Rattle.dict_rehash.proofs.Stepping.{next_filled, step_moved}
 use Rattle.after_step.specs.declared.course.ChainSight.{ChainSight}
 use Rattle.after_step.specs.Told.{found_presence}

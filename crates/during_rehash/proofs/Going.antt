@@ -1,14 +1,13 @@
 -- A step that does what is told: the first free entry's link then, and the step for real.
 -- Assumes nothing.
-use Prim.Native.Nat.{ℕ, ◌+◌, ◌≤◌, ◌<◌}
+use Prim.Native.Nat.{ℕ, ◌<◌}
 use mathlib.Core.Path.{◌≡◌, refl, ap, ◌∙◌}
 use mathlib.Core.List.{List}
 use Rattle.model.specs.declared.State.{State}
 use Rattle.model.specs.declared.Error.{Error}
 use Rattle.model.specs.Memory.{link_of}
 use Rattle.model.specs.Calls.{After, advanced, settled, step_done, moved_chain, step_taken}
-use Rattle.dict_rehash.specs.declared.rehash.Moved.{Moved}
-use Rattle.dict_rehash.specs.Progress.{step_answer, step_room, old_chain, OldChain}
+use Rattle.dict_rehash.specs.MovedChains.{old_chain, OldChain}
 use Rattle.after_step.specs.declared.course.ChainSight.{ChainSight}
 use Rattle.after_step.specs.Presence.{entries_after}
 use Rattle.after_step.specs.Course.{Course, Goes, GoesChain}
@@ -30,7 +29,7 @@ module _ (s : State) (current other entries : List ℕ) (step : Step) (k : Going
     still_link link h = link_still s current other entries s.free_head meant (Course.Still next) still next refl link h
 
     pub still_taken : (t : State) → t ≡ settled (advanced s 0 next) → After.after (Ok (0, t)) current other entries ≡ meant
-    unfolding step_answer step_done
+    unfolding step_done
     still_taken t h =
         ap (λ (u : State). After.after (Ok (0, u)) current other entries) h
         ∙ goes_still s current other entries s.free_head meant (Course.Still next) still next refl
@@ -47,18 +46,7 @@ module _ (s : State) (current other entries : List ℕ) (step : Step) (k : Going
     pub chain_read : OldChain s current entries c.bucket c.count
     chain_read = chain_goes.chain
 
-    pub chain_taken : (m : Moved) (t : State) (x y z : List ℕ)
-        → After.after (step_answer s (Ok m)) x y z ≡ moved_chain s current other entries c.bucket (old_chain s current entries c.bucket)
-        → t ≡ settled (advanced s m.count m.next) → After.after (Ok (m.count, t)) x y z ≡ meant
-    unfolding step_answer step_done
-    chain_taken m t x y z h te = ap (λ (u : State). After.after (Ok (m.count, u)) x y z) te ∙ h ∙ chain_goes.step
-
--- the counts that change stay in range
-module _ (s : State) (m : Moved) (h : step_room s (Ok m)) where
-  pub room_old : m.count ≤ s.old_used
-  unfolding step_room
-  room_old = h.0
-
-  pub room_new : s.new_used + m.count ≤ s.capacity
-  unfolding step_room
-  room_new = h.1
+    pub chain_taken : (m : ℕ × State) (x y z : List ℕ)
+        → After.after (Ok m) x y z ≡ moved_chain s current other entries c.bucket (old_chain s current entries c.bucket)
+        → After.after (Ok m) x y z ≡ meant
+    chain_taken m x y z h = h ∙ chain_goes.step

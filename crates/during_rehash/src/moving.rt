@@ -62,8 +62,7 @@ fn take_step(
     match step {
         Step::Still(next) => (0, state_after(s, 0, next)),
         Step::Moving(chain) => {
-            let moved = move_counted(current, other, entries, s, chain.bucket, chain.count);
-            (moved.count, state_after(s, moved.count, moved.next))
+            move_counted(current, other, entries, s, chain.bucket, chain.count)
         }
     }
 }

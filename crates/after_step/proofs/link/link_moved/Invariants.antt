@@ -1,6 +1,6 @@
 -- `after_step::link::link_moved` meets its contract: through the rest of the chain the link is what it is through the whole.
 use Prim.Native.Nat.{◌-◌}
-use Rattle.dict_rehash.specs.Progress.{chains}
+use Rattle.dict_rehash.specs.MovedChains.{chains}
 use Rattle.after_step.proofs.LinkAfter.{Telling}
 use Rattle.after_step.proofs.link.link_moved.Given as goal
 

@@ -1,13 +1,12 @@
 -- The goals of `move_chain` that the search leaves.
-use borrow.Author.Rules.{rules}
 use Rattle.dict_rehash.proofs.Relinking.{relinking_start, relinking_pos, relinking_fits, relinking_next, relinking_end}
 use Rattle.dict_rehash.proofs.rehash.move_chain.Goals as goal
 
 pub loop-init : goal.loop-init
 loop-init c = search relinking_start
 
-pub move_entry-at-requires : goal.move_entry-at-requires
-move_entry-at-requires c = record { legal = search rules; is_entry = (search relinking_pos, search relinking_fits) }
+pub move_entry-at-requires-clause-is_entry : goal.move_entry-at-requires-clause-is_entry
+move_entry-at-requires-clause-is_entry c = (search relinking_pos, search relinking_fits)
 
 pub loop-preserved : goal.loop-preserved
 loop-preserved c = search relinking_next

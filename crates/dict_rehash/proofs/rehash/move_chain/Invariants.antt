@@ -1,6 +1,6 @@
 -- `dict_rehash::rehash::move_chain` meets its contract: moving the rest of the chain gives what moving the whole of it gives.
 use Prim.Native.Nat.{◌-◌}
-use Rattle.dict_rehash.specs.Progress.{chains}
+use Rattle.dict_rehash.specs.MovedChains.{chains}
 use Rattle.dict_rehash.proofs.Relinking.{Relinking}
 use Rattle.dict_rehash.proofs.rehash.move_chain.Given as goal
 

@@ -3,8 +3,11 @@ use borrow.Author.Rules.{rules}
 use Rattle.dict_rehash.proofs.Stepping.{none_moved, step_finished, step_moved}
 use Rattle.dict_rehash.proofs.rehash.take_step.Goals as goal
 
+pub state_after-requires : goal.state_after-requires
+state_after-requires c = (search rules, search none_moved)
+
 pub returns-then-s-eq0 : goal.returns-then-s-eq0
-returns-then-s-eq0 c = record { outcome = search step_finished; step_room = search none_moved }
+returns-then-s-eq0 c = search step_finished
 
 pub returns-else-s-eq0 : goal.returns-else-s-eq0
-returns-else-s-eq0 c = record { outcome = search step_moved; step_room = search rules }
+returns-else-s-eq0 c = search step_moved

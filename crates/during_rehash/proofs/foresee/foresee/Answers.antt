@@ -3,7 +3,8 @@ use borrow.Author.Rules.{rules}
 use Rattle.model.specs.Calls.{ahead_of}
 use Rattle.dict_rehash.proofs.Due.{due_rehashing}
 use Rattle.search.proofs.Readable.{new_readable}
-use Rattle.after_step.proofs.Deciding.{exit_is, index_fits, next_below, next_filled}
+use Rattle.dict_rehash.proofs.Stepping.{index_fits}
+use Rattle.after_step.proofs.Deciding.{exit_is, next_below, next_filled}
 use Rattle.during_rehash.proofs.Foretelling.{ended_untold, ended_told, end_untold, empty_untold, empty_told, chain_untold, chain_told}
 use Rattle.during_rehash.proofs.foresee.foresee.Goals as goal
 

@@ -1,27 +1,12 @@
--- The answer of a rehash step, from what happened to the buffers.
-use Rattle.std.specs.Prelude.{ℕ, ◌+◌, ◌≤◌, ◌≡◌, List, length, Result, Ok, Err}
+-- What a rehash step reads of a chain, and what moving it does to a table's chains.
+use Rattle.std.specs.Prelude.{ℕ, ◌≡◌, List, length}
 use Rattle.std.proofs.Math.Option.{Option, some}
 use Rattle.model.specs.declared.State.{State}
 use Rattle.model.specs.Keys.{bucket_of}
 use Rattle.model.specs.Memory.{link_of, key_of}
-use Rattle.model.specs.Calls.{Chains, push, moved, step_done}
+use Rattle.model.specs.Calls.{Chains, push, moved}
 use Rattle.model.proofs.Linked.{Linked, room}
 use Rattle.memory.specs.Length.{bucket_chain}
-use Rattle.dict_rehash.specs.declared.rehash.Moved.{Moved}
-use Rattle.model.specs.declared.Error.{Error}
-
-unfoldable pub step_answer : State → Result Moved Error → Result (ℕ × State) Error
-step_answer s (Err e) = Err e
-step_answer s (Ok m) = step_done s m.count m.next
-
--- the counts that change stay in range
-unfoldable pub step_room : State → Result Moved Error → Type 0
-step_room s (Err e) = Unit {0}
-step_room s (Ok m) = (m.count ≤ s.old_used) × (s.new_used + m.count ≤ s.capacity)
-
--- so many keys have moved, and that bucket is the next one
-abbrev pub did : ℕ → ℕ → Result Moved Error
-did count next = Ok (record { count = count; next = next })
 
 -- the chain of bucket b of the old table
 abbrev pub old_chain : State → List ℕ → List ℕ → ℕ → Option (List ℕ)

@@ -2,12 +2,13 @@
 // program").
 #![tactic(auto)]
 
-ghost use Rattle.script_run.specs.Runs.{world_of, SameBuffers};
+ghost use Rattle.store.specs.Stores.{world_of, SameBuffers};
 ghost use Rattle.script_block.specs.Blocks.{RunsBlock};
 
 use script::line::next_line;
 use script_run::answer::{LINE_ROOM, PAIR_ROOM};
-use script_run::line::Store;
+use script_run::line::run_line;
+use store::Store;
 
 // The bytes of a block: two of the longest answers. A line runs while there is room for the longest, so a block that is
 // written before the script ends is at least half full.
@@ -42,7 +43,7 @@ pub fn run_block(
             break;
         };
         let line = &script[next..end];
-        let length = store.run_line(pairs, &mut block[filled..], line);
+        let length = run_line(store, pairs, &mut block[filled..], line);
         filled += length;
         next = end + 1;
     }

@@ -3,12 +3,11 @@
 
 ghost use Rattle.std.specs.Prelude.{◌≤◌, length, IfOk};
 
-use dict_tables::init::no_state;
 use script_block::{BLOCK_ROOM, run_block};
 use script_run::PROGRAM_LIMIT;
 use script_run::answer::PAIR_ROOM;
-use script_run::line::Store;
 use std::io::{self, Read, Stdin, Stdout, Write};
+use store::Store;
 
 // The bytes of the longest script.
 const LONGEST_SCRIPT: usize = 65536;
@@ -34,15 +33,13 @@ fn write_answers(
 }
 
 fn run_script(output: &mut Stdout, script: &[u8]) -> io::Result<()> {
+    let mut first = [0u32; PROGRAM_LIMIT];
+    let mut second = [0u32; PROGRAM_LIMIT];
+    let mut entries = [0u32; ENTRY_ROOM];
     let mut pairs = [0u32; PAIR_ROOM];
     let mut block = [0u8; BLOCK_ROOM];
     // Before a good `N` the state is zeros.
-    let mut store = Store {
-        state: no_state(),
-        first: &mut [0u32; PROGRAM_LIMIT],
-        second: &mut [0u32; PROGRAM_LIMIT],
-        entries: &mut [0u32; ENTRY_ROOM],
-    };
+    let mut store = Store::new(&mut first, &mut second, &mut entries);
     write_answers(output, &mut store, &mut pairs, &mut block, script)
 }
 

@@ -14,6 +14,7 @@ use Rattle.model.specs.declared.Unstarted.{Unstarted}
 use Rattle.model.specs.Answers.{reply, error_number, init_reply, state_reply, value_reply, done_reply, step_reply}
 use Rattle.model.specs.Calls.{After, init, resize}
 use Rattle.model.specs.Sequences.{World, world, kept, left, carry, carried_state}
+use Rattle.store.specs.Stores as stores
 use Rattle.script.specs.declared.line.Command.{Command}
 use Rattle.script.specs.Answers.{answer_line}
 use Rattle.script.specs.Program.{answered, run_command}
@@ -58,6 +59,23 @@ bool_value : (b : Bool) → bool_byte b ≡ cond b 1 0
 bool_value true = refl
 bool_value false = refl
 
+-- one answer is no other
+
+no_done : {a : Result (Unit {0}) Error} {u : Unit {0}} {e : Error} → a ≡ Ok u → a ≡ Err e → ⊥
+no_done k c = cc
+
+no_refused : {A : Type 0} {a : Result A Error} {v : A} {e : Error} → a ≡ Err e → a ≡ Ok v → ⊥
+no_refused k c = cc
+
+no_count : {a : Result ℕ Error} {v : ℕ} {e : Error} → a ≡ Ok v → a ≡ Err e → ⊥
+no_count k c = cc
+
+told : {A : Type 0} {a : Result A Error} {e f : Error} → a ≡ Err e → a ≡ Err f → e ≡ f
+told k c = cc
+
+counted : {a : Result ℕ Error} {n m : ℕ} → a ≡ Ok n → a ≡ Ok m → n ≡ m
+counted k c = cc
+
 module _ (s : State) (first second entries lent : List ℕ) where
   pub refused_leaves : (e : Error) (values : List ℕ) (t : State) (x y z more : List ℕ) (r : Result Values Refusal)
       → IsErrAnd r (λ f. f ≡ Refusal.Store e)
@@ -78,76 +96,104 @@ module _ (s : State) (first second entries lent : List ℕ) where
 
   -- a call that answers the state
 
-  pub state_done : {d : After (Result State Error)} {a : Result State Error} {x y z : List ℕ} {t : State} → After.after a x y z ≡ d → a ≡ Ok t
-      → Leaves (answered (world s first second entries) (left (state_reply s) d) [] lent) (Ok Values.None) (world t x y z) lent
-  unfolding left state_reply reply answered carry carried_state world line_of done_line values_of handed Fits
-  state_done c e = rw (← c, e) (record { same = refl; fits = omega arith })
+  pub kept_done : (d : After (Result State Error)) {a : Result (Unit {0}) Error} {after : World} {u : Unit {0}} → (a, after) ≡ stores.kept s d → a ≡ Ok u
+      → Leaves (answered (world s first second entries) (left (state_reply s) d) [] lent) (Ok Values.None) after lent
+  unfolding stores.kept left state_reply reply answered carry carried_state world line_of done_line values_of handed Fits
+  kept_done (After.after (Ok t) x y z) c k = rw (ap (λ (p : Result (Unit {0}) Error × World). p.1) c) (record { same = refl; fits = omega arith })
+  kept_done (After.after (Err e) x y z) c k = absurd (no_done k (ap (λ (p : Result (Unit {0}) Error × World). p.0) c))
 
-  pub state_refused : {d : After (Result State Error)} {a : Result State Error} {x y z : List ℕ} {e : Error} {r : Result Values Refusal}
-      → After.after a x y z ≡ d → a ≡ Err e → IsErrAnd r (λ f. f ≡ Refusal.Store e)
-      → Leaves (answered (world s first second entries) (left (state_reply s) d) [] lent) r (world s x y z) lent
-  unfolding left state_reply
-  state_refused {x = x} {y = y} {z = z} {e = e} {r = r} c k h = rw (← c, k) (refused_leaves e [] s x y z [] r h)
+  pub kept_refused : (d : After (Result State Error)) {a : Result (Unit {0}) Error} {after : World} {e : Error} {r : Result Values Refusal}
+      → (a, after) ≡ stores.kept s d → a ≡ Err e → IsErrAnd r (λ f. f ≡ Refusal.Store e)
+      → Leaves (answered (world s first second entries) (left (state_reply s) d) [] lent) r after lent
+  unfolding stores.kept left state_reply
+  kept_refused (After.after (Ok t) x y z) c k h = absurd (no_refused k (ap (λ (p : Result (Unit {0}) Error × World). p.0) c))
+  kept_refused (After.after (Err f) x y z) {e = e} {r = r} c k h =
+      let same : e ≡ f = told k (ap (λ (p : Result (Unit {0}) Error × World). p.0) c) in
+      rw (ap (λ (p : Result (Unit {0}) Error × World). p.1) c, ← same) (refused_leaves e [] s x y z [] r h)
 
   -- one that answers nothing more
 
-  pub done_done : {d : After (Result (Unit {0}) Error)} {a : Result (Unit {0}) Error} {x y z : List ℕ} {u : Unit {0}} → After.after a x y z ≡ d → a ≡ Ok u
-      → Leaves (answered (world s first second entries) (left (done_reply s) d) [] lent) (Ok Values.None) (world s x y z) lent
-  unfolding left done_reply reply answered carry carried_state world line_of done_line values_of handed Fits
-  done_done c e = rw (← c, e) (record { same = refl; fits = omega arith })
+  pub left_done : (d : After (Result (Unit {0}) Error)) {a : Result (Unit {0}) Error} {after : World} {u : Unit {0}} → (a, after) ≡ stores.left s d → a ≡ Ok u
+      → Leaves (answered (world s first second entries) (left (done_reply s) d) [] lent) (Ok Values.None) after lent
+  unfolding stores.left left done_reply reply answered carry carried_state world line_of done_line values_of handed Fits
+  left_done (After.after (Ok v) x y z) c k = rw (ap (λ (p : Result (Unit {0}) Error × World). p.1) c) (record { same = refl; fits = omega arith })
+  left_done (After.after (Err e) x y z) c k = absurd (no_done k (ap (λ (p : Result (Unit {0}) Error × World). p.0) c))
 
-  pub done_refused : {d : After (Result (Unit {0}) Error)} {a : Result (Unit {0}) Error} {x y z : List ℕ} {e : Error} {r : Result Values Refusal}
-      → After.after a x y z ≡ d → a ≡ Err e → IsErrAnd r (λ f. f ≡ Refusal.Store e)
-      → Leaves (answered (world s first second entries) (left (done_reply s) d) [] lent) r (world s x y z) lent
-  unfolding left done_reply
-  done_refused {x = x} {y = y} {z = z} {e = e} {r = r} c k h = rw (← c, k) (refused_leaves e [] s x y z [] r h)
+  pub left_refused : (d : After (Result (Unit {0}) Error)) {a : Result (Unit {0}) Error} {after : World} {e : Error} {r : Result Values Refusal}
+      → (a, after) ≡ stores.left s d → a ≡ Err e → IsErrAnd r (λ f. f ≡ Refusal.Store e)
+      → Leaves (answered (world s first second entries) (left (done_reply s) d) [] lent) r after lent
+  unfolding stores.left left done_reply
+  left_refused (After.after (Ok v) x y z) c k h = absurd (no_refused k (ap (λ (p : Result (Unit {0}) Error × World). p.0) c))
+  left_refused (After.after (Err f) x y z) {e = e} {r = r} c k h =
+      let same : e ≡ f = told k (ap (λ (p : Result (Unit {0}) Error × World). p.0) c) in
+      rw (ap (λ (p : Result (Unit {0}) Error × World). p.1) c, ← same) (refused_leaves e [] s x y z [] r h)
 
   -- a step, whose second value says whether the rehash goes on
 
-  pub step_done : {d : After (Result (ℕ × State) Error)} {a : Result (ℕ × State) Error} {x y z : List ℕ} {moved : ℕ} {t : State} {goes_on : ℕ}
-      → After.after a x y z ≡ d → a ≡ Ok (moved, t) → goes_on ≡ bool_byte t.rehashing
+  pub step_done : (d : After (Result (ℕ × State) Error)) {a : Result ℕ Error} (t : State) (x y z : List ℕ) {moved goes_on : ℕ}
+      → (a, world t x y z) ≡ stores.stepped s d → a ≡ Ok moved → goes_on ≡ bool_byte t.rehashing
       → Leaves (answered (world s first second entries) (left (step_reply s) d) [] lent) (Ok (Values.Two moved goes_on)) (world t x y z) lent
-  unfolding left step_reply reply answered carry carried_state world line_of done_line values_of handed Fits
-  step_done {t = t} c e k = rw (← c, e, k, bool_value t.rehashing) (record { same = refl; fits = omega arith })
+  unfolding stores.stepped left step_reply reply answered carry carried_state world line_of done_line values_of handed Fits
+  step_done (After.after (Ok (n, u)) x' y' z') t x y z {moved = moved} c k g =
+      let w : world t x y z ≡ world u x' y' z' = ap (λ (p : Result ℕ Error × World). p.1) c in
+      let same : t ≡ u = ap (λ (v : World). v.state) w in
+      let m : moved ≡ n = counted k (ap (λ (p : Result ℕ Error × World). p.0) c) in
+      rw (w, g, same, m, bool_value u.rehashing) (record { same = refl; fits = omega arith })
+  step_done (After.after (Err e) x' y' z') t x y z c k g = absurd (no_count k (ap (λ (p : Result ℕ Error × World). p.0) c))
 
-  pub step_refused : {d : After (Result (ℕ × State) Error)} {a : Result (ℕ × State) Error} {x y z : List ℕ} {e : Error} {r : Result Values Refusal}
-      → After.after a x y z ≡ d → a ≡ Err e → IsErrAnd r (λ f. f ≡ Refusal.Store e)
-      → Leaves (answered (world s first second entries) (left (step_reply s) d) [] lent) r (world s x y z) lent
-  unfolding left step_reply
-  step_refused {x = x} {y = y} {z = z} {e = e} {r = r} c k h = rw (← c, k) (refused_leaves e (0 ∷ 0 ∷ []) s x y z [] r h)
+  pub step_refused : (d : After (Result (ℕ × State) Error)) {a : Result ℕ Error} {after : World} {e : Error} {r : Result Values Refusal}
+      → (a, after) ≡ stores.stepped s d → a ≡ Err e → IsErrAnd r (λ f. f ≡ Refusal.Store e)
+      → Leaves (answered (world s first second entries) (left (step_reply s) d) [] lent) r after lent
+  unfolding stores.stepped left step_reply
+  step_refused (After.after (Ok (n, u)) x y z) c k h = absurd (no_refused k (ap (λ (p : Result ℕ Error × World). p.0) c))
+  step_refused (After.after (Err f) x y z) {e = e} {r = r} c k h =
+      let same : e ≡ f = told k (ap (λ (p : Result ℕ Error × World). p.0) c) in
+      rw (ap (λ (p : Result ℕ Error × World). p.1) c, ← same) (refused_leaves e (0 ∷ 0 ∷ []) s x y z [] r h)
+
+  -- a start
+
+  start_done : (d : After (Result State Unstarted)) {a : Result (Unit {0}) Error} {after : World} {u : Unit {0}} → (a, after) ≡ stores.started s d → a ≡ Ok u
+      → Leaves (answered (world s first second entries) (left init_reply d) [] lent) (Ok Values.None) after lent
+  unfolding stores.started left init_reply reply answered carry carried_state world line_of done_line values_of handed Fits
+  start_done (After.after (Ok t) x y z) c k = rw (ap (λ (p : Result (Unit {0}) Error × World). p.1) c) (record { same = refl; fits = omega arith })
+  start_done (After.after (Err f) x y z) c k = absurd (no_done k (ap (λ (p : Result (Unit {0}) Error × World). p.0) c))
+
+  start_refused : (d : After (Result State Unstarted)) {a : Result (Unit {0}) Error} {after : World} {e : Error} {r : Result Values Refusal}
+      → (a, after) ≡ stores.started s d → a ≡ Err e → IsErrAnd r (λ f. f ≡ Refusal.Store e)
+      → Leaves (answered (world s first second entries) (left init_reply d) [] lent) r after lent
+  unfolding stores.started left init_reply
+  start_refused (After.after (Ok t) x y z) c k h = absurd (no_refused k (ap (λ (p : Result (Unit {0}) Error × World). p.0) c))
+  start_refused (After.after (Err f) x y z) {e = e} {r = r} c k h =
+      let same : e ≡ f.error = told k (ap (λ (p : Result (Unit {0}) Error × World). p.0) c) in
+      rw (ap (λ (p : Result (Unit {0}) Error × World). p.1) c)
+      (refused_leaves f.error [] f.state x y z [] r (subst (λ (e : Error). IsErrAnd r (λ g. g ≡ Refusal.Store e)) same h))
 
   -- a start and a resize, for numbers that are known
 
-  module _ {a : Result State Unstarted} {x y z : List ℕ} {n m capacity size : ℕ} (e : n ≡ capacity) (f : m ≡ size)
-      (c : After.after a x y z ≡ init first second entries n m) where
-    started : After.after a x y z ≡ init first second entries capacity size
-    started = c ∙ ap₂ (init first second entries) e f
+  module _ {n m capacity size : ℕ} (p : n ≡ capacity) (q : m ≡ size) {a : Result (Unit {0}) Error} {after : World}
+      (c : (a, after) ≡ stores.started s (init first second entries n m)) where
+    started : (a, after) ≡ stores.started s (init first second entries capacity size)
+    started = c ∙ ap₂ (λ (n m : ℕ). stores.started s (init first second entries n m)) p q
 
-    pub init_done : {t : State} → a ≡ Ok t
-        → Leaves (answered (world s first second entries) (left init_reply (init first second entries capacity size)) [] lent) (Ok Values.None)
-        (world t x y z) lent
-    unfolding left init_reply reply answered carry carried_state world line_of done_line values_of handed Fits
-    init_done k = rw (← started, k) (record { same = refl; fits = omega arith })
+    pub init_done : {u : Unit {0}} → a ≡ Ok u
+        → Leaves (answered (world s first second entries) (left init_reply (init first second entries capacity size)) [] lent) (Ok Values.None) after lent
+    init_done k = start_done (init first second entries capacity size) started k
 
-    pub init_refused : {u : Unstarted} {r : Result Values Refusal} → a ≡ Err u → IsErrAnd r (λ f. f ≡ Refusal.Store u.error)
-        → Leaves (answered (world s first second entries) (left init_reply (init first second entries capacity size)) [] lent) r
-        (world s x y z) lent
-    unfolding left init_reply
-    init_refused {u = u} {r = r} k h = rw (← started, k) (refused_leaves u.error [] u.state x y z [] r h)
+    pub init_refused : {e : Error} {r : Result Values Refusal} → a ≡ Err e → IsErrAnd r (λ f. f ≡ Refusal.Store e)
+        → Leaves (answered (world s first second entries) (left init_reply (init first second entries capacity size)) [] lent) r after lent
+    init_refused k h = start_refused (init first second entries capacity size) started k h
 
-  module _ {a : Result State Error} {x y z : List ℕ} {n size : ℕ} (e : n ≡ size) (c : After.after a x y z ≡ resize s first second entries n) where
-    asked : After.after a x y z ≡ resize s first second entries size
-    asked = c ∙ ap (resize s first second entries) e
+  module _ {n size : ℕ} (p : n ≡ size) {a : Result (Unit {0}) Error} {after : World} (c : (a, after) ≡ stores.kept s (resize s first second entries n)) where
+    asked : (a, after) ≡ stores.kept s (resize s first second entries size)
+    asked = c ∙ ap (λ (n : ℕ). stores.kept s (resize s first second entries n)) p
 
-    pub resize_done : {t : State} → a ≡ Ok t
-        → Leaves (answered (world s first second entries) (left (state_reply s) (resize s first second entries size)) [] lent) (Ok Values.None)
-        (world t x y z) lent
-    resize_done k = state_done asked k
+    pub resize_done : {u : Unit {0}} → a ≡ Ok u
+        → Leaves (answered (world s first second entries) (left (state_reply s) (resize s first second entries size)) [] lent) (Ok Values.None) after lent
+    resize_done k = kept_done (resize s first second entries size) asked k
 
     pub resize_refused : {e : Error} {r : Result Values Refusal} → a ≡ Err e → IsErrAnd r (λ f. f ≡ Refusal.Store e)
-        → Leaves (answered (world s first second entries) (left (state_reply s) (resize s first second entries size)) [] lent) r
-        (world s x y z) lent
-    resize_refused k h = state_refused asked k h
+        → Leaves (answered (world s first second entries) (left (state_reply s) (resize s first second entries size)) [] lent) r after lent
+    resize_refused k h = kept_refused (resize s first second entries size) asked k h
 
   -- a find, which only reads
 

@@ -1,20 +1,10 @@
 -- What running a line leaves.
 use Rattle.std.specs.Prelude.{ℕ, ◌≡◌, Result, List}
-use Rattle.model.specs.Sequences.{World, world}
+use Rattle.model.specs.Sequences.{World}
 use Rattle.script.specs.Program.{Ran}
 use Rattle.script_run.specs.declared.answer.Refusal.{Refusal}
 use Rattle.script_run.specs.declared.answer.Values.{Values}
-use Rattle.script_run.specs.declared.line.Store.{Store}
 use Rattle.script_run.specs.Answers.{line_of, Fits, Written}
-
-abbrev pub world_of : Store → World
-world_of s = world s.state s.first.now s.second.now s.entries.now
-
--- the buffers are those that were lent
-pub record SameBuffers (before after : Store) : Type 0 where
-  pub first : after.first.ghost_name ≡ before.first.ghost_name
-  pub second : after.second.ghost_name ≡ before.second.ghost_name
-  pub entries : after.entries.ghost_name ≡ before.entries.ghost_name
 
 -- what there is behind an answer: the world, and the list that walk calls are lent
 abbrev pub ran_of : Result Values Refusal → World → List ℕ → Ran

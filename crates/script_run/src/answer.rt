@@ -4,7 +4,7 @@ ghost use Rattle.script_run.specs.declared.answer.Refusal.TheVariants.{Store};
 ghost use Rattle.script_run.specs.Answers.{pair_room, line_room, refusal_number, scan_refusal, done_line, line_of, Fits, Room, Written};
 
 use crate::PROGRAM_LIMIT;
-use model::{Error, ScanError, Unstarted};
+use model::{Error, ScanError};
 use script::answer::{error_number, write_number_line, write_result_line};
 
 // The places that a walk call is lent: two for each key.
@@ -39,14 +39,6 @@ impl From<Error> for Refusal {
 
     fn from(e: Error) -> Refusal {
         Refusal::Store(e)
-    }
-}
-
-impl From<Unstarted> for Refusal {
-    ghost from_gives = { λ e refusal. refusal ≡ Store e.error };
-
-    fn from(e: Unstarted) -> Refusal {
-        Refusal::Store(e.error)
     }
 }
 

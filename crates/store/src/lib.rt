@@ -59,6 +59,7 @@ fn resize_lent(
 }
 
 // The state, the two bucket buffers and the entry buffer (SPECIFICATION, "The memory").
+#[derive(Drop)]
 pub struct Store<'a> {
     pub state: State,
     pub first: &'a mut [u32],

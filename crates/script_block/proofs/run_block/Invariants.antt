@@ -3,7 +3,7 @@ use Prim.Native.Nat.{◌+◌, ◌-◌}
 use mathlib.Core.Path.{◌≡◌}
 use lib.ListN.{length}
 use Rattle.script_run.specs.Answers.{pair_room}
-use Rattle.script_run.specs.Runs.{world_of, SameBuffers}
+use Rattle.store.specs.Stores.{world_of, SameBuffers}
 use Rattle.script_block.proofs.Gathering.{block_room, Gathering}
 use Rattle.script_block.proofs.run_block.Given as goal
 

@@ -1,6 +1,6 @@
--- `script_run::line::Store::answer` meets its contract: the line's command is run, if it says one.
+-- `script_run::line::answer` meets its contract: the line's command is run, if it says one.
 use Rattle.script_run.proofs.Lines.{said_leaves, bad_leaves}
-use Rattle.script_run.proofs.line.Store.answer.Goals as goal
+use Rattle.script_run.proofs.line.answer.Goals as goal
 
 pub returns-in_err-command-clause-leaves : goal.returns-in_err-command-clause-leaves
 returns-in_err-command-clause-leaves c =

@@ -23,6 +23,8 @@
 
 mod order;
 
+ghost use Rattle.std.specs.Prelude.{◌≤◌, length};
+
 use order::{number_of_keys, parse_order};
 use speed_calls::keys::MAX_KEYS;
 use speed_calls::padding::ORDER_ROOM;
@@ -64,9 +66,11 @@ fn run(order: Order, padding: &[u8; ORDER_ROOM]) -> u32 {
     )
 }
 
-// Reads until the buffer is full or the input ends, and answers what there is at its front. A read that fails counts as the
-// end.
-fn read_input<'a>(input: &mut Stdin, text: &'a mut [u8]) -> &'a [u8] {
+// Reads until the buffer is full or the input ends, and answers how many bytes there are at its front. A read that fails counts
+// as the end.
+fn read_input(input: &mut Stdin, text: &mut [u8]) -> usize
+    ensures { result ≤ length text.new }
+{
     let mut filled = 0;
     while filled < text.len() {
         let more = input.read(&mut text[filled..]).unwrap_or(0);
@@ -75,14 +79,14 @@ fn read_input<'a>(input: &mut Stdin, text: &'a mut [u8]) -> &'a [u8] {
         }
         filled += more;
     }
-    &text[..filled]
+    filled
 }
 
 fn main(rt: HostRuntime) {
-    let mut room = [0u8; ORDER_ROOM];
-    let length = read_input(&mut rt.stdin(), &mut room).len();
-    let padding = room;
-    answer(&rt.stdout(), &room[..length], &padding).ok();
+    let mut text = [0u8; ORDER_ROOM];
+    let length = read_input(&mut rt.stdin(), &mut text);
+    let padding = text;
+    answer(&rt.stdout(), &text[..length], &padding).ok();
 }
 
 fn answer(output: &Stdout, text: &[u8], padding: &[u8; ORDER_ROOM]) -> io::Result<()> {

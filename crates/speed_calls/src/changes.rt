@@ -33,7 +33,9 @@ pub fn add_some(store: &mut Store, keys: &[u32], from: Filling, count: usize) ->
     let mut at = from;
     for _ in 0..count {
         let key = key_at(keys, at.path);
-        s = add(first, second, entries, s, key, at.value).unwrap_or(s);
+        if let Ok(added) = add(first, second, entries, s, key, at.value) {
+            s = added;
+        }
         at = at.next();
     }
     store.state = s;
@@ -62,7 +64,9 @@ pub fn delete_some(store: &mut Store, keys: &[u32], path: Path, count: usize) {
     let mut s = store.state;
     let mut path = path;
     for _ in 0..count {
-        s = delete(first, second, entries, s, key_at(keys, path)).unwrap_or(s);
+        if let Ok(left) = delete(first, second, entries, s, key_at(keys, path)) {
+            s = left;
+        }
         path = path.next();
     }
     store.state = s;

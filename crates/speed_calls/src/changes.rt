@@ -1,7 +1,7 @@
 // The timed calls that change a store, each for many keys on a path. Every work adds in the one loop here, and every work
 // deletes in the other: with one place where it is called, a timed call is inlined there. The loops hold the state themselves,
-// and make the plain calls: a state that is written to a `Store` and read again at every call made an add take 57 ns, not 23. A
-// call that is refused leaves the store as it was.
+// and make the plain calls: a state that is written to a `Store` and read again at every call made an add take 57 ns and not
+// 40. A call that is refused leaves the store as it was.
 use crate::keys::{Path, key_at};
 use dict_delete::delete::delete;
 use dict_find_update::update::update;

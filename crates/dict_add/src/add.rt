@@ -10,7 +10,7 @@ ghost use Rattle.memory.specs.Lent.{sound_lent};
 use after_step::presence::presence_of;
 use during_rehash::during::add_during;
 use during_rehash::entry::{one_more, push};
-use memory::state::require_sound;
+use memory::state::{answered_over, by_fields, require_sound};
 use model::{Error, State};
 use search::found::entry_in;
 
@@ -76,6 +76,25 @@ fn add_rehashing(
     }
 }
 
+// The same, with the quick path's state kept out of memory.
+#[inline(always)]
+fn add_apart(
+    first: &mut [u32],
+    second: &mut [u32],
+    entries: &mut [u32],
+    s: State,
+    key: u32,
+    value: u32,
+) -> Result<State, Error>
+    requires sound { sound_lent (length first.old) (length second.old) (length entries.old) s ≡ true }
+    requires rehashing { s.rehashing ≡ true }
+    ensures { after result first.new second.new entries.new
+        ≡ calls.add_after_step s first.old second.old entries.old key value }
+{
+    let added = add_rehashing(first, second, entries, by_fields(s), key, value);
+    answered_over(s, added)
+}
+
 // With the step that comes first, and without the growth that may follow.
 pub fn add_after_step(
     first: &mut [u32],
@@ -90,7 +109,7 @@ pub fn add_after_step(
 {
     require_sound(first.len(), second.len(), entries.len(), s)?;
     if s.rehashing {
-        add_rehashing(first, second, entries, s, key, value)
+        add_apart(first, second, entries, s, key, value)
     } else {
         add_resting(first, second, entries, s, key, value)
     }

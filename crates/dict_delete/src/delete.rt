@@ -11,7 +11,7 @@ ghost use Rattle.dict_delete.specs.Step.{step_for};
 
 use crate::remove::{delete_resting, free_entry};
 use during_rehash::moving::step_if_held;
-use memory::state::require_sound;
+use memory::state::{answered_over, by_fields, require_sound};
 use model::{Error, Lookup, State, Table};
 use search::lookup::look_up;
 
@@ -116,7 +116,7 @@ fn step_lent(
 
 // A step comes first, and a refusal leaves all as it was. A key that is held once the step is taken is deleted from what the
 // step leaves.
-fn delete_after_step(
+fn step_then_delete(
     first: &mut [u32],
     second: &mut [u32],
     entries: &mut [u32],
@@ -130,6 +130,41 @@ fn delete_after_step(
 {
     let (_, then) = step_lent(first, second, entries, s, key)?;
     delete_alone(first, second, entries, then, key)
+}
+
+// The same, with the quick path's state kept out of memory.
+#[inline(always)]
+fn delete_after_step(
+    first: &mut [u32],
+    second: &mut [u32],
+    entries: &mut [u32],
+    s: State,
+    key: u32,
+) -> Result<State, Error>
+    requires sound { sound_lent (length first.old) (length second.old) (length entries.old) s ≡ true }
+    requires step_due { calls.step_due s ≡ true }
+    ensures { after result first.new second.new entries.new
+        ≡ calls.delete s first.old second.old entries.old key }
+{
+    let deleted = step_then_delete(first, second, entries, by_fields(s), key);
+    answered_over(s, deleted)
+}
+
+// While safe iterators hold up the step. The quick path's state is kept out of memory here too.
+#[inline(always)]
+fn delete_paused(
+    first: &mut [u32],
+    second: &mut [u32],
+    entries: &mut [u32],
+    s: State,
+    key: u32,
+) -> Result<State, Error>
+    requires { sound_lent (length first.old) (length second.old) (length entries.old) s ≡ true }
+    ensures { after result first.new second.new entries.new
+        ≡ calls.delete_alone s first.old second.old entries.old key }
+{
+    let deleted = delete_alone(first, second, entries, by_fields(s), key);
+    answered_over(s, deleted)
 }
 
 pub fn delete(
@@ -146,7 +181,7 @@ pub fn delete(
     if s.rehashing & (s.safe_iterators == 0) {
         delete_after_step(first, second, entries, s, key)
     } else if s.rehashing {
-        delete_alone(first, second, entries, s, key)
+        delete_paused(first, second, entries, s, key)
     } else {
         delete_resting(first, second, entries, s, key)
     }

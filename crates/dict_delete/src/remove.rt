@@ -85,11 +85,11 @@ fn remove_in(buckets: &mut [u32], entries: &mut [u32], s: State, key: u32) -> Re
                 entry,
                 s.free_head,
             );
-            Ok(State {
-                free_head: entry,
-                old_used: s.old_used - 1,
-                ..s
-            })
+            // A copy with two fields set, and no new state: see `written_over`.
+            let mut t = s;
+            t.free_head = entry;
+            t.old_used = s.old_used - 1;
+            Ok(t)
         }
     }
 }

@@ -10,6 +10,7 @@ ghost use Rattle.model.proofs.AddLeaves.{Growable};
 use dict_add::add::add_after_step;
 use dict_suggest_look::suggest::suggest_for;
 use dict_tables::resize::resize;
+use memory::state::{by_fields, written_over};
 use model::{Error, FORCE_RATIO, State};
 
 // Too many keys for the table: as many as it has buckets, where it may grow, or so many more that it grows all the same.
@@ -46,6 +47,16 @@ fn grow_to(first: &mut [u32], second: &mut [u32], entries: &[u32], s: State, siz
     resize(first, second, entries, s, size).unwrap_or(s)
 }
 
+// The same, with the quick path's state kept out of memory.
+#[inline(always)]
+fn grow_apart(first: &mut [u32], second: &mut [u32], entries: &[u32], s: State, size: u32) -> State
+    ensures { after (Ok result) first.new second.new entries.now
+        ≡ calls.grown_by s (calls.resize s first.old second.old entries.now size) }
+{
+    let grown = grow_to(first, second, entries, by_fields(s), size);
+    written_over(s, grown)
+}
+
 // What follows an add that was answered, and left this state.
 fn grow(first: &mut [u32], second: &mut [u32], entries: &[u32], s: State) -> State
     requires { Growable s }
@@ -54,7 +65,7 @@ fn grow(first: &mut [u32], second: &mut [u32], entries: &[u32], s: State) -> Sta
 {
     let size = wanted_size(s);
     if s.old_size < size {
-        grow_to(first, second, entries, s, size)
+        grow_apart(first, second, entries, s, size)
     } else {
         s
     }

@@ -98,19 +98,14 @@ pub fn one_more(s: State, free: u32) -> State
     requires { Counted s }
     ensures { result ≡ one_more s (calls.target s.rehashing) free }
 {
-    let n = State {
-        free_head: free,
-        ..s
-    };
+    // A copy with two fields set, and no new state: see `written_over` of memory.
+    let mut n = s;
+    n.free_head = free;
     if s.rehashing {
-        State {
-            new_used: s.new_used + 1,
-            ..n
-        }
+        n.new_used = s.new_used + 1;
+        n
     } else {
-        State {
-            old_used: s.old_used + 1,
-            ..n
-        }
+        n.old_used = s.old_used + 1;
+        n
     }
 }

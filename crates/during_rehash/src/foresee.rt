@@ -26,7 +26,8 @@ pub struct Foresight {
 }
 
 // Damage that the step would meet, or the lookup after it, is refused. With no keys in the old table the step only ends the
-// rehash.
+// rehash. It is built into both calls that ask: an answer of this size would go through memory.
+#[inline(always)]
 pub fn foresee(
     current: &[u32],
     other: &[u32],

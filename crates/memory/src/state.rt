@@ -55,6 +55,59 @@ pub fn is_sound(current: usize, other: usize, entries: usize, s: State) -> bool
     }
 }
 
+// The same state, made anew field by field. A state that goes to a call or comes back from one lies in memory, whole, with the
+// bytes between its fields. Where that is a copy made by this function, the state of the quick path need not lie there too.
+#[inline(always)]
+pub fn by_fields(s: State) -> State
+    ensures { result ≡ s }
+{
+    State {
+        second_is_current: s.second_is_current,
+        old_size: s.old_size,
+        new_size: s.new_size,
+        old_used: s.old_used,
+        new_used: s.new_used,
+        rehashing: s.rehashing,
+        rehash_index: s.rehash_index,
+        free_head: s.free_head,
+        capacity: s.capacity,
+        resize_allowed: s.resize_allowed,
+        safe_iterators: s.safe_iterators,
+    }
+}
+
+// The state t, written field by field over a copy of s. So a call that ends by several ways answers a copy of the state that it
+// was given by each of them, and what lies between the fields is not carried along.
+#[inline(always)]
+pub fn written_over(s: State, t: State) -> State
+    ensures { result ≡ t }
+{
+    let mut n = s;
+    n.second_is_current = t.second_is_current;
+    n.old_size = t.old_size;
+    n.new_size = t.new_size;
+    n.old_used = t.old_used;
+    n.new_used = t.new_used;
+    n.rehashing = t.rehashing;
+    n.rehash_index = t.rehash_index;
+    n.free_head = t.free_head;
+    n.capacity = t.capacity;
+    n.resize_allowed = t.resize_allowed;
+    n.safe_iterators = t.safe_iterators;
+    n
+}
+
+// The same of an answer.
+#[inline(always)]
+pub fn answered_over(s: State, answer: Result<State, Error>) -> Result<State, Error>
+    ensures { result ≡ answer }
+{
+    match answer {
+        Ok(t) => Ok(written_over(s, t)),
+        Err(e) => Err(e),
+    }
+}
+
 // One of the two by the flag: a length, a number of an entry, a lent buffer.
 #[inline(always)]
 pub fn choose<T: Copy>(flag: bool, yes: T, no: T) -> T

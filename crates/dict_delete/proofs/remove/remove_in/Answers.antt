@@ -17,5 +17,5 @@ pub returns-in-At : goal.returns-in-At
 unfolding recounted state_of with_count old_new size_of
 returns-in-At c = search in_removed
 
-pub overflow_sub-result : goal.overflow_sub-result
-overflow_sub-result c = search in_used
+pub overflow_sub-t : goal.overflow_sub-t
+overflow_sub-t c = search in_used

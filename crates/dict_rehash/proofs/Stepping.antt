@@ -24,10 +24,10 @@ use Rattle.memory.specs.Length.{length_of}
 use Rattle.memory.specs.Lent.{sound_lent}
 use Rattle.memory.proofs.Orientation.{written_first, written_second, writing_sound}
 use Rattle.memory.proofs.Counted.{counted, uncounted}
-use Rattle.dict_rehash.specs.MovedChains.{old_chain, OldChain, chains, ChainOf, ChainMoved}
+use Rattle.dict_rehash.specs.MovedChains.{old_chain, step_room, OldChain, chains, ChainOf, ChainMoved}
 use Rattle.dict_rehash.proofs.Due.{is_paused, due_of, stepped_by, due_stepped}
 use Rattle.std.specs.Prelude.{Result, Ok, Err}
-use Rattle.std.specs.Result.{IsErrAnd}
+use Rattle.std.specs.Result.{IsErrAnd, IfOk}
 use Rattle.std.proofs.lemmas.Result.{err_from_is_err_and}
 
 -- what a sound state says of the two tables during a rehash
@@ -73,6 +73,11 @@ module _ (s : State) (current entries : List ℕ) (b count : ℕ) (k : OldChain 
   count_fits = omega (arith, k.counted, (read_sound _ entries s.capacity s.old_used (get_or current b 0) k.ns k.read).1)
 
 -- ---- the chain of a bucket of the old table
+
+-- a step that is refused moves no keys
+pub refused_room : (s : State) (r : Result (ℕ × State) Error) (x : Error) → IsErrAnd r (λ e. e ≡ x) → IfOk r (λ t. step_room s t.0)
+refused_room s (Err e) x h = tt
+refused_room s (Ok t) x h = absurd h
 
 module _ (s : State) (current other entries : List ℕ) (b : ℕ) where
   moved_by : (c : Option (List ℕ)) (ns : List ℕ) (count : ℕ) (then : Chains) (t : State) → c ≡ some ns → length ns ≡ count

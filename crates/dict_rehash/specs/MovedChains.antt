@@ -1,5 +1,5 @@
 -- What a rehash step reads of a chain, and what moving it does to a table's chains.
-use Rattle.std.specs.Prelude.{ℕ, ◌≡◌, List, length}
+use Rattle.std.specs.Prelude.{ℕ, ◌+◌, ◌≤◌, ◌≡◌, List, length}
 use Rattle.std.proofs.Math.Option.{Option, some}
 use Rattle.model.specs.declared.State.{State}
 use Rattle.model.specs.Keys.{bucket_of}
@@ -7,6 +7,10 @@ use Rattle.model.specs.Memory.{link_of, key_of}
 use Rattle.model.specs.Calls.{Chains, push, moved}
 use Rattle.model.proofs.Linked.{Linked, room}
 use Rattle.memory.specs.Length.{bucket_chain}
+
+-- so many keys may leave the old table for the new one: both counts stay in range
+abbrev pub step_room : State → ℕ → Type 0
+step_room s count = (count ≤ s.old_used) × (s.new_used + count ≤ s.capacity)
 
 -- the chain of bucket b of the old table
 abbrev pub old_chain : State → List ℕ → List ℕ → ℕ → Option (List ℕ)

@@ -1,10 +1,10 @@
 // One step of a rehash (SPECIFICATION, "Step").
-ghost use Rattle.std.specs.Prelude.{◌≡◌, true, ◌+◌, ◌-◌, ◌*◌, ◌≤◌, ◌<◌, length, Ok};
+ghost use Rattle.std.specs.Prelude.{◌≡◌, true, ◌+◌, ◌-◌, ◌*◌, ◌≤◌, ◌<◌, length, IfOk, Ok};
 ghost use Rattle.model.specs.Limits.{legal_size, empty_visits};
 ghost use Rattle.model.specs.Calls as calls;
 ghost use Rattle.model.specs.Calls.After.{after};
 ghost use Rattle.model.proofs.Soundness.{Sound};
-ghost use Rattle.dict_rehash.specs.MovedChains.{old_chain, chains, OldChain, ChainOf, ChainMoved, EntryMoved};
+ghost use Rattle.dict_rehash.specs.MovedChains.{old_chain, chains, step_room, OldChain, ChainOf, ChainMoved, EntryMoved};
 
 use memory::chain::chain_length;
 use memory::entry::{key_of, link_of, set_link};
@@ -99,9 +99,10 @@ pub fn move_counted(
     requires sound { Sound s (length current.old) (length other.old) (length entries.old) }
     requires rehashing { (s.rehashing ≡ true) × (b < s.old_size) }
     requires old_chain { OldChain s current.old entries.old b count }
-    ensures { after (Ok result) current.new other.new entries.new
+    ensures outcome { after (Ok result) current.new other.new entries.new
         ≡ calls.moved_chain s current.old other.old entries.old b
         (old_chain s current.old entries.old b) }
+    ensures step_room { step_room s result.0 }
 {
     let head = std::mem::replace(&mut current[b as usize], 0);
     move_chain(other, entries, s.new_size, head, count);
@@ -119,9 +120,10 @@ fn move_bucket(
 ) -> Result<(u32, State), Error>
     requires sound { Sound s (length current.old) (length other.old) (length entries.old) }
     requires rehashing { (s.rehashing ≡ true) × (b < s.old_size) }
-    ensures { after result current.new other.new entries.new
+    ensures outcome { after result current.new other.new entries.new
         ≡ calls.moved_chain s current.old other.old entries.old b
         (old_chain s current.old entries.old b) }
+    ensures step_room { IfOk result (λ r. step_room s r.0) }
 {
     let index = b as usize;
     let head = current[index];
@@ -139,9 +141,10 @@ fn move_next(
 ) -> Result<(u32, State), Error>
     requires sound { Sound s (length current.old) (length other.old) (length entries.old) }
     requires rehashing { s.rehashing ≡ true }
-    ensures { after result current.new other.new entries.new
+    ensures outcome { after result current.new other.new entries.new
         ≡ calls.moved_from s current.old other.old entries.old
         (calls.ahead_of s current.old) }
+    ensures step_room { IfOk result (λ r. step_room s r.0) }
 {
     match look_ahead(current, s.rehash_index, s.old_size) {
         Ahead::Filled(b) => move_bucket(current, other, entries, s, b),
@@ -159,8 +162,9 @@ fn take_step(
 ) -> Result<(u32, State), Error>
     requires sound { Sound s (length current.old) (length other.old) (length entries.old) }
     requires rehashing { s.rehashing ≡ true }
-    ensures { after result current.new other.new entries.new
+    ensures outcome { after result current.new other.new entries.new
         ≡ calls.step_taken s current.old other.old entries.old }
+    ensures step_room { IfOk result (λ r. step_room s r.0) }
 {
     if s.old_used == 0 {
         Ok((0, state_after(s, 0, s.rehash_index)))
@@ -177,8 +181,9 @@ fn step_in(
     s: State,
 ) -> Result<(u32, State), Error>
     requires { Sound s (length current.old) (length other.old) (length entries.old) }
-    ensures { after result current.new other.new entries.new
+    ensures outcome { after result current.new other.new entries.new
         ≡ calls.stepped s current.old other.old entries.old s.rehashing }
+    ensures step_room { IfOk result (λ r. step_room s r.0) }
 {
     if !s.rehashing {
         return Err(Error::NotRehashing);

@@ -12,4 +12,4 @@ pub state_after-requires : goal.state_after-requires
 state_after-requires c = (search moved_old, search moved_new)
 
 pub returns : goal.returns
-returns c = search bucket_moved
+returns c = search (bucket_moved, moved_old, moved_new)

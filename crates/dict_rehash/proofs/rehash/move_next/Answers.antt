@@ -19,7 +19,7 @@ returns-in-Filled c = search next_filled
 
 pub returns-in-Empty : goal.returns-in-Empty
 unfolding ahead_of
-returns-in-Empty c = search next_empty
+returns-in-Empty c = search (rules, next_empty, none_moved)
 
 pub returns-in-End : goal.returns-in-End
 unfolding ahead_of

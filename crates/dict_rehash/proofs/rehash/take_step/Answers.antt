@@ -7,7 +7,7 @@ pub state_after-requires : goal.state_after-requires
 state_after-requires c = (search rules, search none_moved)
 
 pub returns-then-s-eq0 : goal.returns-then-s-eq0
-returns-then-s-eq0 c = search step_finished
+returns-then-s-eq0 c = search (rules, step_finished, none_moved)
 
 pub returns-else-s-eq0 : goal.returns-else-s-eq0
 returns-else-s-eq0 c = search step_moved

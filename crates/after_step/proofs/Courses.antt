@@ -6,7 +6,7 @@ use mathlib.Core.Path.{◌≡◌, refl, sym, ap, subst, ◌∙◌}
 use mathlib.Core.Logic.{inl, inr}
 use mathlib.Core.Bool.{Bool, true, false, ◌||◌}
 use mathlib.Core.List.{List, [], ◌∷◌}
-use mathlib.Core.Option.{Option}
+use mathlib.Core.Option.{Option, some}
 use native.Mathlib.Omega.{arith}
 use lib.ListN.{length, get_or}
 use lib.Dec.{eqb}
@@ -31,7 +31,7 @@ use Rattle.after_step.specs.declared.course.ChainSight.{ChainSight}
 use Rattle.after_step.specs.Presence.{presence_then, entries_after}
 use Rattle.after_step.specs.Told.{among, surveyed, found_presence, new_then, old_then, tables_then, Moves}
 use Rattle.after_step.specs.Links.{LinkMoved}
-use Rattle.after_step.specs.Course.{Course, Foresight, sight, GoesChain, Goes, Foreseen, ForeseenChain}
+use Rattle.after_step.specs.Course.{Course, Foresight, sight, GoesChain, Goes, Foreseen, chain_course, ForeseenChain}
 use Rattle.after_step.proofs.Surveying.{surveyed_none, surveyed_some}
 use Rattle.after_step.proofs.Deciding.{exit_is, old_damaged, new_damaged, in_either, moving_unsound, moving_sound, ahead_end, ahead_empty, step_ended}
 use Rattle.std.specs.Prelude.{Result, Ok, Err}
@@ -39,17 +39,19 @@ use Rattle.std.specs.Result.{IsErrAnd}
 
 -- ---- the chain of bucket b of the old table
 
+course_read : (b n : ℕ) (o : Option (List ℕ)) (ns : List ℕ) (count : ℕ) (meets : Bool) → o ≡ some ns → count ≡ length ns → meets ≡ among n ns
+    → chain_course b n o ≡ Course.Moving (record { bucket = b; count = count; held = false; meets = meets })
+unfolding chain_course
+course_read b n o ns count meets read k g = rw (read, k, g)
+
 module _ (s : State) (current other entries : List ℕ) (b key c n : ℕ) where
   pub foreseen_unsound : (r : Result ChainSight Error) (x : Error) → IsErrAnd r (λ e. e ≡ x)
       → Err x ≡ surveyed entries s.new_size c key n (old_chain s current entries b)
       → ForeseenChain s current other entries key n (moved_chain s current other entries b (old_chain s current entries b)) b r
-  unfolding ForeseenChain Goes moved_chain
+  unfolding ForeseenChain chain_course Goes moved_chain
   foreseen_unsound r x h e =
       let (no_chain, damaged) = surveyed_none entries s.new_size c key n x (old_chain s current entries b) e in
-      rw (exit_is r x h) (
-        Course.Refused,
-        record { told = moving_unsound s current other entries b key c n x e; goes = rw no_chain },
-      )
+      rw (exit_is r x h) (record { told = moving_unsound s current other entries b key c n x e; goes = rw no_chain })
 
   module _ (v : Survey) (e : Ok v ≡ surveyed entries s.new_size c key n (old_chain s current entries b)) (ce : c ≡ bucket_of key s.new_size)
       (moves : Moves s current other entries b) where
@@ -76,15 +78,19 @@ module _ (s : State) (current other entries : List ℕ) (b key c n : ℕ) where
     abbrev new : Option (List ℕ)
     new = bucket_chain s.new_size entries s.capacity (s.new_used + v.count - v.joining) other (bucket_of key s.new_size)
 
+    -- where damage is met after the survey, that chain moves
+    moves_on : chain_course b n (old_chain s current entries b) ≡ Course.Moving (sees false)
+    moves_on =
+        let (ns, read, k, l, m, h, g) = surveyed_some entries s.new_size c key n v (old_chain s current entries b) e in
+        course_read b n (old_chain s current entries b) ns v.count v.meets read k g
+
     -- a chain that a lookup reads after the move is not sound
     damaged : (r : Result ChainSight Error) (x : Error) → IsErrAnd r (λ e. e ≡ x) → Err x ≡ then
         → ForeseenChain s current other entries key n step b r
     unfolding ForeseenChain Goes
     damaged r x h f =
-        rw (exit_is r x h) (
-          Course.Moving (sees false),
-          record { told = moving_sound s current other entries b key c n v e ce moves (Err x) f; goes = chain_goes false },
-        )
+        rw (exit_is r x h)
+        (record { told = moving_sound s current other entries b key c n v e ce moves (Err x) f; goes = rw moves_on (chain_goes false) })
 
     pub foreseen_old : (r : Result ChainSight Error) (x : Error) → IsErrAnd r (λ e. e ≡ x)
         → Err x ≡ old_then entries s.capacity (s.old_used - v.count) current s.old_size b key
@@ -123,7 +129,7 @@ module _ (s : State) (current other entries : List ℕ) (b key c n : ℕ) where
 module _ (s : State) (current other entries : List ℕ) (key n b : ℕ) (a : After (Result (ℕ × State) Error)) where
   pub chain_damaged : (e : Error) → ForeseenChain s current other entries key n a b (Err e) → Err e ≡ presence_then key s.second_is_current a
   unfolding ForeseenChain
-  chain_damaged e h = h.1.told
+  chain_damaged e h = h.told
 
   pub chain_sound : (c : ChainSight) → ForeseenChain s current other entries key n a b (Ok c)
       → Foreseen s current other entries key n a (sight (Ok c.held) (Course.Moving c))

@@ -1,5 +1,6 @@
 -- What is known of a step before it is taken: what it does, and what a lookup answers after it.
-use Rattle.std.specs.Prelude.{ℕ, ◌<◌, ◌≡◌, Bool, List, Result, Ok, Err}
+use Rattle.std.specs.Prelude.{ℕ, ◌<◌, ◌≡◌, Bool, false, List, length, Result, Ok, Err}
+use Rattle.std.proofs.Math.Option.{Option, none, some}
 use Rattle.model.specs.declared.State.{State}
 use Rattle.model.specs.declared.Error.{Error}
 use Rattle.model.specs.Calls.{After, step_done, moved_chain}
@@ -43,10 +44,17 @@ pub record Foreseen (s : State) (current other entries : List ℕ) (key n : ℕ)
   pub told : r.presence ≡ presence_then key s.second_is_current a
   pub goes : Goes s current other entries n a r.course
 
+-- What a step that comes to bucket b does, by the chain there: it is refused where that chain is not sound, and else moves it. (For
+-- damage elsewhere, which tells nothing of the key: `held` is false.)
+unfoldable pub chain_course : ℕ → ℕ → Option (List ℕ) → Course
+chain_course b n none = Course.Refused
+chain_course b n (some ns) =
+    Course.Moving (record { bucket = b; count = length ns; held = false; meets = among n ns })
+
 -- From what is told of the chain of bucket b: it moves; or there is damage, on that chain, where the step is refused, or on one that
--- a lookup reads after it.
+-- a lookup reads after it, where it moves too.
 unfoldable pub ForeseenChain : State → (current other entries : List ℕ) → (key n : ℕ) → After (Result (ℕ × State) Error) → ℕ → Result ChainSight Error → Type 0
 ForeseenChain s current other entries key n a b (Err e) =
-    (course : Course) × Foreseen s current other entries key n a (sight (Err e) course)
+    Foreseen s current other entries key n a (sight (Err e) (chain_course b n (old_chain s current entries b)))
 ForeseenChain s current other entries key n a b (Ok c) =
     (c.bucket ≡ b) × Foreseen s current other entries key n a (sight (Ok c.held) (Course.Moving c))

@@ -17,7 +17,6 @@ use model::{Error, State};
 // answers.
 #[tactic(auto, unfolding(crate::specs::Free::next_free, model::specs::Memory::keys_held, model::specs::Calls::takeable))]
 pub(crate) fn require_room(s: State, held: bool) -> Result<(), Error>
-    requires { Counted s }
     ensures { MatchResult result
         (λ _. (held ≡ false) × (keys_held s ≢ s.capacity) × (0 < s.free_head))
         (λ e. (entries : List ℕ) → Err e ≡ next_free s held entries) }
@@ -25,7 +24,7 @@ pub(crate) fn require_room(s: State, held: bool) -> Result<(), Error>
     if held {
         return Err(Error::Present);
     }
-    if s.old_used + s.new_used == s.capacity {
+    if s.old_used as u64 + s.new_used as u64 == s.capacity as u64 {
         return Err(Error::Full);
     }
     if s.free_head == 0 {
@@ -78,7 +77,6 @@ pub fn push(
     held: bool,
 ) -> Result<u32, Error>
     requires readable { Readable size (length buckets.old) s.capacity (length entries.old) }
-    requires counted { Counted s }
     requires free_fits { s.free_head ≤ s.capacity }
     ensures answer { result ≡ next_free s held entries.old }
     ensures pushed { OnOk result ((buckets.new ≡ set buckets.old (bucket_of key size) s.free_head)

@@ -95,7 +95,7 @@ fn remove_in(buckets: &mut [u32], entries: &mut [u32], s: State, key: u32) -> Re
 }
 
 // With no rehash under way, once the state is known to be sound: the flag says which lent buffer has that table.
-pub(crate) fn delete_resting(
+pub fn delete_resting(
     first: &mut [u32],
     second: &mut [u32],
     entries: &mut [u32],

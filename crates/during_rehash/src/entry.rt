@@ -45,14 +45,7 @@ pub(crate) fn require_link(s: State, link: u32) -> Result<u32, Error>
 }
 
 // Entry n, with the key and the value, at the head of the key's bucket.
-pub(crate) fn push_entry(
-    buckets: &mut [u32],
-    entries: &mut [u32],
-    size: u32,
-    n: u32,
-    key: u32,
-    value: u32,
-)
+pub fn push_entry(buckets: &mut [u32], entries: &mut [u32], size: u32, n: u32, key: u32, value: u32)
     requires is_entry { 0 < n }
     requires readable { Readable size (length buckets.old) n (length entries.old) }
     ensures buckets_after { buckets.new ≡ set buckets.old (bucket_of key size) n }

@@ -2,8 +2,9 @@
 // lent_bytes/specs/Exports.antt.
 #![tactic(auto)]
 
-ghost use Rattle.std.specs.Prelude.{◌≡◌};
-ghost use Rattle.lent_bytes.specs.Exports.{exported_list};
+ghost use Rattle.std.specs.Prelude.{◌≡◌, ◌&&◌, false, length};
+ghost use Rattle.little_endian.specs.Words.{decode};
+ghost use Rattle.lent_bytes.specs.Exports.{lengths_fit, flags_fit, refused, exported_list};
 ghost use Rattle.lent_bytes.specs.Exports.Lent.{lent};
 ghost use Rattle.lent_bytes.specs.Exports.Done.{done};
 ghost use Rattle.export_calls.specs.Kinds.{Lists};
@@ -30,7 +31,11 @@ pub fn run_list<F: FnOnce(&[u32], &[u32], &[u32], &mut [u32], State) -> Answer>(
     call: F,
 ) -> u32
     requires { F.IsAlwaysCallable call }
-    ensures { (c : Listing) → Lists (F.post call) (list_call c)
+    ensures refusal { (lengths_fit (length state.now) (length first.now) (length second.now) (length entries.now) (length list.old) (length answer.old)
+        && flags_fit (decode state.now)) ≡ false
+        → done result (lent state.now first.now second.now entries.now list.new answer.new)
+        ≡ refused (lent state.now first.now second.now entries.now list.old answer.old) }
+    ensures called { (c : Listing) → Lists (F.post call) (list_call c)
         → done result (lent state.now first.now second.now entries.now list.new answer.new)
         ≡ exported_list (list_call c) (lent state.now first.now second.now entries.now list.old answer.old) }
 {

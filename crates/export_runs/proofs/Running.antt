@@ -46,11 +46,19 @@ module _ (state : List ℕ) (first second entries list answer : ℕ) (s : State)
   pub state_whole : length state ≡ state_bytes
   state_whole = (opened state first second entries list answer s p).lengths.state_length
 
+  pub not_refused : (lengths_fit (length state) first second entries list answer && flags_fit (decode state)) ≡ false → ⊥
+  not_refused h = cc (p.passed, h)
+
 pub answer_whole : (state : List ℕ) (first second entries list : ℕ) (answer : List ℕ) (s : State)
     → Passed state first second entries list (length answer) s → length answer ≡ answer_bytes
 answer_whole state first second entries list answer s p = (opened state first second entries list (length answer) s p).lengths.answer_length
 
 -- It does not pass
+
+pub refusal : (state first second entries list answer : List ℕ) (r : ℕ) (out : List ℕ) → (r ≡ 1) × (out ≡ cleared answer)
+    → Done.done r (Lent.lent state first second entries list out) ≡ refused (Lent.lent state first second entries list answer)
+unfolding refused
+refusal state first second entries list answer r out d = rw (d.0, d.1) refl
 
 pub list_refused : (state first second entries list answer : List ℕ) (o : Option State) (r : ℕ) (out : List ℕ) (call : List ℕ → Call)
     → o ≡ None

@@ -1,7 +1,8 @@
 // The calls that only read.
-ghost use Rattle.std.specs.Prelude.{◌≡◌, []};
+ghost use Rattle.std.specs.Prelude.{◌≡◌, ◌&&◌, false, [], length};
+ghost use Rattle.little_endian.specs.Words.{decode};
 ghost use Rattle.model.specs.Sequences.{Call};
-ghost use Rattle.lent_bytes.specs.Exports.{exported_call};
+ghost use Rattle.lent_bytes.specs.Exports.{lengths_fit, flags_fit, refused, exported_call};
 ghost use Rattle.lent_bytes.specs.Exports.Lent.{lent};
 ghost use Rattle.lent_bytes.specs.Exports.Done.{done};
 ghost use Rattle.export_calls.specs.Kinds.{Reads};
@@ -22,7 +23,11 @@ pub fn run_read<F: FnOnce(&[u32], &[u32], &[u32], State) -> Answer>(
     call: F,
 ) -> u32
     requires { F.IsAlwaysCallable call }
-    ensures { (c : Call) → Reads (F.post call) c
+    ensures refusal { (lengths_fit (length state.now) (length first.now) (length second.now) (length entries.now) 0 (length answer.old)
+        && flags_fit (decode state.now)) ≡ false
+        → done result (lent state.now first.now second.now entries.now [] answer.new)
+        ≡ refused (lent state.now first.now second.now entries.now [] answer.old) }
+    ensures called { (c : Call) → Reads (F.post call) c
         → done result (lent state.now first.now second.now entries.now [] answer.new)
         ≡ exported_call c (lent state.now first.now second.now entries.now [] answer.old) }
 {

@@ -1,11 +1,11 @@
 // The calls that write, and start.
-ghost use Rattle.std.specs.Prelude.{◌≡◌, [], length};
+ghost use Rattle.std.specs.Prelude.{◌≡◌, ◌&&◌, false, [], length};
 ghost use Rattle.model.specs.Sequences.{Call};
-ghost use Rattle.lent_bytes.specs.Exports.{most_bucket_bytes, most_entry_bytes, state_bytes, state_numbers, started_state, exported_call, exported_init};
+ghost use Rattle.lent_bytes.specs.Exports.{most_bucket_bytes, most_entry_bytes, state_bytes, state_numbers, lengths_fit, flags_fit, refused, started_state, exported_call, exported_init};
 ghost use Rattle.lent_bytes.specs.Exports.Lent.{lent};
 ghost use Rattle.lent_bytes.specs.Exports.Done.{done};
 ghost use Rattle.lent_bytes.specs.Checked.{Whole};
-ghost use Rattle.little_endian.specs.Words.{encode};
+ghost use Rattle.little_endian.specs.Words.{decode, encode};
 ghost use Rattle.export_calls.specs.Kinds.{Writes};
 ghost use Rattle.export_runs.specs.Numbers.{Ran};
 
@@ -53,7 +53,11 @@ pub fn run_write<F: FnOnce(&mut [u32], &mut [u32], &mut [u32], State) -> Answer>
     call: F,
 ) -> u32
     requires { F.IsAlwaysCallable call }
-    ensures { (c : Call) → Writes (F.post call) c
+    ensures refusal { (lengths_fit (length state.old) (length first.old) (length second.old) (length entries.old) 0 (length answer.old)
+        && flags_fit (decode state.old)) ≡ false
+        → done result (lent state.new first.new second.new entries.new [] answer.new)
+        ≡ refused (lent state.old first.old second.old entries.old [] answer.old) }
+    ensures called { (c : Call) → Writes (F.post call) c
         → done result (lent state.new first.new second.new entries.new [] answer.new)
         ≡ exported_call c (lent state.old first.old second.old entries.old [] answer.old) }
 {

@@ -1,6 +1,6 @@
 -- `export_lists::run_list` meets its contract.
 use borrow.Author.Rules.{rules}
-use Rattle.export_runs.proofs.Running.{first_whole, second_whole, entries_whole, bucket_fits, entries_fit, answer_whole, list_refused, as_many}
+use Rattle.export_runs.proofs.Running.{first_whole, second_whole, entries_whole, bucket_fits, entries_fit, answer_whole, not_refused, refusal, list_refused, as_many}
 use Rattle.export_lists.proofs.Listing.{front_run}
 use Rattle.export_lists.proofs.run_list.Goals as goal
 
@@ -19,8 +19,14 @@ write_numbers-requires g c = search as_many
 pub write_answer-requires : goal.write_answer-requires
 write_answer-requires g c = search (answer_whole, c.in-Some.ensures.some)
 
-pub returns-in_default : goal.returns-in_default
-returns-in_default g c = λ call is. search list_refused
+pub returns-in_default-clause-refusal : goal.returns-in_default-clause-refusal
+returns-in_default-clause-refusal g c = λ unfit. search refusal
 
-pub returns : goal.returns
-returns g c = λ call is. search (front_run, c.in-Some.ensures.some, is _ _ _ _ _ _ _ c.call-a.ensures)
+pub returns-in_default-clause-called : goal.returns-in_default-clause-called
+returns-in_default-clause-called g c = λ call is. search list_refused
+
+pub returns-clause-refusal : goal.returns-clause-refusal
+returns-clause-refusal g c = λ unfit. absurd (search (not_refused, c.in-Some.ensures.some))
+
+pub returns-clause-called : goal.returns-clause-called
+returns-clause-called g c = λ call is. search (front_run, c.in-Some.ensures.some, is _ _ _ _ _ _ _ c.call-a.ensures)

@@ -6,4 +6,4 @@ use Rattle.exports.proofs.suspects_add.Goals as goal
 
 pub returns : goal.returns
 unfolding perform given world
-returns c = c.run_write.ensures (Call.on c.args.key (KeyCall.add c.args.value)) (λ f g e s a f' g' e' p. search (rules, left_tells, p))
+returns c = c.run_write.ensures.called (Call.on c.args.key (KeyCall.add c.args.value)) (λ f g e s a f' g' e' p. search (rules, left_tells, p))

@@ -10,4 +10,4 @@ returns-in_default c = search flag_refused
 
 pub returns : goal.returns
 unfolding perform given world
-returns c = flag_passed _ _ _ _ _ _ _ _ _ _ _ c.flag_of.ensures c.in-Some.is (c.run_write.ensures (Call.note (StateCall.allow_resize c.in-Some.allowed)) (λ f g e s a f' g' e' p. search (rules, state_tells, p)))
+returns c = flag_passed _ _ _ _ _ _ _ _ _ _ _ c.flag_of.ensures c.in-Some.is (c.run_write.ensures.called (Call.note (StateCall.allow_resize c.in-Some.allowed)) (λ f g e s a f' g' e' p. search (rules, state_tells, p)))

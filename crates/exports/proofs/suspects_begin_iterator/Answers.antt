@@ -6,5 +6,5 @@ use Rattle.exports.proofs.suspects_begin_iterator.Goals as goal
 
 pub returns : goal.returns
 unfolding perform given world
-returns c = c.run_read.ensures (Call.read ReadCall.begin_iterator) (λ f g e s a p.
+returns c = c.run_read.ensures.called (Call.read ReadCall.begin_iterator) (λ f g e s a p.
     record { answers = search (rules, value_tells, p); keeps = search (rules, p) })

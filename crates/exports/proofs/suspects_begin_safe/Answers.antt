@@ -6,4 +6,4 @@ use Rattle.exports.proofs.suspects_begin_safe.Goals as goal
 
 pub returns : goal.returns
 unfolding perform given world
-returns c = c.run_write.ensures (Call.note StateCall.begin_safe) (λ f g e s a f' g' e' p. search (rules, state_tells, p))
+returns c = c.run_write.ensures.called (Call.note StateCall.begin_safe) (λ f g e s a f' g' e' p. search (rules, state_tells, p))

@@ -6,4 +6,4 @@ use Rattle.exports.proofs.suspects_resize.Goals as goal
 
 pub returns : goal.returns
 unfolding perform given world
-returns c = c.run_write.ensures (Call.resize c.args.size) (λ f g e s a f' g' e' p. search (rules, left_tells, p))
+returns c = c.run_write.ensures.called (Call.resize c.args.size) (λ f g e s a f' g' e' p. search (rules, left_tells, p))

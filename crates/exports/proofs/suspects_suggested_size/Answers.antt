@@ -10,5 +10,5 @@ returns-in_default c = search flag_refused
 
 pub returns : goal.returns
 unfolding perform given world
-returns c = flag_passed _ _ _ _ _ _ _ _ _ _ _ c.flag_of.ensures c.in-Some.is (c.run_read.ensures (Call.read (ReadCall.suggested_size c.in-Some.growing)) (λ f g e s a p.
+returns c = flag_passed _ _ _ _ _ _ _ _ _ _ _ c.flag_of.ensures c.in-Some.is (c.run_read.ensures.called (Call.read (ReadCall.suggested_size c.in-Some.growing)) (λ f g e s a p.
     record { answers = search (rules, value_tells, p); keeps = search (rules, p) }))

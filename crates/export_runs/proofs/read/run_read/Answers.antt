@@ -1,6 +1,6 @@
 -- `export_runs::read::run_read` meets its contract.
 use borrow.Author.Rules.{rules}
-use Rattle.export_runs.proofs.Running.{first_whole, second_whole, entries_whole, bucket_fits, entries_fit, answer_whole, refused_call, read_run}
+use Rattle.export_runs.proofs.Running.{first_whole, second_whole, entries_whole, bucket_fits, entries_fit, answer_whole, not_refused, refusal, refused_call, read_run}
 use Rattle.export_runs.proofs.read.run_read.Goals as goal
 
 pub numbers_of-f-requires : goal.numbers_of-f-requires
@@ -15,8 +15,14 @@ numbers_of-e-requires g c = search (rules, entries_fit, entries_whole, c.in-Some
 pub write_answer-requires : goal.write_answer-requires
 write_answer-requires g c = search (answer_whole, c.in-Some.ensures.some)
 
-pub returns-in_default : goal.returns-in_default
-returns-in_default g c = λ call is. search refused_call
+pub returns-in_default-clause-refusal : goal.returns-in_default-clause-refusal
+returns-in_default-clause-refusal g c = λ unfit. search refusal
 
-pub returns : goal.returns
-returns g c = λ call is. search (read_run, c.in-Some.ensures.some, is _ _ _ _ _ c.call-a.ensures)
+pub returns-in_default-clause-called : goal.returns-in_default-clause-called
+returns-in_default-clause-called g c = λ call is. search refused_call
+
+pub returns-clause-refusal : goal.returns-clause-refusal
+returns-clause-refusal g c = λ unfit. absurd (search (not_refused, c.in-Some.ensures.some))
+
+pub returns-clause-called : goal.returns-clause-called
+returns-clause-called g c = λ call is. search (read_run, c.in-Some.ensures.some, is _ _ _ _ _ c.call-a.ensures)

@@ -12,10 +12,11 @@ use Rattle.little_endian.specs.Reading.{Decoded}
 use Rattle.little_endian.proofs.Laws.{encode_length}
 use Rattle.model.specs.declared.State.{State}
 use Rattle.model.specs.Sequences.{World, Outcome, world, perform}
-use Rattle.lent_bytes.specs.Exports.{Lent, Done, most_entry_bytes, exported_list}
+use Rattle.lent_bytes.specs.Exports.{Lent, Done, exported_list}
 use Rattle.lent_bytes.specs.Checked.{Passed}
 use Rattle.export_calls.specs.declared.answers.Answer.{Answer}
 use Rattle.export_calls.specs.Kinds.{Told, told, Answers}
+use Rattle.export_runs.specs.Numbers.{room_for}
 use Rattle.export_runs.proofs.Running.{opened, list_run}
 use Rattle.export_lists.specs.Room.{Listing, list_call, list_room}
 use Rattle.export_lists.proofs.Parts.{decode_take, encode_append, encode_rest, decode_length}
@@ -31,12 +32,12 @@ module _ (state first second entries list answer : List ℕ) (s : State)
     (p : Passed state (length first) (length second) (length entries) (length list) (length answer) s)
     (f g e : List ℕ) (u : Decoded first f) (v : Decoded second g) (w : Decoded entries e) where
   pub front_run : (n : ℕ) (l l' part list' out : List ℕ) (call : Listing) (a : Answer)
-      → n ≡ min (length list / 4) 8192 → Decoded (take (n * 4) list) l → ((i : ℕ) → Fits w8 (get_or list i 0))
+      → n ≡ min (length list / 4) list_room → Decoded (take (n * 4) list) l → ((i : ℕ) → Fits w8 (get_or list i 0))
       → Answers (list_call call l) f g e s a l'
       → part ≡ encode l' → list' ≡ part ++ drop (n * 4) list → out ≡ encode (a.one ∷ a.two ∷ [])
       → Done.done a.number (Lent.lent state first second entries list' out)
       ≡ exported_list (list_call call) (Lent.lent state first second entries list answer)
-  unfolding world list_room most_entry_bytes
+  unfolding world list_room room_for
   front_run n l l' part list' out call a m d b t part_is list'_is q =
       let k = (opened state _ _ _ _ _ s p).lengths in
       let world : World = world s f g e in

@@ -18,6 +18,7 @@ use Rattle.lent_bytes.proofs.Checks.{lengths, checked}
 use Rattle.std.specs.Prelude.{Option, Some, None, IfNone}
 use Rattle.export_calls.specs.declared.answers.Answer.{Answer}
 use Rattle.export_calls.specs.Kinds.{answer_of, Told, told, Answers}
+use Rattle.export_runs.specs.Numbers.{room_for}
 
 -- What the first check has shown: the room is enough, and the answer has its eight bytes
 
@@ -25,13 +26,9 @@ module _ (state : List ℕ) (first second entries list answer : ℕ) (s : State)
   pub opened : Checked state first second entries list answer
   opened = checked state first second entries list answer true (sym p.passed) refl
 
-pub bucket_fits : (bytes room : List ℕ) → Whole most_bucket_bytes (length bytes) → length room ≡ 4096 → Fitting bytes room
-unfolding most_bucket_bytes
-bucket_fits bytes room w e = record { whole = w.whole; few = omega (arith, w.few) }
-
-pub entries_fit : (bytes room : List ℕ) → Whole most_entry_bytes (length bytes) → length room ≡ 12288 → Fitting bytes room
-unfolding most_entry_bytes
-entries_fit bytes room w e = record { whole = w.whole; few = omega (arith, w.few) }
+pub room_fits : (bytes room : List ℕ) (most : ℕ) → Whole most (length bytes) → length room ≡ room_for most → Fitting bytes room
+unfolding room_for
+room_fits bytes room most w e = record { whole = w.whole; few = omega (arith, w.few) }
 
 module _ (state : List ℕ) (first second entries list answer : ℕ) (s : State) (p : Passed state first second entries list answer s) where
   pub first_whole : Whole most_bucket_bytes first

@@ -7,7 +7,7 @@ ghost use Rattle.lent_bytes.specs.Exports.Lent.{lent};
 ghost use Rattle.lent_bytes.specs.Exports.Done.{done};
 ghost use Rattle.export_calls.specs.Kinds.{Reads};
 
-use crate::room::{BUCKET_ROOM, ENTRY_ROOM};
+use crate::room::{bucket_room, entry_room};
 use export_calls::answers::Answer;
 use lent_bytes::answer::{refuse, write_answer};
 use lent_bytes::check::Lengths;
@@ -41,9 +41,9 @@ pub fn run_read<F: FnOnce(&[u32], &[u32], &[u32], State) -> Answer>(
     let Some(s) = lengths.state(state) else {
         return refuse(answer);
     };
-    let mut first_room = [0; BUCKET_ROOM];
-    let mut second_room = [0; BUCKET_ROOM];
-    let mut entry_room = [0; ENTRY_ROOM];
+    let mut first_room = bucket_room();
+    let mut second_room = bucket_room();
+    let mut entry_room = entry_room();
     let f = numbers_of(first, &mut first_room);
     let g = numbers_of(second, &mut second_room);
     let e = numbers_of(entries, &mut entry_room);

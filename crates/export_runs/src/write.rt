@@ -9,7 +9,7 @@ ghost use Rattle.little_endian.specs.Words.{decode, encode};
 ghost use Rattle.export_calls.specs.Kinds.{Writes};
 ghost use Rattle.export_runs.specs.Numbers.{Ran};
 
-use crate::room::{BUCKET_ROOM, ENTRY_ROOM};
+use crate::room::{bucket_room, entry_room};
 use dict_tables::init::init;
 use export_calls::answers::{Answer, of_init};
 use lent_bytes::answer::{refuse, write_answer};
@@ -31,9 +31,9 @@ fn on_numbers<F: FnOnce(&mut [u32], &mut [u32], &mut [u32]) -> Answer>(
     requires callable { F.IsAlwaysCallable call }
     ensures { Ran (F.post call) first.old second.old entries.old result first.new second.new entries.new }
 {
-    let mut first_room = [0; BUCKET_ROOM];
-    let mut second_room = [0; BUCKET_ROOM];
-    let mut entry_room = [0; ENTRY_ROOM];
+    let mut first_room = bucket_room();
+    let mut second_room = bucket_room();
+    let mut entry_room = entry_room();
     let f = numbers_of(first, &mut first_room);
     let g = numbers_of(second, &mut second_room);
     let e = numbers_of(entries, &mut entry_room);

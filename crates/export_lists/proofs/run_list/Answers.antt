@@ -1,17 +1,17 @@
 -- `export_lists::run_list` meets its contract.
 use borrow.Author.Rules.{rules}
-use Rattle.export_runs.proofs.Running.{first_whole, second_whole, entries_whole, bucket_fits, entries_fit, answer_whole, not_refused, refusal, list_refused, as_many}
+use Rattle.export_runs.proofs.Running.{first_whole, second_whole, entries_whole, room_fits, answer_whole, not_refused, refusal, list_refused, as_many}
 use Rattle.export_lists.proofs.Listing.{front_run}
 use Rattle.export_lists.proofs.run_list.Goals as goal
 
 pub numbers_of-f-requires : goal.numbers_of-f-requires
-numbers_of-f-requires g c = search (rules, bucket_fits, first_whole, c.in-Some.ensures.some)
+numbers_of-f-requires g c = search (rules, room_fits, first_whole, c.in-Some.ensures.some)
 
 pub numbers_of-g-requires : goal.numbers_of-g-requires
-numbers_of-g-requires g c = search (rules, bucket_fits, second_whole, c.in-Some.ensures.some)
+numbers_of-g-requires g c = search (rules, room_fits, second_whole, c.in-Some.ensures.some)
 
 pub numbers_of-e-requires : goal.numbers_of-e-requires
-numbers_of-e-requires g c = search (rules, entries_fit, entries_whole, c.in-Some.ensures.some)
+numbers_of-e-requires g c = search (rules, room_fits, entries_whole, c.in-Some.ensures.some)
 
 pub write_numbers-requires : goal.write_numbers-requires
 write_numbers-requires g c = search as_many

@@ -1,7 +1,7 @@
 -- A word's reversal, looked up byte by byte. One computed test, that the table is the list of the reversals of 0 to 255, gives
 -- each place its reversal (`tested`); one law adds a byte to what is reversed so far (`byte_more`).
 use Rattle.std.proofs.Common.{◌≡◌, ℕ, zero, suc, ◌+◌, ◌*◌, ◌/◌, ◌%◌, ◌^◌, ◌<◌, List, [], ◌∷◌, get_or, ap, ◌∙◌, le_of_suc-le-suc, add-zero, add-suc, suc-add, zero-add, arith}
-use Rattle.std.specs.Int.{w32, to_le_bytes, from_be_bytes}
+use Rattle.std.specs.Int.{w16, w32, to_le_bytes, from_be_bytes}
 use Rattle.cursor.specs.Reverse.{reverse, rev}
 use Rattle.cursor.proofs.Reversal.{reverse_split, reverse_mod}
 
@@ -42,3 +42,17 @@ four_bytes x first second third fourth r bytes b e f g h k =
     let three = byte_more x 16 _ third two (rw b at g) in
     let joined : r ≡ ((first * 256 + second) * 256 + third) * 256 + fourth = omega arith in
     joined ∙ byte_more x 24 _ fourth three (rw b at h)
+
+-- a word's two lowest bytes, each reversed, in the opposite order: the reversal of its 16 lowest bits
+pub two_bytes :
+    (x first second r : ℕ)
+    → (bytes : List ℕ)
+    → bytes ≡ to_le_bytes w32 x
+    → first ≡ reverse 8 (get_or bytes 0 0)
+    → second ≡ reverse 8 (get_or bytes 1 0)
+    → r ≡ from_be_bytes w16 (first ∷ second ∷ [])
+    → r ≡ reverse 16 x
+two_bytes x first second r bytes b e f k =
+    let lowest : first ≡ reverse 8 x = (rw b at e) ∙ reverse_mod 8 x in
+    let joined : r ≡ first * 256 + second = omega arith in
+    joined ∙ byte_more x 8 first second lowest (rw b at f)

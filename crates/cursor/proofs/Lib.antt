@@ -5,6 +5,7 @@ pub mod NextCursor
 pub mod ByteTable
 pub mod HighBits
 pub mod QuickStep
+pub mod HalfWord
 pub mod Interval
 pub mod Sweep
 pub mod LargeBuckets

@@ -1,5 +1,5 @@
 -- The next cursor of a table of size 2 ^ b, with no word size: one more, counted in the reversed lowest b bits.
-use Rattle.std.proofs.Common.{◌≡◌, ℕ, suc, ◌+◌, ◌-◌, ◌*◌, ◌%◌, ◌^◌, ◌<◌, ◌≤◌, ◌≢◌, ◌⊎◌, ap, subst, inl, inr, ⊎_elim, mod-lt, mod-eq_of_lt, suc-mul, add_comm, eq-or-lt_of_le, arith, pow_pos}
+use Rattle.std.proofs.Common.{◌≡◌, ℕ, suc, ◌+◌, ◌-◌, ◌*◌, ◌%◌, ◌^◌, ◌<◌, ◌≤◌, ◌≢◌, ◌⊎◌, sym, ap, ◌∙◌, subst, inl, inr, ⊎_elim, mod-lt, mod-eq_of_lt, suc-mul, add_comm, eq-or-lt_of_le, arith, pow_pos}
 use native.Mathlib.Nat.{mod-mod, mod_self, le_dest}
 use lib.Pow.{high, low, high_ones}
 use Rattle.cursor.specs.Reverse.{reverse, rev}
@@ -27,6 +27,14 @@ next_at_lem b d v =
 pub next_short : (b v : ℕ) → b ≤ 32 → next (2 ^ b) v ≡ reverse b (suc (reverse b v) % 2 ^ b)
 unfolding next_at next set_high add_one rev
 next_short b v h = let (d, e) = le_dest h in subst (λ n. next_at n (2 ^ b) v ≡ reverse b (suc (reverse b v) % 2 ^ b)) e (next_at_lem b d v)
+
+-- for a table of at most 2^16 buckets the rule at 16 bits gives the same
+pub next_sixteen : (b v : ℕ) → b ≤ 16 → next (2 ^ b) v ≡ reverse 16 ((reverse 16 (v % 2 ^ b + (2 ^ 16 - 2 ^ b)) + 1) % 2 ^ 16)
+unfolding next_at
+next_sixteen b v h =
+    let (d, e) = le_dest h in
+    let short = next_short b v (omega arith) in
+    short ∙ sym (subst (λ n. next_at n (2 ^ b) v ≡ reverse b (suc (reverse b v) % 2 ^ b)) e (next_at_lem b d v))
 
 -- it is a bucket of the table
 pub next_lt : (b v : ℕ) → b ≤ 32 → next (2 ^ b) v < 2 ^ b

@@ -1,3 +1,3 @@
--- The sum that the code takes by subtracting, and cases of the definition.
+-- What the steps of the code give: one number mixed, and the sum that it takes by subtracting; and cases of the definition.
 pub mod Mixing
 pub mod Cases

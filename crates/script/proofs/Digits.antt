@@ -19,7 +19,7 @@ enough (suc m) n h =
     ap (λ (l : List ℕ). cond (ltb n 10) ((48 + n) ∷ []) (l ++ (48 + n % 10) ∷ []))
     (enough m (n / 10) (omega (arith, pow-suc 10 (suc m))))
 
-decimal_one : (n : ℕ) → n < 10 → decimal n ≡ (48 + n) ∷ []
+pub decimal_one : (n : ℕ) → n < 10 → decimal n ≡ (48 + n) ∷ []
 unfolding decimal most_digits digits
 decimal_one n h = rw (lt-ltb n 10 h)
 
@@ -27,7 +27,7 @@ parted : (m n : ℕ) → 10 ≤ n → digits (suc m) n ≡ digits m (n / 10) ++ 
 unfolding digits
 parted m n h = rw (le-ltb n 10 h)
 
-decimal_more : (n : ℕ) → 10 ≤ n → n < 2 ^ 32 → decimal n ≡ decimal (n / 10) ++ (48 + n % 10) ∷ []
+pub decimal_more : (n : ℕ) → 10 ≤ n → n < 2 ^ 32 → decimal n ≡ decimal (n / 10) ++ (48 + n % 10) ∷ []
 unfolding decimal most_digits
 decimal_more n h f =
     parted 9 n h ∙ ap (λ (l : List ℕ). l ++ (48 + n % 10) ∷ []) (sym (enough 8 (n / 10) (omega arith)))

@@ -19,26 +19,26 @@ use Rattle.std.specs.List.{position_or_len}
 use Rattle.script.proofs.Words.{part, same_parts}
 
 -- where the mark first stands, or the length
-abbrev index_of : ℕ → List ℕ → ℕ
+abbrev pub index_of : ℕ → List ℕ → ℕ
 index_of mark l = position_or_len (λ (b : ℕ). eqb b mark) l
 
 module _ (mark : ℕ) (l : List ℕ) where
   -- the mark is in none of the bytes
-  alone : index_of mark l ≡ length l → split mark l ≡ l ∷ []
+  pub alone : index_of mark l ≡ length l → split mark l ≡ l ∷ []
   alone e = sym (same_parts mark l) ∙ slice_split_none (λ (b : ℕ). eqb b mark) l (λ k d h. fails_before_first (λ (b : ℕ). eqb b mark) l k d (omega arith))
 
   -- the mark is in the bytes, first at that place
-  parted : index_of mark l < length l → split mark l ≡ take (index_of mark l) l ∷ split mark (drop (suc (index_of mark l)) l)
+  pub parted : index_of mark l < length l → split mark l ≡ take (index_of mark l) l ∷ split mark (drop (suc (index_of mark l)) l)
   parted h =
       rw (← add-one (index_of mark l))
       (sym (same_parts mark l) ∙ slice_split_first (λ (b : ℕ). eqb b mark) l 0 h
       ∙ ap (λ (ps : List (List ℕ)). take (index_of mark l) l ∷ ps) (same_parts mark (drop (index_of mark l + 1) l)))
 
 -- what is behind that place
-abbrev behind : List ℕ → ℕ → List ℕ
+abbrev pub behind : List ℕ → ℕ → List ℕ
 behind text start = take (length text - start) (drop start text)
 
-behind_all : (text : List ℕ) (start : ℕ) → behind text start ≡ drop start text
+pub behind_all : (text : List ℕ) (start : ℕ) → behind text start ≡ drop start text
 behind_all text start = take_all (length text - start) (drop start text) (omega (arith, length-drop start text))
 
 -- Some bytes, not none: their first line ends at their first line feed, or at their end.

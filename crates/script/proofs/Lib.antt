@@ -2,6 +2,7 @@
 mod Reading
 mod Words
 mod Ends
+mod Spaces
 pub mod Digits
 pub mod Writing
 pub mod Answering

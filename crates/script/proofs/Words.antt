@@ -63,12 +63,12 @@ module _ {S A : Type 0} (steps : S → Option A → S → Type 0) (v : A → Lis
 
 -- The command that a line's words say, as a split of the line at its spaces gives them.
 
-single : (word : List ℕ) → length word ≡ 1 → word ≡ get_or word 0 0 ∷ []
+pub single : (word : List ℕ) → length word ≡ 1 → word ≡ get_or word 0 0 ∷ []
 single [] h = absurd (omega arith)
 single (b ∷ []) h = refl
 single (b ∷ a ∷ more) h = absurd (omega arith)
 
-no_letter : (word : List ℕ) (words : List (List ℕ)) → (length word ≡ 1 → ⊥) → None ≡ spoken (word ∷ words)
+pub no_letter : (word : List ℕ) (words : List (List ℕ)) → (length word ≡ 1 → ⊥) → None ≡ spoken (word ∷ words)
 unfolding spoken
 no_letter [] words h = refl
 no_letter (b ∷ []) words h = absurd (h refl)

@@ -99,7 +99,7 @@ module _ (start : List ℕ) (at : ℕ) (values out : List ℕ) (next i : ℕ) (h
     spans : length (spaced (drop i values)) ≡ suc (length (decimal (get_or values i 0))) + length (spaced (drop (i + 1) values))
     spans = ap length here ∙ length-append (space ∷ decimal (get_or values i 0)) (spaced (drop (i + 1) values))
 
-    value_room : at + length (spaced values) ≤ length start → next + length (space ∷ decimal (get_or values i 0)) ≤ length out
+    pub value_room : at + length (spaced values) ≤ length start → next + length (space ∷ decimal (get_or values i 0)) ≤ length out
     value_room r =
         let k = h.kept in
         let e = h.reach in

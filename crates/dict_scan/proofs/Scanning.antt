@@ -19,21 +19,24 @@ use Rattle.memory.specs.Length.{length_of}
 use Rattle.memory.proofs.Counted.{counted}
 use Rattle.scan_group.specs.declared.lent.Entries.{Entries}
 use Rattle.scan_group.specs.declared.lent.LiveTable.{LiveTable}
+use Rattle.scan_group.specs.declared.lent.LiveChain.{LiveChain}
 use Rattle.scan_group.specs.declared.lent.Group.{Group}
-use Rattle.scan_group.specs.Chains.{table_chain, table_chains, larger_buckets, group_chains, group_linked}
+use Rattle.scan_group.specs.Lent.{IsChain}
+use Rattle.scan_group.specs.Chains.{chain_from, table_chain, table_chains, larger_buckets, group_chains, group_linked}
 use Rattle.scan_group.specs.Written.{written, Writable}
 use Rattle.scan_group.proofs.Buckets.{sizes_of, one_answered, two_answered}
-use Rattle.scan_group.proofs.Chains.{joined_parts, linked_same, all_linked_same}
+use Rattle.scan_group.proofs.Chains.{chain_is, joined_parts, linked_same, all_linked_same}
 use Rattle.scan_group.proofs.HandingOut.{scanned_damaged, scanned_short, scanned_written, writable}
 use Rattle.dict_scan.specs.Groups.{scanned_two}
 
 -- One live table: the bucket is the cursor's.
 
-pub one_handed_out : (e : Entries) (t : LiveTable) (list : List ℕ) (cursor b turned : ℕ) (a : AfterScan)
-    → (b ≡ bucket_of cursor t.size) × (b < t.size) → ((c : ℕ) → t.size ≡ 2 ^ c → turned ≡ next t.size cursor)
-    → a ≡ scanned e.fields.now list turned (table_chain e t b)
+pub one_handed_out : (e : Entries) (t : LiveTable) (list : List ℕ) (cursor b turned : ℕ) (c : LiveChain) (a : AfterScan)
+    → (b ≡ bucket_of cursor t.size) × (b < t.size) → ((x : ℕ) → t.size ≡ 2 ^ x → turned ≡ next t.size cursor)
+    → IsChain t b c → a ≡ scanned e.fields.now list turned (chain_from e c b)
     → a ≡ scanned e.fields.now list (one_table t.size cursor).answered (table_chain e t (bucket_of cursor t.size))
-one_handed_out e t list cursor b turned a i n h = rw (i.0, one_answered t.size cursor turned t.legal n) at h
+one_handed_out e t list cursor b turned c a i n k h =
+    rw (chain_is e t b c k, i.0, one_answered t.size cursor turned t.legal n) at h
 
 -- Two live tables.
 

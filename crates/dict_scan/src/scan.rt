@@ -28,7 +28,7 @@ fn scan_one(
 {
     let next = next_cursor(table.size, cursor);
     let b = table.bucket(cursor);
-    hand_out(entries, table, list, b, next)
+    hand_out(entries, table.chain(b), list, b, next)
 }
 
 // Two live tables: the chain of the smaller one's bucket, then those of the larger one's buckets. A group with more entries

@@ -24,9 +24,11 @@ use Rattle.model.proofs.FirstPlace.{first_agree}
 use Rattle.memory.specs.Lent.{sound_lent}
 use Rattle.memory.proofs.Orientation.{reading_sound}
 use Rattle.scan_group.specs.declared.lent.LiveTable.{LiveTable}
+use Rattle.scan_group.specs.declared.lent.LiveChain.{LiveChain}
 use Rattle.scan_group.specs.declared.lent.Lent.{Lent}
-use Rattle.scan_group.specs.Chains.{table_chain}
-use Rattle.scan_group.specs.Lent.{IsNew, Reads}
+use Rattle.scan_group.specs.Chains.{chain_from}
+use Rattle.scan_group.specs.Lent.{IsChain, IsNew, Reads}
+use Rattle.scan_group.proofs.Chains.{chain_is}
 use Rattle.scan_group.proofs.Places.{current_of, other_of, oriented_call, place_chain, old_lent, new_lent}
 use Rattle.iterator.specs.Tables.{filled_in, first_filled}
 use Rattle.iterator.proofs.Searching.{or_else, first_shifted, first_tables}
@@ -132,18 +134,19 @@ module _ (s : State) (first second entries list : List ℕ) (place : ℕ)
   answered e = e ∙ reading_sound s first second entries true (sym h) _ _ _ refl (oriented_call s _ first second)
 
   -- out of the old table
-  pub from_old : (b : ℕ)
+  pub from_old : (b : ℕ) (c : LiveChain)
       → (first_filled l.old.buckets.now place l.old.size ≡ maybe.some b) × (b < l.old.size)
-      → a ≡ scanned l.entries.fields.now list (b + 1) (table_chain l.entries l.old b) → a ≡ iterate s first second entries list place
+      → IsChain l.old b c → a ≡ scanned l.entries.fields.now list (b + 1) (chain_from l.entries c b)
+      → a ≡ iterate s first second entries list place
   unfolding size_of buckets_of
-  from_old b f e =
+  from_old b c f h e =
       let i = old_lent s first second entries l k in
       let found : first_filled (current_of s first second) place s.old_size ≡ maybe.some b =
       rw (i.table_is.buckets_are, i.table_is.size_is) at f.0 in
       let inside : b < s.old_size = rw i.table_is.size_is at f.1 in
       answered
       (e
-      ∙ rw (place_chain s _ _ entries Table.Old l.entries l.old i b, i.fields_are)
+      ∙ rw (chain_is l.entries l.old b c h, place_chain s _ _ entries Table.Old l.entries l.old i b, i.fields_are)
       (old_found s (current_of s first second) (other_of s first second) entries list place b inside found))
 
   module _ (n : first_filled l.old.buckets.now place l.old.size ≡ maybe.none) where
@@ -168,14 +171,14 @@ module _ (s : State) (first second entries list : List ℕ) (place : ℕ)
       from_is = rw k.old_is.size_is at m
 
       -- out of the new one
-      pub from_new : (b : ℕ) → (first_filled t.buckets.now from t.size ≡ maybe.some b) × (b < t.size)
-          → a ≡ scanned l.entries.fields.now list (l.old.size + b + 1) (table_chain l.entries t b)
+      pub from_new : (b : ℕ) (c : LiveChain) → (first_filled t.buckets.now from t.size ≡ maybe.some b) × (b < t.size)
+          → IsChain t b c → a ≡ scanned l.entries.fields.now list (l.old.size + b + 1) (chain_from l.entries c b)
           → a ≡ iterate s first second entries list place
-      from_new b f e =
+      from_new b c f h e =
           let i = new_lent s first second entries l k t o in
           answered
           (e
-          ∙ rw (place_chain s _ _ entries Table.New l.entries t i b, i.fields_are, k.old_is.size_is)
+          ∙ rw (chain_is l.entries t b c h, place_chain s _ _ entries Table.New l.entries t i b, i.fields_are, k.old_is.size_is)
           (new_found s (current_of s first second) (other_of s first second) entries list place new.rehashing none_in_old b
           (rw (new.is_table.buckets_are, new.is_table.size_is, from_is) at f.0)))
 

@@ -41,14 +41,20 @@ pub fn iterate(
     let lent = orient(first, second, entries, s);
     let old = lent.old;
     if let Some(b) = first_filled(old, place) {
-        return hand_out(lent.entries, old, list, b as usize, b + 1);
+        return hand_out(lent.entries, old.chain(b as usize), list, b as usize, b + 1);
     }
     let Some(new) = lent.new else {
         return Ok((old.size, 0));
     };
     let from = place.saturating_sub(old.size);
     match first_filled(new, from) {
-        Some(b) => hand_out(lent.entries, new, list, b as usize, old.size + b + 1),
+        Some(b) => hand_out(
+            lent.entries,
+            new.chain(b as usize),
+            list,
+            b as usize,
+            old.size + b + 1,
+        ),
         None => Ok((old.size + new.size, 0)),
     }
 }

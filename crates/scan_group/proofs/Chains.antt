@@ -11,7 +11,15 @@ use lib.ListN.{length, get_or, length-append}
 use Rattle.model.specs.Memory.{chain, any_key, listed}
 use Rattle.model.specs.Walk.{joined}
 use Rattle.model.proofs.Linked.{room, read_sound, chain_wider}
-use Rattle.scan_group.specs.Chains.{chains, linked, all_linked}
+use Rattle.scan_group.specs.declared.lent.Entries.{Entries}
+use Rattle.scan_group.specs.declared.lent.LiveTable.{LiveTable}
+use Rattle.scan_group.specs.declared.lent.LiveChain.{LiveChain}
+use Rattle.scan_group.specs.Lent.{IsChain}
+use Rattle.scan_group.specs.Chains.{chains, linked, all_linked, chain_from, table_chain}
+
+-- a chain of a table, by its first entry
+pub chain_is : (e : Entries) (t : LiveTable) (b : ℕ) (c : LiveChain) → IsChain t b c → chain_from e c b ≡ table_chain e t b
+chain_is e t b c k = rw (k.0, k.1, k.2)
 
 -- nothing behind
 pub joined_end : (o : Option (List ℕ)) → joined o (some []) ≡ o

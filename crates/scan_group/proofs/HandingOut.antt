@@ -6,7 +6,7 @@ use mathlib.Core.Bool.{true, false}
 use mathlib.Core.List.{List}
 use mathlib.Core.Option.{Option, some}
 use native.Mathlib.Omega.{arith}
-use lib.ListN.{length, get_or}
+use lib.ListN.{length}
 use lib.Dec.{leb}
 use borrow.Author.Tests.{le-leb, lt-leb}
 use Rattle.std.specs.Prelude.{Ok, Err, Result}
@@ -23,8 +23,8 @@ use Rattle.memory.specs.Lent.{sound_lent}
 use Rattle.memory.proofs.Orientation.{reading_refused}
 use Rattle.memory.proofs.Counted.{counted, uncounted}
 use Rattle.scan_group.specs.declared.lent.Entries.{Entries}
-use Rattle.scan_group.specs.declared.lent.LiveTable.{LiveTable}
-use Rattle.scan_group.specs.Chains.{linked, table_chain}
+use Rattle.scan_group.specs.declared.lent.LiveChain.{LiveChain}
+use Rattle.scan_group.specs.Chains.{linked, chain_from}
 use Rattle.scan_group.specs.Written.{written, Writable}
 use Rattle.scan_group.proofs.Chains.{linked_same}
 
@@ -77,30 +77,25 @@ module _ (entries list : List ℕ) (answered : ℕ) (o : Option (List ℕ)) (r :
 
 -- One bucket's chain.
 
-module _ (e : Entries) (t : LiveTable) (list : List ℕ) (b head : ℕ) (i : head ≡ get_or t.buckets.now b 0) (r : Result ℕ Error)
-    (l : r ≡ length_of (chain (in_bucket t.size b) e.fields.now e.capacity t.used head)) (next : ℕ) where
-  read : r ≡ length_of (table_chain e t b)
-  read = rw i at l
-
+module _ (e : Entries) (c : LiveChain) (list : List ℕ) (b : ℕ) (r : Result ℕ Error)
+    (l : r ≡ length_of (chain (in_bucket c.size b) e.fields.now e.capacity c.used c.head)) (next : ℕ) where
   pub one_damaged : (a : Result (ℕ × ℕ) ScanError) (x : Error) → IsErrAnd a (λ refusal. refusal ≡ ScanError.Refused x)
-      → r ≡ Err x → AfterScan.after a list ≡ scanned e.fields.now list next (table_chain e t b)
-  one_damaged a x gives u = scanned_damaged e.fields.now list next _ r read a x gives u
+      → r ≡ Err x → AfterScan.after a list ≡ scanned e.fields.now list next (chain_from e c b)
+  one_damaged a x gives u = scanned_damaged e.fields.now list next _ r l a x gives u
 
   module _ (n : ℕ) (s : r ≡ Ok n) where
     pub one_short : length list < n * 2
-        → AfterScan.after (Err (ScanError.Short n)) list ≡ scanned e.fields.now list next (table_chain e t b)
-    one_short h = scanned_short e.fields.now list next _ r read n s h
+        → AfterScan.after (Err (ScanError.Short n)) list ≡ scanned e.fields.now list next (chain_from e c b)
+    one_short h = scanned_short e.fields.now list next _ r l n s h
 
-    module _ (g : t.used ≤ e.capacity) (h : n * 2 ≤ length list) where
-      same_chain : linked e.fields.now head ≡ table_chain e t b
+    module _ (g : c.used ≤ e.capacity) (h : n * 2 ≤ length list) where
+      same_chain : linked e.fields.now c.head ≡ chain_from e c b
       same_chain =
-          rw i
-          (linked_same e.fields.now e.capacity t.used e.entries_fit g (in_bucket t.size b) (get_or t.buckets.now b 0)
-          (counted r n _ s read).0)
+          linked_same e.fields.now e.capacity c.used e.entries_fit g (in_bucket c.size b) c.head (counted r n _ s l).0
 
-      pub one_writable : Writable list (linked e.fields.now head)
-      one_writable = writable e.fields.now list next _ r read n s _ same_chain h
+      pub one_writable : Writable list (linked e.fields.now c.head)
+      one_writable = writable e.fields.now list next _ r l n s _ same_chain h
 
-      pub one_written : (list' : List ℕ) → list' ≡ written e.fields.now list (linked e.fields.now head)
-          → AfterScan.after (Ok (next, n)) list' ≡ scanned e.fields.now list next (table_chain e t b)
-      one_written list' w = scanned_written e.fields.now list next _ r read n s list' _ same_chain h w
+      pub one_written : (list' : List ℕ) → list' ≡ written e.fields.now list (linked e.fields.now c.head)
+          → AfterScan.after (Ok (next, n)) list' ≡ scanned e.fields.now list next (chain_from e c b)
+      one_written list' w = scanned_written e.fields.now list next _ r l n s list' _ same_chain h w

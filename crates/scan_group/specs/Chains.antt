@@ -10,6 +10,7 @@ use Rattle.model.proofs.Linked.{room}
 use Rattle.memory.specs.Length.{bucket_chain}
 use Rattle.scan_group.specs.declared.lent.Entries.{Entries}
 use Rattle.scan_group.specs.declared.lent.LiveTable.{LiveTable}
+use Rattle.scan_group.specs.declared.lent.LiveChain.{LiveChain}
 use Rattle.scan_group.specs.declared.lent.Group.{Group}
 
 -- the test of the keys on a chain goes by its bucket
@@ -17,6 +18,10 @@ unfoldable pub chains : (ℕ → ℕ → Bool) → List ℕ → ℕ → ℕ → 
 chains test entries capacity used buckets [] = some []
 chains test entries capacity used buckets (b ∷ bs) =
     joined (chain (test b) entries capacity used (get_or buckets b 0)) (chains test entries capacity used buckets bs)
+
+-- a chain from its first entry on, as one of bucket b
+abbrev pub chain_from : Entries → LiveChain → ℕ → Option (List ℕ)
+chain_from e c b = chain (in_bucket c.size b) e.fields.now e.capacity c.used c.head
 
 -- the chain of a bucket of a live table, ..
 abbrev pub table_chain : Entries → LiveTable → ℕ → Option (List ℕ)

@@ -1,8 +1,9 @@
 -- What a call on a sound state reads, and its two tables in the order of a group.
-use Rattle.std.specs.Prelude.{ℕ, ◌+◌, ◌<◌, ◌≤◌, ◌≡◌, ◌≢◌, true, false, List, if◌then◌else◌, MatchOption}
+use Rattle.std.specs.Prelude.{ℕ, ◌+◌, ◌<◌, ◌≤◌, ◌≡◌, ◌≢◌, true, false, List, slice_index, if◌then◌else◌, MatchOption}
 use Rattle.model.specs.declared.State.{State}
 use Rattle.scan_group.specs.declared.lent.Entries.{Entries}
 use Rattle.scan_group.specs.declared.lent.LiveTable.{LiveTable}
+use Rattle.scan_group.specs.declared.lent.LiveChain.{LiveChain}
 use Rattle.scan_group.specs.declared.lent.Lent.{Lent}
 use Rattle.scan_group.specs.declared.lent.Group.{Group}
 
@@ -11,6 +12,10 @@ pub record IsTable (buckets : List ℕ) (size used : ℕ) (t : LiveTable) : Type
   pub buckets_are : t.buckets.now ≡ buckets
   pub size_is : t.size ≡ size
   pub used_is : t.used ≡ used
+
+-- the chain of bucket b of that table
+abbrev pub IsChain : LiveTable → ℕ → LiveChain → Type 0
+IsChain t b c = (c.head ≡ slice_index t.buckets.now b) × (c.size ≡ t.size) × (c.used ≡ t.used)
 
 -- the new table during a rehash
 pub record IsNew (s : State) (other : List ℕ) (t : LiveTable) : Type 0 where

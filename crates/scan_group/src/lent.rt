@@ -1,5 +1,5 @@
-// What a sound state says of the lent buffers, as types: the entries, a live table, and the group of a cursor with two of
-// them. Whoever makes one shows that it fits, and nothing below asks again.
+// What a sound state says of the lent buffers, as types: the entries, a live table, a chain of one, and the group of a cursor
+// with two of them. Whoever makes one shows that it fits, and nothing below asks again.
 ghost use Rattle.std.specs.Prelude.{◌≡◌, ◌+◌, ◌*◌, ◌<◌, ◌≤◌, true, length, slice_index};
 ghost use Rattle.model.specs.Keys.{bucket_of};
 ghost use Rattle.model.specs.Limits.{legal_size};
@@ -22,6 +22,16 @@ pub struct LiveTable<'a> {
     pub used: u32,
     ghost legal: { legal_size size ≡ true },
     ghost buckets_fit: { size ≤ length buckets.now },
+}
+
+// A bucket's chain as it is read: its first entry, 0 where there is none, and its table's size and keys. The buckets are not
+// asked for.
+#[derive(Clone, Copy)]
+pub struct LiveChain {
+    pub head: u32,
+    pub size: u32,
+    pub used: u32,
+    ghost legal: { legal_size size ≡ true },
 }
 
 // What a call on a sound state reads: the entries, the old table or the only one, and during a rehash the new one.
@@ -57,5 +67,18 @@ impl LiveTable<'_> {
         ensures { result ≡ slice_index self.entry.buckets.now b }
     {
         self.buckets[b]
+    }
+
+    // The chain of a bucket.
+    pub fn chain(self, b: usize) -> LiveChain
+        requires { b < self.size }
+        ensures { (result.head ≡ slice_index self.entry.buckets.now b) × (result.size ≡ self.entry.size)
+            × (result.used ≡ self.entry.used) }
+    {
+        LiveChain {
+            head: self.head(b),
+            size: self.size,
+            used: self.used,
+        }
     }
 }

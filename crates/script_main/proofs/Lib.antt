@@ -1,0 +1,3 @@
+-- A buffer's front, and a block's.
+mod Reading
+mod Writing

@@ -1,6 +1,6 @@
 -- From what is done with the live tables to the walk call on the lent buffers.
 -- Assumes nothing.
-use Prim.Native.Nat.{ℕ, ◌+◌, ◌<◌}
+use Prim.Native.Nat.{ℕ, ◌+◌, ◌≤◌, ◌<◌}
 use mathlib.Core.Path.{◌≡◌, refl, sym, ap, ◌∙◌}
 use mathlib.Core.Bool.{Bool, true, false, cond}
 use mathlib.Core.Option as maybe
@@ -25,9 +25,9 @@ use Rattle.memory.proofs.Orientation.{reading_sound}
 use Rattle.scan_group.specs.declared.lent.LiveTable.{LiveTable}
 use Rattle.scan_group.specs.declared.lent.Lent.{Lent}
 use Rattle.scan_group.specs.declared.lent.Group as lent
-use Rattle.scan_group.specs.Lent.{IsNew, Reads, InOrder}
-use Rattle.scan_group.specs.Chains.{table_chain, group_chains}
-use Rattle.scan_group.proofs.Chains.{joined_end, chain_short}
+use Rattle.scan_group.specs.Lent.{IsChain, IsNew, Reads, InOrder}
+use Rattle.scan_group.specs.Chains.{chain_from, table_chain, group_chains}
+use Rattle.scan_group.proofs.Chains.{chain_is, joined_end, chain_short}
 use Rattle.scan_group.proofs.SoundTables.{sound_at}
 use Rattle.scan_group.proofs.Places.{current_of, other_of, oriented_call, IsLent, place_chain, place_chains, old_lent, new_lent}
 use Rattle.dict_scan.specs.Groups.{scanned_two}
@@ -76,20 +76,30 @@ module _ (s : State) (entries list : List ℕ) (cursor : ℕ) (current other : L
   unfolding in_order group_of
   from_chains t u f x y c k o e i j l m n = rw (e, i, j, l, m, n)
 
-  order_read : (g : lent.Group) (t u : Table)
-      → IsLent s current other entries t g.entries g.small → IsLent s current other entries u g.entries g.large
+  -- the chain of the smaller one, whose head was read
+  first_read : (g : lent.Group) (t : Table) (small : LiveTable) → IsChain small (bucket_of g.cursor small.size) g.small
+      → IsLent s current other entries t g.entries small
+      → chain_from g.entries g.small (bucket_of g.cursor g.small.size)
+      ≡ chain_at s current other entries (Place.bucket t (bucket_of g.cursor g.small.size))
+  first_read g t small k a =
+      let b = bucket_of g.cursor g.small.size in
+      chain_is g.entries small b g.small (rw k.1 k.0, k.1, k.2) ∙ place_chain s current other entries t g.entries small a b
+
+  order_read : (g : lent.Group) (t u : Table) (small : LiveTable) → IsChain small (bucket_of g.cursor small.size) g.small
+      → IsLent s current other entries t g.entries small → IsLent s current other entries u g.entries g.large
       → group_chains g ≡ chains_at s current other entries (small_first t u (two_tables g.small.size g.large.size g.cursor))
   unfolding group_chains small_first chains_at two_tables bucket_of hash
-  order_read g t u a b =
-      rw (place_chain s current other entries t g.entries g.small a, place_chains s current other entries u g.entries g.large b)
+  order_read g t u small k a b =
+      rw (first_read g t small k a, place_chains s current other entries u g.entries g.large b)
 
   in_order_lem : (g : lent.Group) (t u : Table) → g.cursor ≡ cursor → used_of s t + used_of s u ≡ keys_held s
-      → IsLent s current other entries t g.entries g.small → IsLent s current other entries u g.entries g.large
+      → (small : LiveTable) → IsChain small (bucket_of cursor small.size) g.small
+      → IsLent s current other entries t g.entries small → IsLent s current other entries u g.entries g.large
       → scanned_two g list ≡ in_order t u
   unfolding scanned_two
-  in_order_lem g t u c keys a b =
-      from_chains t u _ _ _ _ _ _ (order_read g t u a b) a.fields_are a.table_is.size_is b.table_is.size_is c
-      (rw (a.table_is.used_is, b.table_is.used_is) keys)
+  in_order_lem g t u c keys small k a b =
+      from_chains t u _ _ _ _ _ _ (order_read g t u small (rw c k) a b) a.fields_are (k.1 ∙ a.table_is.size_is) b.table_is.size_is c
+      (rw (k.2, a.table_is.used_is, b.table_is.used_is) keys)
 
   one_read : (f : List ℕ) (x : ℕ) (o : maybe.Option (List ℕ))
       → o ≡ chain_at s current other entries (Place.bucket Table.Old (bucket_of cursor x)) → f ≡ entries → x ≡ s.old_size
@@ -112,6 +122,23 @@ module _ (s : State) (first second entries list : List ℕ) (cursor : ℕ)
 
   pub held_fits : Fits w32 s.capacity → Fits w32 (s.old_used + s.new_used)
   held_fits f = let sound = sound_at s first second entries _ _ refl refl h in omega arith
+
+  -- the tables of a group hold no more keys than there are entries
+  pub group_fits : (l : Lent) → Reads s first second entries l → (t : LiveTable) → l.new ≡ Some t → (g : lent.Group)
+      → InOrder l.entries l.old t cursor g → g.small.used + g.large.used ≤ g.entries.capacity
+  group_fits l k t n g o = pick (ltb s.old_size s.new_size) refl
+    where
+      new : IsNew s (other_of s first second) t
+      new = rw n at k.new_is
+
+      pick : (old_smaller : Bool) → ltb s.old_size s.new_size ≡ old_smaller → g.small.used + g.large.used ≤ g.entries.capacity
+      pick true b =
+          let p = o.old_smaller (rw (k.old_is.size_is, new.is_table.size_is) (ltb-true _ _ b)) in
+          rw (o.entries_are, p.0.2, p.1, k.old_is.used_is, new.is_table.used_is, k.capacity_is) k.keys_fit
+      pick false b =
+          let less : s.new_size < s.old_size = omega (arith, ltb-false _ _ b, new.sizes_differ) in
+          let p = o.new_smaller (rw (k.old_is.size_is, new.is_table.size_is) less) in
+          rw (o.entries_are, p.0.2, p.1, k.old_is.used_is, new.is_table.used_is, k.capacity_is) (omega (arith, k.keys_fit))
 
   module _ (z : s.old_used + s.new_used ≡ 0 → ⊥) (l : Lent) (k : Reads s first second entries l) (a : AfterScan) where
     held_scan : (rehashing : Bool) → s.rehashing ≡ rehashing
@@ -148,10 +175,10 @@ module _ (s : State) (first second entries list : List ℕ) (cursor : ℕ)
             ≡ scanned_by s entries list cursor (current_of s first second) (other_of s first second) true
         pick true b =
             let p = o.old_smaller (rw (k.old_is.size_is, new.is_table.size_is) (ltb-true _ _ b)) in
-            in_order_lem s entries list cursor _ _ g Table.Old Table.New o.cursor_is refl (rw p.0 old_is) (rw p.1 new_is)
+            in_order_lem s entries list cursor _ _ g Table.Old Table.New o.cursor_is refl l.old p.0 old_is (rw p.1 new_is)
             ∙ scanned_rehashing s entries list cursor _ _ true b
         pick false b =
             let less : s.new_size < s.old_size = omega (arith, ltb-false _ _ b, new.sizes_differ) in
             let p = o.new_smaller (rw (k.old_is.size_is, new.is_table.size_is) less) in
-            in_order_lem s entries list cursor _ _ g Table.New Table.Old o.cursor_is (omega arith) (rw p.0 new_is) (rw p.1 old_is)
+            in_order_lem s entries list cursor _ _ g Table.New Table.Old o.cursor_is (omega arith) t p.0 new_is (rw p.1 old_is)
             ∙ scanned_rehashing s entries list cursor _ _ false b

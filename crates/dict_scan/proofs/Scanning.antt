@@ -4,7 +4,7 @@ use Prim.Native.Nat.{ℕ, ◌+◌, ◌*◌, ◌^◌, ◌≤◌, ◌<◌}
 use mathlib.Core.Path.{◌≡◌}
 use mathlib.Core.List.{List}
 use native.Mathlib.Omega.{arith}
-use lib.ListN.{length, get_or}
+use lib.ListN.{length}
 use Rattle.std.specs.Prelude.{Ok, Err, Result}
 use Rattle.std.specs.Result.{IsErrAnd}
 use Rattle.cursor.specs.Next.{next}
@@ -52,17 +52,16 @@ module _ (g : Group) (list : List ℕ) (r : Result ℕ Error)
     unfolding scanned_two
     two_short h = scanned_short g.entries.fields.now list _ _ r l n s h
 
-    module _ (h : n * 2 ≤ length list) where
+    module _ (few : g.small.used + g.large.used ≤ g.entries.capacity) (h : n * 2 ≤ length list) where
       -- the entries of the group are written as they were read
       same_group : group_linked g ≡ at_most (g.small.used + g.large.used) (group_chains g)
       unfolding group_chains
       same_group =
           let b = bucket_of g.cursor g.small.size in
           let (same, sound) = at_most_sound (g.small.used + g.large.used) (group_chains g) _ (counted r n _ s l).0 in
-          let p = joined_parts (table_chain g.entries g.small b) (table_chains g.entries g.large (larger_buckets g)) sound in
+          let p = joined_parts (chain_from g.entries g.small b) (table_chains g.entries g.large (larger_buckets g)) sound in
           let fit = g.entries.entries_fit in
-          let few = g.keys_fit in
-          rw (same, linked_same g.entries.fields.now g.entries.capacity g.small.used fit (omega arith) (in_bucket g.small.size b) (get_or g.small.buckets.now b 0) p.left, all_linked_same g.entries.fields.now g.entries.capacity g.large.used fit (omega arith) (in_bucket g.large.size) g.large.buckets.now (larger_buckets g) p.right)
+          rw (same, linked_same g.entries.fields.now g.entries.capacity g.small.used fit (omega arith) (in_bucket g.small.size b) g.small.head p.left, all_linked_same g.entries.fields.now g.entries.capacity g.large.used fit (omega arith) (in_bucket g.large.size) g.large.buckets.now (larger_buckets g) p.right)
 
       pub two_writable : Writable list (group_linked g)
       two_writable = writable g.entries.fields.now list 0 _ r l n s _ same_group h

@@ -1,5 +1,5 @@
 // The walk call: the group of a cursor, in one live table or two.
-ghost use Rattle.std.specs.Prelude.{◌≡◌, ◌≤◌};
+ghost use Rattle.std.specs.Prelude.{◌≡◌, ◌+◌, ◌≤◌};
 ghost use Rattle.cursor.specs.Group.{one_table};
 ghost use Rattle.model.specs.Keys.{bucket_of};
 ghost use Rattle.model.specs.Walk as walk;
@@ -34,6 +34,7 @@ fn scan_one(
 // Two live tables: the chain of the smaller one's bucket, then those of the larger one's buckets. A group with more entries
 // than keys are held is damaged. The next cursor is that of the smaller size.
 fn scan_two(group: Group, list: &mut [u32]) -> Result<(u32, u32), ScanError>
+    requires { group.small.used + group.large.used ≤ group.entries.capacity }
     ensures { after result list.new ≡ scanned_two group.entry list.old }
 {
     let next = next_cursor(group.small.size, group.cursor);

@@ -5,7 +5,7 @@ use mathlib.Core.Path.{◌≡◌, refl, sym, ap, ◌∙◌}
 use mathlib.Core.List.{List, [], ◌∷◌}
 use mathlib.Core.Option.{Option, none, some}
 use native.Mathlib.Omega.{arith}
-use lib.ListN.{length, get_or, length-append}
+use lib.ListN.{length, length-append}
 use Rattle.std.proofs.Common.{inl, inr}
 use Rattle.std.specs.Prelude.{Result, Ok, Err}
 use Rattle.std.specs.Result.{IsErrAnd}
@@ -19,10 +19,12 @@ use Rattle.model.proofs.AtMost.{at_most_few, at_most_some, at_most_joined, chain
 use Rattle.memory.specs.Length.{length_of}
 use Rattle.memory.proofs.Counted.{counted, uncounted}
 use Rattle.scan_group.specs.declared.lent.Entries.{Entries}
-use Rattle.scan_group.specs.declared.lent.LiveTable.{LiveTable}
+use Rattle.scan_group.specs.declared.lent.LiveChain.{LiveChain}
 use Rattle.scan_group.specs.declared.lent.Group.{Group}
-use Rattle.scan_group.specs.Chains.{chains, table_chain, table_chains, larger_buckets, group_chains}
+use Rattle.scan_group.specs.Lent.{IsChain}
+use Rattle.scan_group.specs.Chains.{chains, chain_from, table_chains, larger_buckets, group_chains}
 use Rattle.scan_group.proofs.Buckets.{larger_below}
+use Rattle.scan_group.proofs.Chains.{chain_is}
 
 -- The lengths of two parts give that of the whole.
 
@@ -44,11 +46,10 @@ plus_more n m (Err e) = refl
 plus_more n m (Ok k) = ap Ok (omega arith)
 
 -- a chain is read no further than what is left of the limit
-pub limited : (e : Entries) (t : LiveTable) (b left head budget : ℕ) (r : Result ℕ Error) → head ≡ get_or t.buckets.now b 0
-    → budget ≡ min t.used left → r ≡ length_of (chain (in_bucket t.size b) e.fields.now e.capacity budget head)
-    → r ≡ length_of (at_most left (table_chain e t b))
-limited e t b left head budget r i m l =
-    rw (l, m, i, chain_at_most (in_bucket t.size b) e.fields.now e.capacity t.used left (get_or t.buckets.now b 0))
+pub limited : (e : Entries) (c : LiveChain) (b left budget : ℕ) (r : Result ℕ Error) → budget ≡ min c.used left
+    → r ≡ length_of (chain (in_bucket c.size b) e.fields.now e.capacity budget c.head)
+    → r ≡ length_of (at_most left (chain_from e c b))
+limited e c b left budget r m l = rw (l, m, chain_at_most (in_bucket c.size b) e.fields.now e.capacity c.used left c.head)
 
 -- A part of some entries is counted first, and what it leaves of the limit is that of the others.
 
@@ -87,10 +88,10 @@ handed_on : (r : Result ℕ Error) (x : Error) (whole : Result ℕ Error) → Is
     → Err Error.Damaged ≡ whole → r ≡ whole
 handed_on r x whole gives d e = let p = err_from_is_err_and r gives in rw (p.1, p.2, d) e
 
-module _ (g : Group) (limit b : ℕ) (r : Result ℕ Error) (l : r ≡ length_of (at_most limit (table_chain g.entries g.small b)))
+module _ (g : Group) (limit b : ℕ) (r : Result ℕ Error) (l : r ≡ length_of (at_most limit (chain_from g.entries g.small b)))
     (i : (b ≡ bucket_of g.cursor g.small.size) × (b < g.small.size)) where
   -- the smaller table's chain
-  whole : (q : Result ℕ Error) → q ≡ length_of (at_most limit (joined (table_chain g.entries g.small b) (table_chains g.entries g.large (larger_buckets g))))
+  whole : (q : Result ℕ Error) → q ≡ length_of (at_most limit (joined (chain_from g.entries g.small b) (table_chains g.entries g.large (larger_buckets g))))
       → q ≡ length_of (at_most limit (group_chains g))
   unfolding group_chains
   whole q e = rw i.0 at e
@@ -123,11 +124,11 @@ module _ (g : Group) (limit left : ℕ) (bs rest : List ℕ) (h : Counting g lim
     pub next_below : b < g.large.size
     next_below = (rw e at h.below) b (inl refl)
 
-    module _ (r : Result ℕ Error) (l : r ≡ length_of (at_most left (table_chain g.entries g.large b))) where
-      here : plus (Ok (limit - left)) (length_of (at_most left (joined (table_chain g.entries g.large b) (table_chains g.entries g.large rest))))
+    module _ (c : LiveChain) (k : IsChain g.large b c) (r : Result ℕ Error) (l : r ≡ length_of (at_most left (chain_from g.entries c b))) where
+      here : plus (Ok (limit - left)) (length_of (at_most left (joined (chain_from g.entries c b) (table_chains g.entries g.large rest))))
           ≡ length_of (at_most limit (group_chains g))
       unfolding chains
-      here = rw e at h.same
+      here = rw (chain_is g.entries g.large b c k) (rw e at h.same)
 
       pub counting_out : (a : Result ℕ Error) (x : Error) → IsErrAnd a (λ e. e ≡ x) → r ≡ Err x
           → a ≡ length_of (at_most limit (group_chains g))

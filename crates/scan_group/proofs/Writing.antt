@@ -12,7 +12,6 @@ use Rattle.std.proofs.Common.{inl, inr, append_assoc, length-append, length-drop
 use Rattle.std.proofs.lemmas.List.{take-append-drop, take_rest}
 use Rattle.std.proofs.Math.Seq.{take-append_seam, drop-append_seam, drop-length, take-append-add, drop-append-add}
 use Rattle.cursor.specs.Member.{In}
-use Rattle.model.specs.Keys.{bucket_of}
 use Rattle.model.specs.Memory.{link_of, key_of, value_of, any_key, listed}
 use Rattle.model.specs.Walk.{joined, pairs}
 use Rattle.model.proofs.Linked.{Linked, room, read_sound, linked_first, linked_empty}
@@ -138,24 +137,19 @@ pub record WritingGroup (g : Group) (list₀ list : List ℕ) (to : ℕ) (bs : L
   pub so_far : take to list ++ written g.entries.fields.now (drop to list) (all_linked g.entries.fields.now g.large.buckets.now bs)
       ≡ written g.entries.fields.now list₀ (group_linked g)
 
-module _ (g : Group) (list₀ list : List ℕ) (head b : ℕ) (i : (b ≡ bucket_of g.cursor g.small.size) × (b < g.small.size))
-    (o : head ≡ get_or g.small.buckets.now b 0) (h : Writable list₀ (group_linked g)) where
-  halves : Writable list₀
-      (joined (linked g.entries.fields.now head) (all_linked g.entries.fields.now g.large.buckets.now (larger_buckets g)))
-  halves = rw (o, i.0) h
+module _ (g : Group) (list₀ list : List ℕ) (h : Writable list₀ (group_linked g)) where
+  pub small_writable : Writable list₀ (linked g.entries.fields.now g.small.head)
+  small_writable = first_writable g.entries.fields.now list₀ _ _ h _ refl
 
-  pub small_writable : Writable list₀ (linked g.entries.fields.now head)
-  small_writable = first_writable g.entries.fields.now list₀ _ _ halves _ refl
-
-  pub group_start : (to : ℕ) → to ≡ length (listed (linked g.entries.fields.now head)) * 2
-      → list ≡ written g.entries.fields.now list₀ (linked g.entries.fields.now head)
+  pub group_start : (to : ℕ) → to ≡ length (listed (linked g.entries.fields.now g.small.head)) * 2
+      → list ≡ written g.entries.fields.now list₀ (linked g.entries.fields.now g.small.head)
       → (bs : List ℕ) → bs ≡ larger_buckets g → WritingGroup g list₀ list to bs
   group_start to p w bs e =
       record {
         below = rw e (larger_below g);
-        place = place_fits g.entries.fields.now list₀ _ _ halves to p list w;
-        writable = rw e (rest_writable g.entries.fields.now list₀ _ _ halves to p list w);
-        so_far = rw e (both_written g.entries.fields.now list₀ _ _ halves to p list w ∙ rw (o, i.0));
+        place = place_fits g.entries.fields.now list₀ _ _ h to p list w;
+        writable = rw e (rest_writable g.entries.fields.now list₀ _ _ h to p list w);
+        so_far = rw e (both_written g.entries.fields.now list₀ _ _ h to p list w);
       }
 
 module _ (g : Group) (list₀ list : List ℕ) (to : ℕ) (bs rest : List ℕ) (h : WritingGroup g list₀ list to bs) where

@@ -38,7 +38,7 @@ larger_buckets g = (two_tables g.small.size g.large.size g.cursor).large
 -- the chain of the cursor's bucket in the smaller table, then those of the larger one's buckets
 unfoldable pub group_chains : Group → Option (List ℕ)
 group_chains g =
-    joined (table_chain g.entries g.small (bucket_of g.cursor g.small.size))
+    joined (chain_from g.entries g.small (bucket_of g.cursor g.small.size))
     (table_chains g.entries g.large (larger_buckets g))
 
 -- a chain, and those of some buckets, with no limit but the entry buffer
@@ -51,5 +51,5 @@ all_linked entries buckets bs = chains (λ b. any_key) entries (room entries) (r
 -- those of a group
 abbrev pub group_linked : Group → Option (List ℕ)
 group_linked g =
-    joined (linked g.entries.fields.now (get_or g.small.buckets.now (bucket_of g.cursor g.small.size) 0))
+    joined (linked g.entries.fields.now g.small.head)
     (all_linked g.entries.fields.now g.large.buckets.now (larger_buckets g))

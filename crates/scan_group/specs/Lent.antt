@@ -1,6 +1,7 @@
 -- What a call on a sound state reads, and its two tables in the order of a group.
 use Rattle.std.specs.Prelude.{ℕ, ◌+◌, ◌<◌, ◌≤◌, ◌≡◌, ◌≢◌, true, false, List, slice_index, if◌then◌else◌, MatchOption}
 use Rattle.model.specs.declared.State.{State}
+use Rattle.model.specs.Keys.{bucket_of}
 use Rattle.scan_group.specs.declared.lent.Entries.{Entries}
 use Rattle.scan_group.specs.declared.lent.LiveTable.{LiveTable}
 use Rattle.scan_group.specs.declared.lent.LiveChain.{LiveChain}
@@ -31,9 +32,9 @@ pub record Reads (s : State) (first second entries : List ℕ) (l : Lent) : Type
       (λ t. IsNew s (if s.second_is_current then first else second) t)
   pub keys_fit : s.old_used + s.new_used ≤ s.capacity
 
--- the smaller one first
+-- the smaller one first, by its chain
 pub record InOrder (e : Entries) (old new : LiveTable) (cursor : ℕ) (g : Group) : Type 0 where
   pub entries_are : g.entries ≡ e
   pub cursor_is : g.cursor ≡ cursor
-  pub old_smaller : old.size < new.size → (g.small ≡ old) × (g.large ≡ new)
-  pub new_smaller : new.size < old.size → (g.small ≡ new) × (g.large ≡ old)
+  pub old_smaller : old.size < new.size → IsChain old (bucket_of cursor old.size) g.small × (g.large ≡ new)
+  pub new_smaller : new.size < old.size → IsChain new (bucket_of cursor new.size) g.small × (g.large ≡ old)

@@ -1,5 +1,5 @@
 // The two live tables of a walk call in the order of its group, and the larger one's buckets.
-ghost use Rattle.std.specs.Prelude.{◌≡◌, ◌≢◌, ◌+◌, ◌≤◌};
+ghost use Rattle.std.specs.Prelude.{◌≡◌, ◌≢◌};
 ghost use Rattle.scan_group.specs.Chains.{larger_buckets};
 ghost use Rattle.scan_group.specs.Lent.{InOrder};
 ghost use Rattle.scan_group.specs.Sweep.{buckets_left};
@@ -8,28 +8,27 @@ use crate::lent::{Entries, Group, LiveTable};
 use crate::sweep::Sweep;
 
 impl<'a> Group<'a> {
-    // The smaller table comes first, whichever is the new one.
+    // The smaller table comes first, whichever is the new one. Of it only the head of the cursor's bucket is read.
     pub fn new(
         entries: Entries<'a>,
         old: LiveTable<'a>,
         new: LiveTable<'a>,
         cursor: u32,
     ) -> Group<'a>
-        requires sizes_differ { old.size ≢ new.size }
-        requires keys_fit { old.used + new.used ≤ entries.capacity }
+        requires { old.size ≢ new.size }
         ensures { InOrder entries.entry old.entry new.entry cursor result }
     {
         if old.size < new.size {
             Group {
                 entries,
-                small: old,
+                small: old.chain(old.bucket(cursor)),
                 large: new,
                 cursor,
             }
         } else {
             Group {
                 entries,
-                small: new,
+                small: new.chain(new.bucket(cursor)),
                 large: old,
                 cursor,
             }

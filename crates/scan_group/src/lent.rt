@@ -1,6 +1,6 @@
 // What a sound state says of the lent buffers, as types: the entries, a live table, a chain of one, and the group of a cursor
 // with two of them. Whoever makes one shows that it fits, and nothing below asks again.
-ghost use Rattle.std.specs.Prelude.{◌≡◌, ◌+◌, ◌*◌, ◌<◌, ◌≤◌, true, length, slice_index};
+ghost use Rattle.std.specs.Prelude.{◌≡◌, ◌*◌, ◌<◌, ◌≤◌, true, length, slice_index};
 ghost use Rattle.model.specs.Keys.{bucket_of};
 ghost use Rattle.model.specs.Limits.{legal_size};
 
@@ -42,15 +42,14 @@ pub struct Lent<'a> {
     pub new: Option<LiveTable<'a>>,
 }
 
-// The group of a cursor with two live tables (SPECIFICATION, "The walk").
+// The group of a cursor with two live tables (SPECIFICATION, "The walk"): of the smaller one the chain of the cursor's bucket.
 #[derive(Clone, Copy)]
 pub struct Group<'a> {
     pub entries: Entries<'a>,
-    pub small: LiveTable<'a>,
+    pub small: LiveChain,
     pub large: LiveTable<'a>,
     pub cursor: u32,
     ghost smaller: { small.size < large.size },
-    ghost keys_fit: { small.used + large.used ≤ entries.capacity },
 }
 
 impl LiveTable<'_> {

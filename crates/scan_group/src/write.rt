@@ -31,8 +31,7 @@ impl Group<'_> {
         ensures { list.new ≡ written self.entry.entries.fields.now list.old (group_linked self.entry) }
     {
         let entries = self.entries.fields;
-        let head = self.small.head(self.small.bucket(self.cursor));
-        let mut to = write_chain(head, entries, list);
+        let mut to = write_chain(self.small.head, entries, list);
         for b in self.larger() {
             to += write_chain(self.large.head(b), entries, &mut list[to..]);
         }

@@ -10,11 +10,11 @@ overflow_sub-left c = search (first_fits, c.in_ok-left.was)
 
 pub loop-b-init : goal.loop-b-init
 loop-b-init c =
-    counting_start _ _ _ _ c.count_chain.ensures c.bucket.ensures _ c.in_ok-left.was _
+    counting_start _ _ _ _ c.count_chain.ensures c.bucket_index-first.ensures _ c.in_ok-left.was _
     (rw c.into_iter-b-iterator.ensures.into_iter_gives c.larger-b-items.ensures)
 
-pub count_chain-requires-in-loop-b : goal.count_chain-requires-in-loop-b
-count_chain-requires-in-loop-b c = search (next_below, c.in-Some.ensures.steps)
+pub chain-requires : goal.chain-requires
+chain-requires c = search (next_below, c.in-Some.ensures.steps)
 
 pub returns-in_err-left-2 : goal.returns-in_err-left-2
 returns-in_err-left-2 c = search (counting_out, c.in-Some.ensures.steps, c.in_err-left-2.was)

@@ -8,7 +8,7 @@ write_chain-to-requires c = search small_writable
 
 pub loop-b-init : goal.loop-b-init
 loop-b-init c =
-    group_start _ _ _ _ _ c.bucket.ensures c.head-head.ensures c.requires _ c.write_chain-to.ensures.value c.write_chain-to.ensures.list_after _
+    group_start _ _ _ c.requires _ c.write_chain-to.ensures.value c.write_chain-to.ensures.list_after _
     (rw c.into_iter-b-iterator.ensures.into_iter_gives c.larger-b-items.ensures)
 
 pub head-requires : goal.head-requires

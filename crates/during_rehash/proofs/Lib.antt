@@ -8,3 +8,4 @@ pub mod AddingAfter
 pub mod Pushed
 mod Paused
 pub mod Resting
+pub mod Kept

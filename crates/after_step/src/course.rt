@@ -30,7 +30,9 @@ pub struct ChainSight {
 }
 
 // The chain of bucket b of the old table moves, if it is sound: all of its keys leave that table. Those of the key's bucket in
-// the new table come before the chain that is there, and take so much of the budget.
+// the new table come before the chain that is there, and take so much of the budget. It is built into what asks: add and delete
+// both do, and a sight that is handed up goes through memory.
+#[inline(always)]
 pub fn foresee_chain(
     current: &[u32],
     other: &[u32],

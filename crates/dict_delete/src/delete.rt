@@ -31,21 +31,18 @@ fn remove_at(
     ensures { after result current.new other.new entries.new
         ≡ calls.removed s current.old other.old entries.old key table before n }
 {
-    let t = State { free_head: n, ..s };
+    let mut t = s;
+    t.free_head = n;
     match table {
         Table::Old => {
             free_entry(current, entries, s.old_size, key, before, n, s.free_head);
-            Ok(State {
-                old_used: s.old_used - 1,
-                ..t
-            })
+            t.old_used = s.old_used - 1;
+            Ok(t)
         }
         Table::New => {
             free_entry(other, entries, s.new_size, key, before, n, s.free_head);
-            Ok(State {
-                new_used: s.new_used - 1,
-                ..t
-            })
+            t.new_used = s.new_used - 1;
+            Ok(t)
         }
     }
 }

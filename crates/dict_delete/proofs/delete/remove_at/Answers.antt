@@ -19,8 +19,8 @@ pub returns-in-New : goal.returns-in-New
 unfolding recounted state_of with_count old_new size_of
 returns-in-New c = search removed_new
 
-pub overflow_sub-result : goal.overflow_sub-result
-overflow_sub-result c = search old_used
+pub overflow_sub-t : goal.overflow_sub-t
+overflow_sub-t c = search old_used
 
-pub overflow_sub-result-in-New : goal.overflow_sub-result-in-New
-overflow_sub-result-in-New c = search new_used
+pub overflow_sub-t-in-New : goal.overflow_sub-t-in-New
+overflow_sub-t-in-New c = search new_used

@@ -139,7 +139,7 @@
  * suspects_iterate 6.4; with those for 16 cells 1.8, and 2.5 with a list.
  *
  * A call needs a stack of its own for these copies. Measured by cost.c, 115,092 bytes for suspects_scan and
- * suspects_iterate at most, and 82,732 for any other function, whatever the lengths that are lent. A thread's first
+ * suspects_iterate at most, and 82,680 for any other function, whatever the lengths that are lent. A thread's first
  * call may need some 4 KB more: where the dynamic linker binds `memcpy` and `memset` lazily, the first call that comes
  * to them in the process binds them. See to it that a thread that makes calls has as much.
  */

@@ -2,6 +2,7 @@
 -- its parts, the entry that it found, and what is made of it.
 mod Searching
 mod Seeking
+mod Reading
 pub mod Readable
 pub mod Lookups
 pub mod Entries

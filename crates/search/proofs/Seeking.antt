@@ -2,10 +2,11 @@
 -- Assumes nothing.
 use Prim.Native.Nat.{ℕ, zero, suc, ◌*◌, ◌<◌, ◌≤◌}
 use mathlib.Core.Path.{◌≡◌, refl, sym, ap, ◌∙◌}
-use mathlib.Core.Bool.{Bool, true, false, ◌&&◌}
+use mathlib.Core.Bool.{Bool, true, false, ◌&&◌, cond}
 use mathlib.Core.List.{List, [], ◌∷◌}
 use mathlib.Core.Option.{Option, none, some, map}
 use lib.Dec.{leb, eqb}
+use borrow.Author.Tests.{eq-eqb, ne_eqb}
 use Rattle.model.specs.declared.Table.{Table}
 use Rattle.model.specs.Keys.{bucket_of}
 use Rattle.model.specs.Memory.{link_of, key_of, chain, met, in_bucket}
@@ -22,58 +23,54 @@ use Rattle.search.specs.Found.{Found, found_of}
 use Rattle.search.specs.Tables.{searched_in}
 use Rattle.search.proofs.Lookups.{looked_in}
 use Rattle.std.specs.Prelude.{Some, None, Ok, Err}
-use Rattle.std.specs.Option.{option_or}
-use Rattle.std.specs.Bool.{then_some}
 use Rattle.std.specs.Prelude as std
 
--- the entry found so far and the chain from here
-pub first_entry : List ℕ → ℕ → std.Option ℕ → List ℕ → std.Option ℕ
-first_entry entries key found [] = found
-first_entry entries key found (n ∷ ns) =
-    first_entry entries key (option_or found (then_some (eqb (key_of entries n) key) n)) ns
+-- the first entry of the chain with the key
+pub first_entry : List ℕ → ℕ → List ℕ → std.Option ℕ
+first_entry entries key [] = None
+first_entry entries key (n ∷ ns) = cond (eqb (key_of entries n) key) (Some n) (first_entry entries key ns)
 
-pub seen : List ℕ → ℕ → std.Option ℕ → Option (List ℕ) → Found
-seen entries key found none = Err Error.Damaged
-seen entries key found (some ns) = Ok (first_entry entries key found ns)
+pub seen : List ℕ → ℕ → Option (List ℕ) → Found
+seen entries key none = Err Error.Damaged
+seen entries key (some ns) = Ok (first_entry entries key ns)
 
 -- the search from here is the search from the head
-pub record Seeking (entries : List ℕ) (key : ℕ) (found : std.Option ℕ) (c : Chain) (whole : Option (List ℕ)) : Type 0 where
+pub record Seeking (entries : List ℕ) (key : ℕ) (c : Chain) (whole : Option (List ℕ)) : Type 0 where
   pub entries_same : c.entries.now ≡ entries
-  pub same : seen entries key found (rest c) ≡ seen entries key None whole
+  pub same : seen entries key (rest c) ≡ seen entries key whole
 
 module _ (entries : List ℕ) (key : ℕ) where
-  one_more : (found : std.Option ℕ) (n : ℕ) (o : Option (List ℕ))
-      → seen entries key (option_or found (then_some (eqb (key_of entries n) key) n)) o
-      ≡ seen entries key found (map (λ ns. n ∷ ns) o)
+  -- an entry more in front, by whether its key is the same
+  one_more : (n : ℕ) (o : Option (List ℕ)) → eqb (key_of entries n) key ≡ false
+      → seen entries key o ≡ seen entries key (map (λ ns. n ∷ ns) o)
   unfolding seen first_entry
-  one_more found n none = refl
-  one_more found n (some ns) = refl
+  one_more n none e = refl
+  one_more n (some ns) e = rw e refl
 
-  kept : (f : ℕ) (ns : List ℕ) → first_entry entries key (Some f) ns ≡ Some f
+  kept : (n : ℕ) (ns : List ℕ) → eqb (key_of entries n) key ≡ true → first_entry entries key (n ∷ ns) ≡ Some n
   unfolding first_entry
-  kept f [] = refl
-  kept f (n ∷ ns) = kept f ns
+  kept n ns e = rw e refl
 
   -- an entry met, by whether its key is the same
   met_one : (table : Table) (before n : ℕ) (t : Bool) (o : Option (List ℕ)) → eqb (key_of entries (suc n)) key ≡ t
-      → seen entries key None o ≡ found_of (searched entries key table (suc n) o)
-      → seen entries key None (map (λ ns. suc n ∷ ns) o)
+      → seen entries key o ≡ found_of (searched entries key table (suc n) o)
+      → seen entries key (map (λ ns. suc n ∷ ns) o)
       ≡ found_of (searched entries key table before (map (λ ns. suc n ∷ ns) o))
   unfolding seen first_entry found_of searched first_with
   met_one table before n t none e h = refl
-  met_one table before n true (some ns) e h = rw (e, kept (suc n) ns)
+  met_one table before n true (some ns) e h = rw e refl
   met_one table before n false (some ns) e h = rw e h
 
   met_or_not : (table : Table) (before n : ℕ) (t : Bool) (o : Option (List ℕ))
-      → seen entries key None o ≡ found_of (searched entries key table (suc n) o)
-      → seen entries key None (met t (suc n) o) ≡ found_of (searched entries key table before (met t (suc n) o))
+      → seen entries key o ≡ found_of (searched entries key table (suc n) o)
+      → seen entries key (met t (suc n) o) ≡ found_of (searched entries key table before (met t (suc n) o))
   unfolding met seen found_of searched
   met_or_not table before n true o h = met_one table before n (eqb (key_of entries (suc n)) key) o refl h
   met_or_not table before n false o h = refl
 
   -- what the whole search answers
   pub seen_searched : (test : ℕ → Bool) (capacity : ℕ) (table : Table) (budget head before : ℕ)
-      → seen entries key None (chain test entries capacity budget head)
+      → seen entries key (chain test entries capacity budget head)
       ≡ found_of (searched entries key table before (chain test entries capacity budget head))
   unfolding chain seen first_entry found_of searched first_with
   seen_searched test capacity table zero zero before = refl
@@ -84,28 +81,26 @@ module _ (entries : List ℕ) (key : ℕ) where
       (chain test entries capacity budget (link_of entries (suc head)))
       (seen_searched test capacity table budget (link_of entries (suc head)) (suc head))
 
-pub seeking_start : (key : ℕ) (c : Chain) → Seeking c.entries.now key None c (rest c)
+pub seeking_start : (key : ℕ) (c : Chain) → Seeking c.entries.now key c (rest c)
 seeking_start key c = record { entries_same = refl; same = refl }
 
 -- an entry that the chain came to is one of the buffer's
-module _ (entries : List ℕ) (key : ℕ) (found : std.Option ℕ) (c : Chain) (whole : Option (List ℕ))
-    (h : Seeking entries key found c whole) (n : ℕ) (d : Chain) (p : Passed c n d) where
+module _ (entries : List ℕ) (key : ℕ) (c : Chain) (whole : Option (List ℕ))
+    (h : Seeking entries key c whole) (n : ℕ) (d : Chain) (p : Passed c n d) where
   pub seeking_entry : (0 < n) × (n * 3 ≤ length entries)
   seeking_entry = (p.entry_some, rw h.entries_same at p.entry_fits)
 
-  pub seeking_next : (k : ℕ) (this now : std.Option ℕ) → k ≡ key_of entries n → this ≡ then_some (eqb k key) n
-      → now ≡ option_or found this → Seeking entries key now d whole
-  seeking_next k this now ke te fe =
+  pub seeking_next : (k : ℕ) → k ≡ key_of entries n → (k ≡ key → ⊥) → Seeking entries key d whole
+  seeking_next k ke f =
       record {
         entries_same = ap (λ (b : Bor (List ℕ)). b.now) p.entries_same ∙ h.entries_same;
-        same = rw (fe, te, ke) (one_more entries key found n (rest d) ∙ (rw p.ahead at h.same));
+        same = one_more entries key n (rest d) (rw ke at (ne_eqb k key f)) ∙ (rw p.ahead at h.same);
       }
 
 -- the chain of the key's bucket
 module _ (entries : List ℕ) (capacity used : ℕ) (buckets : List ℕ) (size key bucket : ℕ) (b : bucket ≡ bucket_of key size)
-    (found : std.Option ℕ) (c : Chain)
-    (h : Seeking entries key found c (bucket_chain size entries capacity used buckets bucket)) where
-  from_head : (r : Found) → seen entries key found (rest c) ≡ r → (t : Table)
+    (c : Chain) (h : Seeking entries key c (bucket_chain size entries capacity used buckets bucket)) where
+  from_head : (r : Found) → seen entries key (rest c) ≡ r → (t : Table)
       → r ≡ found_of (searched_in entries capacity used buckets size key t)
   from_head r e t =
       sym e ∙ h.same
@@ -116,8 +111,21 @@ module _ (entries : List ℕ) (capacity used : ℕ) (buckets : List ℕ) (size k
       → r ≡ found_of (searched_in entries capacity used buckets size key t)
   unfolding seen
   seeking_out x r d g t =
-      let p = err_from_is_err_and r g in from_head r (ap (seen entries key found) d.1 ∙ sym (rw (p.1, p.2, d.0))) t
+      let p = err_from_is_err_and r g in from_head r (ap (seen entries key) d.1 ∙ sym (rw (p.1, p.2, d.0))) t
 
-  pub seeking_end : AtEnd c → (t : Table) → Ok found ≡ found_of (searched_in entries capacity used buckets size key t)
+  pub seeking_end : AtEnd c → (t : Table) → Ok None ≡ found_of (searched_in entries capacity used buckets size key t)
   unfolding seen first_entry
-  seeking_end e t = from_head (Ok found) (ap (seen entries key found) e.nothing) t
+  seeking_end e t = from_head (Ok None) (ap (seen entries key) e.nothing) t
+
+  -- behind the entry with the key the chain is sound, or goes wrong
+  module _ (n : ℕ) (d : Chain) (p : Passed c n d) where
+    pub seeking_behind : (x : Error) (r : Found) → (x ≡ Error.Damaged) × (rest d ≡ none) → IsErrAnd r (λ e. e ≡ x) → (t : Table)
+        → r ≡ found_of (searched_in entries capacity used buckets size key t)
+    seeking_behind x r e g t = seeking_out x r (e.0, p.ahead ∙ ap (map (λ ns. n ∷ ns)) e.1) g t
+
+    pub seeking_found : (k : ℕ) → k ≡ key_of entries n → k ≡ key → (ns : List ℕ) × (rest d ≡ some ns) → (t : Table)
+        → Ok (Some n) ≡ found_of (searched_in entries capacity used buckets size key t)
+    unfolding seen
+    seeking_found k ke e s t =
+        from_head (Ok (Some n))
+        (ap (seen entries key) (p.ahead ∙ ap (map (λ ns. n ∷ ns)) s.1) ∙ ap Ok (kept entries key n s.0 (rw ke at (eq-eqb k key e)))) t

@@ -1,8 +1,11 @@
 // The entry that holds a key: for find, update and add, and for the check and the repair of the whole store.
-ghost use Rattle.std.specs.Prelude.{◌≡◌, length};
+ghost use Rattle.std.specs.Prelude.{◌≡◌, length, List, ℕ, MatchResult};
+ghost use Rattle.std.proofs.Math.Option.{none, some};
+ghost use Rattle.model.specs.declared.Error.{Error};
 ghost use Rattle.model.specs.declared.Table.{Table};
 ghost use Rattle.model.specs.Calls.{both, lookup};
 ghost use Rattle.model.proofs.Soundness.{Sound};
+ghost use Rattle.memory.specs.Chains.{rest};
 ghost use Rattle.search.specs.Tables.{searched_in, Readable};
 ghost use Rattle.search.specs.Found.{found_of, found_is, Inside};
 
@@ -19,8 +22,19 @@ pub fn found_is(found: Result<Option<u32>, Error>, n: u32) -> bool
     matches!(found, Ok(Some(m)) if m == n)
 }
 
+// Reads what is left of a chain, which must be sound to its end.
+#[inline(always)]
+fn read_to_end(chain: Chain) -> Result<(), Error>
+    ensures { MatchResult result (λ _. (ns : List ℕ) × (rest chain.entry ≡ some ns))
+        (λ e. (e ≡ Error.Damaged) × (rest chain.entry ≡ none)) }
+{
+    let mut left = chain;
+    while let Some(_) = left.next()? {}
+    Ok(())
+}
+
 // The key's entry in one table: the first with the key, on the chain of its bucket. The whole chain is read, which must be sound
-// to its end.
+// to its end; behind that entry no key is compared any more, and no loop has an entry to keep.
 pub fn entry_in(
     entries: &[u32],
     capacity: u32,
@@ -41,11 +55,13 @@ pub fn entry_in(
         at: buckets[bucket],
         budget: used,
     };
-    let mut found = None;
     while let Some(n) = chain.next()? {
-        found = found.or((key_of(entries, n) == key).then_some(n));
+        if key_of(entries, n) == key {
+            read_to_end(chain)?;
+            return Ok(Some(n));
+        }
     }
-    Ok(found)
+    Ok(None)
 }
 
 // The key's entry in both tables, during a rehash.

@@ -40,7 +40,7 @@ pub record Seeking (entries : List ℕ) (key : ℕ) (c : Chain) (whole : Option 
   pub same : seen entries key (rest c) ≡ seen entries key whole
 
 module _ (entries : List ℕ) (key : ℕ) where
-  -- an entry more in front, by whether its key is the same
+  -- an entry more in front, with another key, and with the key
   one_more : (n : ℕ) (o : Option (List ℕ)) → eqb (key_of entries n) key ≡ false
       → seen entries key o ≡ seen entries key (map (λ ns. n ∷ ns) o)
   unfolding seen first_entry

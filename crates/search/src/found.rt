@@ -34,7 +34,8 @@ fn read_to_end(chain: Chain) -> Result<(), Error>
 }
 
 // The key's entry in one table: the first with the key, on the chain of its bucket. The whole chain is read, which must be sound
-// to its end; behind that entry no key is compared any more, and no loop has an entry to keep.
+// to its end. Behind the entry with the key a loop of its own reads on: one loop for both would have to ask at each entry whether
+// the key was met before.
 pub fn entry_in(
     entries: &[u32],
     capacity: u32,
